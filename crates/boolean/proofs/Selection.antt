@@ -1,0 +1,263 @@
+-- A selection's result is the best of the candidates and the first of its worth, and with ranks it does not depend on the order of visiting.
+use mathlib.Core.Path.{_≡_, refl, sym, ap, _∙_, subst}
+use mathlib.Core.Logic.{_⊎_, inl, inr}
+use mathlib.Core.Bool.{Bool, true, false, _&&_, _||_, true≢false, false≢true}
+use mathlib.Core.List.{List, [], _∷_, _++_, List·Memᴰ, List·Memᴰ·head, List·Memᴰ·tail, List·Memᴰ·not-nil}
+use Prim.Native.Nat.{ℕ, _<_, _≤_}
+use native.Mathlib.Nat.{le-refl, le-antisymm}
+use native.Mathlib.Omega.{arith}
+use borrow.Author.Tests.{ltb-true, ltb-false, eqb-true, eqb-false, lt-ltb, le-ltb}
+use lib.Dec.{ltb, eqb}
+use Rattle.boolean.specs.Selection.{Candidate, best, lower, higher, firstLeast, firstLargest, lowerRanked, First, here, there}
+
+-- the ranks rise along a list
+abbrev pub Ascending : {C : Type 0} → (C → ℕ) → List C → Type 0
+Ascending rank [] = Unit {0}
+Ascending {C} rank (c ∷ cs) = ((d : C) → List·Memᴰ d cs → rank c < rank d) × Ascending rank cs
+
+-- a member of a list is its head or a member of the rest
+pub of-cons : {C : Type 0} (P : C → Type 0) {c d : C} {cs : List C} → P d → (List·Memᴰ c cs → P c) → List·Memᴰ c (d ∷ cs) → P c
+of-cons P p q (List·Memᴰ·head e) = subst P (sym e) p
+of-cons P p q (List·Memᴰ·tail m) = q m
+
+-- one step
+module _ {C : Type 0} (beats : C → C → Bool) where
+  pub best-takes : (b c : C) (cs : List C) → beats c b ≡ true → best beats b (c ∷ cs) ≡ best beats c cs
+  unfolding best
+  best-takes b c cs e = rw (e, best)
+
+  pub best-keeps : (b c : C) (cs : List C) → beats c b ≡ false → best beats b (c ∷ cs) ≡ best beats b cs
+  unfolding best
+  best-keeps b c cs e = rw (e, best)
+
+  -- what holds both ways of the step
+  pub best-step : (P : C → Type 0) (b c : C) (cs : List C) → (beats c b ≡ true → P (best beats c cs)) → (beats c b ≡ false → P (best beats b cs)) → P (best beats b (c ∷ cs))
+  best-step P b c cs p q = go (beats c b) refl
+    where
+      go : (t : Bool) → beats c b ≡ t → P (best beats b (c ∷ cs))
+      go true e = rw (best-takes b c cs e) (p e)
+      go false e = rw (best-keeps b c cs e) (q e)
+
+  -- a list in two parts: what a loop does
+  pub best-append : (b : C) (xs ys : List C) → best beats b (xs ++ ys) ≡ best beats (best beats b xs) ys
+  unfolding best
+  best-append b [] ys = refl
+  best-append b (x ∷ xs) ys =
+      best-step (λ z. best beats b (x ∷ (xs ++ ys)) ≡ best beats z ys) b x xs
+      (λ e. best-takes b x (xs ++ ys) e ∙ best-append x xs ys) (λ e. best-keeps b x (xs ++ ys) e ∙ best-append b xs ys)
+
+  -- the result is one of the candidates
+  pub best-mem : (b : C) (cs : List C) → List·Memᴰ (best beats b cs) (b ∷ cs)
+  unfolding best
+  best-mem b [] = List·Memᴰ·head refl
+  best-mem b (c ∷ cs) = best-step (λ z. List·Memᴰ z (b ∷ c ∷ cs)) b c cs (λ e. List·Memᴰ·tail (best-mem c cs)) (λ e. skip (best-mem b cs))
+    where
+      skip : {r : C} → List·Memᴰ r (b ∷ cs) → List·Memᴰ r (b ∷ c ∷ cs)
+      skip (List·Memᴰ·head e) = List·Memᴰ·head e
+      skip (List·Memᴰ·tail m) = List·Memᴰ·tail (List·Memᴰ·tail m)
+
+-- a comparison that goes by an order: R, at least as good as; S, better than
+pub record Ordered {C : Type 0} (beats : C → C → Bool) (R S : C → C → Type 0) : Type 0 where
+  pub same : (a : C) → R a a
+  pub trans : (a b c : C) → R a b → R b c → R a c
+  pub weak : (a b : C) → S a b → R a b
+  pub left : (a b c : C) → R a b → S b c → S a c
+  pub right : (a b c : C) → S a b → R b c → S a c
+  pub wins : (c b : C) → beats c b ≡ true → S c b
+  pub loses : (c b : C) → beats c b ≡ false → R b c
+
+module _ {C : Type 0} {beats : C → C → Bool} {R S : C → C → Type 0} (o : Ordered beats R S) where
+  -- the result is at least as good as each candidate
+  pub best-all : (b : C) (cs : List C) (c : C) → List·Memᴰ c (b ∷ cs) → R (best beats b cs) c
+  unfolding best
+  best-all b [] c m = of-cons (R b) (o .same b) (λ n. absurd (List·Memᴰ·not-nil n)) m
+  best-all b (d ∷ cs) c m = best-step beats (λ z. R z c) b d cs
+      (λ e. of-cons (R (best beats d cs)) (o .trans _ d b (best-all d cs d (List·Memᴰ·head refl)) (o .weak d b (o .wins d b e))) (λ n. best-all d cs c n) m)
+      (λ e.
+      let h = best-all b cs b (List·Memᴰ·head refl) in
+      of-cons (R (best beats b cs)) h (λ n. of-cons (R (best beats b cs)) (o .trans _ b d h (o .loses d b e)) (λ k. best-all b cs c (List·Memᴰ·tail k)) n) m)
+
+  -- it is better than each candidate before it
+  pub best-first : (b : C) (cs : List C) → First S (best beats b cs) (b ∷ cs)
+  unfolding best
+  best-first b [] = here
+  best-first b (c ∷ cs) = best-step beats (λ z. First S z (b ∷ c ∷ cs)) b c cs
+      (λ e. there (o .left _ c b (best-all c cs c (List·Memᴰ·head refl)) (o .wins c b e)) (best-first c cs))
+      (λ e. insert (o .loses c b e) (best-first b cs))
+    where
+      insert : {r : C} → R b c → First S r (b ∷ cs) → First S r (b ∷ c ∷ cs)
+      insert q here = here
+      insert {r} q (there s f) = there s (there (o .right r b c s q) f)
+
+  -- where each candidate of another list has one here that is as good, so has its result
+  pub best-below : (b : C) (cs : List C) (d : C) (ds : List C) → ((y : C) → List·Memᴰ y (d ∷ ds) → (x : C) × List·Memᴰ x (b ∷ cs) × R x y)
+      → R (best beats b cs) (best beats d ds)
+  best-below b cs d ds h =
+      let t = h (best beats d ds) (best-mem beats d ds) in
+      o .trans _ (t .0) _ (best-all b cs (t .0) (t .1)) (t .2)
+
+-- the first least
+abbrev pub Le : Candidate → Candidate → Type 0
+Le a b = a .figure ≤ b .figure
+
+abbrev pub Lt : Candidate → Candidate → Type 0
+Lt a b = a .figure < b .figure
+
+pub least : Ordered lower Le Lt
+least = omega (arith, ltb-true, ltb-false)
+
+pub firstLeast-le : (cs : List Candidate) (c : Candidate) → List·Memᴰ c cs → firstLeast cs .figure ≤ c .figure
+unfolding firstLeast
+firstLeast-le [] c m = absurd (List·Memᴰ·not-nil m)
+firstLeast-le (b ∷ cs) c m = best-all least b cs c m
+
+pub firstLeast-mem : (c : Candidate) (cs : List Candidate) → List·Memᴰ (firstLeast (c ∷ cs)) (c ∷ cs)
+unfolding firstLeast
+firstLeast-mem = best-mem lower
+
+pub firstLeast-first : (c : Candidate) (cs : List Candidate) → First (λ r d. r .figure < d .figure) (firstLeast (c ∷ cs)) (c ∷ cs)
+unfolding firstLeast
+firstLeast-first = best-first least
+
+pub firstLeast-append : (c : Candidate) (cs ds : List Candidate) → firstLeast ((c ∷ cs) ++ ds) ≡ best lower (firstLeast (c ∷ cs)) ds
+unfolding firstLeast
+firstLeast-append = best-append lower
+
+-- a loop starts from a candidate that every real one beats
+pub firstLeast-from : (b c : Candidate) (cs : List Candidate) → c .figure < b .figure → best lower b (c ∷ cs) ≡ firstLeast (c ∷ cs)
+unfolding firstLeast
+firstLeast-from b c cs h = best-takes lower b c cs (lt-ltb _ _ h)
+
+-- lists whose figures are matched by the other's have one least figure
+pub least-figure-same : (c : Candidate) (cs : List Candidate) (d : Candidate) (ds : List Candidate)
+    → ((x : Candidate) → List·Memᴰ x (c ∷ cs) → (y : Candidate) × List·Memᴰ y (d ∷ ds) × (y .figure ≤ x .figure))
+    → ((y : Candidate) → List·Memᴰ y (d ∷ ds) → (x : Candidate) × List·Memᴰ x (c ∷ cs) × (x .figure ≤ y .figure))
+    → firstLeast (c ∷ cs) .figure ≡ firstLeast (d ∷ ds) .figure
+unfolding firstLeast
+least-figure-same c cs d ds p q = le-antisymm (best-below least c cs d ds q) (best-below least d ds c cs p)
+
+-- the first largest
+abbrev pub Ge : Candidate → Candidate → Type 0
+Ge a b = b .figure ≤ a .figure
+
+abbrev pub Gt : Candidate → Candidate → Type 0
+Gt a b = b .figure < a .figure
+
+pub largest : Ordered higher Ge Gt
+largest = omega (arith, ltb-true, ltb-false)
+
+pub firstLargest-ge : (cs : List Candidate) (c : Candidate) → List·Memᴰ c cs → c .figure ≤ firstLargest cs .figure
+unfolding firstLargest
+firstLargest-ge [] c m = absurd (List·Memᴰ·not-nil m)
+firstLargest-ge (b ∷ cs) c m = best-all largest b cs c m
+
+pub firstLargest-mem : (c : Candidate) (cs : List Candidate) → List·Memᴰ (firstLargest (c ∷ cs)) (c ∷ cs)
+unfolding firstLargest
+firstLargest-mem = best-mem higher
+
+pub firstLargest-first : (c : Candidate) (cs : List Candidate) → First (λ r d. d .figure < r .figure) (firstLargest (c ∷ cs)) (c ∷ cs)
+unfolding firstLargest
+firstLargest-first = best-first largest
+
+pub firstLargest-append : (c : Candidate) (cs ds : List Candidate) → firstLargest ((c ∷ cs) ++ ds) ≡ best higher (firstLargest (c ∷ cs)) ds
+unfolding firstLargest
+firstLargest-append = best-append higher
+
+pub firstLargest-from : (b c : Candidate) (cs : List Candidate) → b .figure < c .figure → best higher b (c ∷ cs) ≡ firstLargest (c ∷ cs)
+unfolding firstLargest
+firstLargest-from b c cs h = best-takes higher b c cs (lt-ltb _ _ h)
+
+-- ---- ties broken by a rank
+module _ {C : Type 0} (value rank : C → ℕ) where
+  -- of a lower value, or of the same and no higher rank
+  abbrev pub Lex : C → C → Type 0
+  Lex a b = (value a < value b) ⊎ ((value a ≡ value b) × (rank a ≤ rank b))
+
+  lex-trans : (a b c : C) → Lex a b → Lex b c → Lex a c
+  lex-trans a b c (inl p) (inl q) = inl (omega arith)
+  lex-trans a b c (inl p) (inr q) = inl (omega arith)
+  lex-trans a b c (inr p) (inl q) = inl (omega arith)
+  lex-trans a b c (inr p) (inr q) = inr (omega arith)
+
+  lex-wins : (c b : C) → lowerRanked value rank c b ≡ true → Lex c b
+  lex-wins c b = go (ltb (value c) (value b)) (eqb (value c) (value b)) (ltb (rank c) (rank b)) (ltb-true _ _) (eqb-true _ _) (ltb-true _ _)
+    where
+      go : (x y z : Bool) → (x ≡ true → value c < value b) → (y ≡ true → value c ≡ value b) → (z ≡ true → rank c < rank b) → (x || (y && z)) ≡ true → Lex c b
+      go true y z p q r t = inl (p refl)
+      go false true true p q r t = let h = r refl in inr (q refl, omega arith)
+      go false true false p q r t = absurd (false≢true t)
+      go false false z p q r t = absurd (false≢true t)
+
+  lex-loses : (c b : C) → lowerRanked value rank c b ≡ false → Lex b c
+  lex-loses c b =
+      go (ltb (value c) (value b)) (eqb (value c) (value b)) (ltb (rank c) (rank b)) (ltb-false _ _) (eqb-true _ _) (eqb-false _ _) (ltb-false _ _)
+    where
+      go : (x y z : Bool) → (x ≡ false → value b ≤ value c) → (y ≡ true → value c ≡ value b) → (y ≡ false → value c ≡ value b → ⊥) → (z ≡ false → rank b ≤ rank c)
+          → (x || (y && z)) ≡ false → Lex b c
+      go true y z p q n r t = absurd (true≢false t)
+      go false true true p q n r t = absurd (true≢false t)
+      go false true false p q n r t = inr (sym (q refl), r refl)
+      go false false z p q n r t =
+          let le = p refl in
+          let d : ¬ (value c ≡ value b) = n refl in
+          inl (omega arith)
+
+  pub ranked : Ordered (lowerRanked value rank) Lex Lex
+  ranked = record {
+    same = λ a. inr (refl, le-refl (rank a));
+    trans = lex-trans;
+    weak = λ a b h. h;
+    left = lex-trans;
+    right = lex-trans;
+    wins = lex-wins;
+    loses = lex-loses;
+  }
+
+  -- the same candidates in any order, repeated or not, no two of one rank
+  pub ranked-order : (b : C) (cs : List C) (d : C) (ds : List C)
+      → ((x y : C) → List·Memᴰ x (b ∷ cs) → List·Memᴰ y (b ∷ cs) → rank x ≡ rank y → x ≡ y)
+      → ((x : C) → List·Memᴰ x (b ∷ cs) → List·Memᴰ x (d ∷ ds)) → ((x : C) → List·Memᴰ x (d ∷ ds) → List·Memᴰ x (b ∷ cs))
+      → best (lowerRanked value rank) b cs ≡ best (lowerRanked value rank) d ds
+  ranked-order b cs d ds one p q =
+      let beats : C → C → Bool = lowerRanked value rank in
+      let r = best beats b cs in
+      let s = best beats d ds in
+      anti r s (one r s (best-mem beats b cs) (q s (best-mem beats d ds)))
+      (best-below ranked b cs d ds (λ y m. (y, q y m, ranked .same y))) (best-below ranked d ds b cs (λ x m. (x, p x m, ranked .same x)))
+    where
+      anti : (r s : C) → (rank r ≡ rank s → r ≡ s) → Lex r s → Lex s r → r ≡ s
+      anti r s e (inl h) (inl k) = absurd (omega arith)
+      anti r s e (inl h) (inr k) = absurd (omega arith)
+      anti r s e (inr h) (inl k) = absurd (omega arith)
+      anti r s e (inr h) (inr k) = e (omega arith)
+
+  -- along rising ranks the first of the least value is the ranked choice
+  pub first-is-ranked : (b : C) (cs : List C) → Ascending rank (b ∷ cs) → best (λ c a. ltb (value c) (value a)) b cs ≡ best (lowerRanked value rank) b cs
+  unfolding best
+  first-is-ranked b [] a = refl
+  first-is-ranked b (c ∷ cs) a =
+      best-step (λ c a. ltb (value c) (value a)) (λ z. z ≡ best (lowerRanked value rank) b (c ∷ cs)) b c cs
+      (λ e. first-is-ranked c cs (a .1) ∙ sym (best-takes (lowerRanked value rank) b c cs (agree ∙ e)))
+      (λ e. first-is-ranked b cs (λ d m. a .0 d (List·Memᴰ·tail m), a .1 .1) ∙ sym (best-keeps (lowerRanked value rank) b c cs (agree ∙ e)))
+    where
+      tidy : (x y : Bool) → (x || (y && false)) ≡ x
+      tidy true y = refl
+      tidy false true = refl
+      tidy false false = refl
+
+      agree : lowerRanked value rank c b ≡ ltb (value c) (value b)
+      agree =
+          let h = a .0 c (List·Memᴰ·head refl) in
+          ap (λ (z : Bool). ltb (value c) (value b) || (eqb (value c) (value b) && z)) (le-ltb (rank c) (rank b) (omega arith))
+          ∙ tidy (ltb (value c) (value b)) (eqb (value c) (value b))
+
+pub firstLeast-ranked : (rank : Candidate → ℕ) (c : Candidate) (cs : List Candidate) → Ascending rank (c ∷ cs)
+    → firstLeast (c ∷ cs) ≡ best (lowerRanked (λ c. c .figure) rank) c cs
+unfolding firstLeast
+firstLeast-ranked = first-is-ranked (λ c. c .figure)
+
+-- what is first along rising ranks stands to each candidate of a lower rank as to those before it
+pub first-ranked : {C : Type 0} (rank : C → ℕ) (S : C → C → Type 0) {r : C} {cs : List C} → Ascending rank cs → First S r cs
+    → (c : C) → List·Memᴰ c cs → rank c < rank r → S r c
+first-ranked rank S {r} a here c m l = of-cons (λ z. rank z < rank r → S r z) (λ k. absurd (omega arith)) (λ n k. absurd (omega (arith, a .0 c n))) m l
+first-ranked rank S {r} a (there s f) c m l = of-cons (S r) s (λ n. first-ranked rank S (a .1) f c n l) m

@@ -1,0 +1,48 @@
+-- The size of an integer, `natAbs`: of sums, differences, and transforms.
+use mathlib.Core.Path.{_≡_, refl, ap, _∙_}
+use mathlib.Core.Bool.{Bool, true, false, cond}
+use Prim.Native.Nat.{ℕ, zero, suc, _+_, _*_, _-_, _^_, _<_, _≤_}
+use native.Mathlib.Nat.{le-refl, le-trans, le-suc, le-of-eq, suc-mul}
+use native.Mathlib.Omega.{arith}
+use lib.Dec.{ltb}
+use lib.IntN.{ℤ, pos, negsuc, _+ℤ_, _-ℤ_, _*ℤ_, negℤ, natAbs}
+use Rattle.boolean.specs.Bits.{dot}
+use Rattle.boolean.specs.Sums.{sumBelow}
+use Rattle.boolean.specs.Functions.{sign, transform}
+use Rattle.boolean.proofs.Ints.{one-*ℤ, minus-one-*ℤ}
+
+pub abs-add : (a b : ℤ) → natAbs (a +ℤ b) ≤ natAbs a + natAbs b
+abs-add (pos a) (pos b) = le-refl (a + b)
+abs-add (pos a) (negsuc b) = pick (ltb a (suc b))
+  where
+    pick : (c : Bool) → natAbs (cond c (negsuc (suc b - suc a)) (pos (a - suc b))) ≤ a + suc b
+    pick true = omega arith
+    pick false = omega arith
+abs-add (negsuc a) (pos b) = pick (ltb b (suc a))
+  where
+    pick : (c : Bool) → natAbs (cond c (negsuc (suc a - suc b)) (pos (b - suc a))) ≤ suc a + b
+    pick true = omega arith
+    pick false = omega arith
+abs-add (negsuc a) (negsuc b) = omega arith
+
+pub abs-neg : (z : ℤ) → natAbs (negℤ z) ≡ natAbs z
+abs-neg (pos zero) = refl
+abs-neg (pos (suc n)) = refl
+abs-neg (negsuc n) = refl
+
+pub abs-sub : (a b : ℤ) → natAbs (a -ℤ b) ≤ natAbs a + natAbs b
+abs-sub a b = omega (arith, abs-add a (negℤ b), abs-neg b)
+
+abs-sign : (b : ℕ) (z : ℤ) → natAbs (sign b *ℤ z) ≡ natAbs z
+unfolding sign
+abs-sign zero z = ap natAbs (one-*ℤ z)
+abs-sign (suc b) z = ap natAbs (minus-one-*ℤ z) ∙ abs-neg z
+
+pub sum-bound : (k m : ℕ) (f : ℕ → ℤ) → ((x : ℕ) → x < k → natAbs (f x) ≤ m) → natAbs (sumBelow k f) ≤ k * m
+unfolding sumBelow
+sum-bound zero m f h = omega arith
+sum-bound (suc k) m f h = omega (arith, abs-add (sumBelow k f) (f k), sum-bound k m f (λ x l. h x (le-trans l (le-suc k))), h k (le-refl (suc k)), suc-mul k m)
+
+pub transform-bound : (n m : ℕ) (F : ℕ → ℤ) (w : ℕ) → ((x : ℕ) → x < 2 ^ n → natAbs (F x) ≤ m) → natAbs (transform n F w) ≤ 2 ^ n * m
+unfolding transform
+transform-bound n m F w h = sum-bound (2 ^ n) m _ (λ x l. le-trans (le-of-eq (abs-sign (dot w x) (F x))) (h x l))

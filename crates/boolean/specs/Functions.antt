@@ -1,0 +1,111 @@
+-- Boolean functions of n inputs and what is measured of them. A function is a rule that gives 0 or 1 for each input below 2^n.
+use Prim.Native.Nat.{ℕ, zero, suc, _+_, _-_, _*_, _^_, _<_}
+use mathlib.Core.Path.{_≡_}
+use mathlib.Core.Logic.{_⊎_}
+use mathlib.Core.Bool.{Bool, true, false, not, cond, _&&_}
+use mathlib.Core.List.{List, [], _∷_}
+use lib.Bits.{bitAnd, bitXor}
+use lib.Dec.{eqb}
+use lib.ListN.{getD}
+use lib.IntN.{ℤ, pos, negsuc, _*ℤ_, negℤ, natAbs}
+use Rattle.boolean.specs.Bits.{parity, dot, affine, within}
+use Rattle.boolean.specs.Sums.{sumBelow, countBelow, xorBelow, listFrom, listBelow}
+
+-- every value of f at an input of n bits is 0 or 1
+abbrev pub Boolean : ℕ → (ℕ → ℕ) → Type 0
+Boolean n f = (x : ℕ) → x < 2 ^ n → f x < 2
+
+-- a truth table, or the rows of a box, as a function: the entry at x
+abbrev pub at : List ℕ → ℕ → ℕ
+at table x = getD table x 0
+
+-- the same of a list of integers
+abbrev pub valueAt : List ℤ → ℕ → ℤ
+valueAt values w = getD values w (pos 0)
+
+-- +1 where two truth values are equal, and −1 elsewhere
+unfoldable pub agreement : ℕ → ℕ → ℤ
+agreement a b = cond (eqb a b) (pos 1) (negsuc 0)
+
+-- W(w), the Walsh value: the sum over x of +1 where f equals w·x, and −1 elsewhere
+unfoldable pub walsh : ℕ → (ℕ → ℕ) → ℕ → ℤ
+unfolding sumBelow agreement dot
+walsh n f w = sumBelow (2 ^ n) (λ x. agreement (f x) (dot w x))
+
+-- the spectrum: W(0), W(1), .., W(2^n − 1)
+unfoldable pub spectrum : ℕ → (ℕ → ℕ) → List ℤ
+unfolding listBelow walsh
+spectrum n f = listBelow (2 ^ n) (λ w. walsh n f w)
+
+-- the count of inputs at which f and the affine function (w, b) differ
+unfoldable pub distance : ℕ → (ℕ → ℕ) → ℕ → ℕ → ℕ
+unfolding countBelow affine
+distance n f w b = countBelow (2 ^ n) (λ x. not (eqb (f x) (affine w b x)))
+
+-- bent: n = 2h, and every spectrum value is 2^h or −2^h
+pub record Bent (n : ℕ) (f : ℕ → ℕ) : Type 0 where
+  pub half : ℕ
+  pub even : n ≡ half + half
+  pub flat : (w : ℕ) → w < 2 ^ n → (walsh n f w ≡ pos (2 ^ half)) ⊎ (walsh n f w ≡ negℤ (pos (2 ^ half)))
+
+-- r(s), the autocorrelation: the sum over x of +1 where f(x) = f(x XOR s), and −1 elsewhere
+unfoldable pub autocorrelation : ℕ → (ℕ → ℕ) → ℕ → ℤ
+unfolding sumBelow agreement
+autocorrelation n f s = sumBelow (2 ^ n) (λ x. agreement (f x) (f (bitXor x s)))
+
+-- the normal form's coefficient at u: the XOR of f(x) over all x whose ones lie within u
+unfoldable pub coefficient : ℕ → (ℕ → ℕ) → ℕ → ℕ
+unfolding xorBelow within
+coefficient n f u = xorBelow (2 ^ n) (λ x. cond (within u x) (f x) 0)
+
+-- the component of a box at the mask c, which document 01 calls combination c: the parity of the ones in (row AND c)
+unfoldable pub component : List ℕ → ℕ → ℕ → ℕ
+unfolding parity
+component rows c x = parity (bitAnd (at rows x) c)
+
+-- the masks of a box's components, in the order in which they come: 1, 2, .., 2^m − 1
+unfoldable pub components : ℕ → List ℕ
+unfolding listFrom
+components m = listFrom 1 (2 ^ m - 1) (λ c. c)
+
+-- a truth value as a sign: 0 is +1, and 1 is −1
+unfoldable pub sign : ℕ → ℤ
+sign zero = pos 1
+sign (suc b) = negsuc 0
+
+-- the Walsh-Hadamard transform at w of any integer function: the sum over x of F(x), with the sign of w·x
+unfoldable pub transform : ℕ → (ℕ → ℤ) → ℕ → ℤ
+unfolding sumBelow sign dot
+transform n F w = sumBelow (2 ^ n) (λ x. sign (dot w x) *ℤ F x)
+
+-- the square of an integer
+unfoldable pub square : ℤ → ℕ
+square z = natAbs z * natAbs z
+
+-- a sign as a truth value: 1 for what is below 0
+unfoldable pub signBit : ℤ → ℕ
+signBit (pos n) = 0
+signBit (negsuc n) = 1
+
+-- the function whose spectrum the values may be: where document 001's inverse transform is below 0 the function is 1
+unfoldable pub inverse : ℕ → (ℕ → ℤ) → ℕ → ℕ
+unfolding transform signBit
+inverse n F x = signBit (transform n F x)
+
+-- whether two integers are equal, and two lists of them
+abbrev pub sameValue : ℤ → ℤ → Bool
+sameValue (pos a) (pos b) = eqb a b
+sameValue (pos a) (negsuc b) = false
+sameValue (negsuc a) (pos b) = false
+sameValue (negsuc a) (negsuc b) = eqb a b
+
+abbrev pub sameValues : List ℤ → List ℤ → Bool
+sameValues [] [] = true
+sameValues [] (v ∷ vs) = false
+sameValues (u ∷ us) [] = false
+sameValues (u ∷ us) (v ∷ vs) = sameValue u v && sameValues us vs
+
+-- whether the values are the spectrum of a function: of the one that their inverse transform shows
+unfoldable pub isSpectrum : ℕ → List ℤ → Bool
+unfolding spectrum inverse
+isSpectrum n values = sameValues (spectrum n (inverse n (valueAt values))) values

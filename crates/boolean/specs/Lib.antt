@@ -1,0 +1,4 @@
+pub mod Bits
+pub mod Sums
+pub mod Functions
+pub mod Selection

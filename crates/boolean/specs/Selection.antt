@@ -1,0 +1,51 @@
+-- The first best of candidates in order: of those that are as good, the one that comes first.
+use Prim.Native.Nat.{ℕ}
+use mathlib.Core.Bool.{Bool, true, false, _&&_, _||_}
+use mathlib.Core.List.{List, [], _∷_}
+use lib.Dec.{ltb, eqb}
+
+-- a figure, and the numbers that reach it
+pub record Candidate : Type 0 where
+  pub figure : ℕ
+  pub witness : List ℕ
+
+-- what a reply gives of a candidate: the figure, then its witness
+abbrev pub shown : Candidate → List ℕ
+shown c = c .figure ∷ c .witness
+
+module _ {C : Type 0} (beats : C → C → Bool) where
+  -- the candidate b, or the last one that beat all before it. (The recursion stands inside the cases, so that it computes one of them.)
+  unfoldable pub best : C → List C → C
+  best b [] = b
+  best b (c ∷ cs) = elim (beats c b) [ true ↦ best c cs | false ↦ best b cs ]
+
+abbrev pub lower : Candidate → Candidate → Bool
+lower c b = ltb (c .figure) (b .figure)
+
+abbrev pub higher : Candidate → Candidate → Bool
+higher c b = ltb (b .figure) (c .figure)
+
+-- of no candidates: the figure 0, with no witness
+abbrev pub nothing : Candidate
+nothing = record { figure = 0; witness = [] }
+
+-- the first candidate of the least figure
+unfoldable pub firstLeast : List Candidate → Candidate
+unfolding best
+firstLeast [] = nothing
+firstLeast (c ∷ cs) = best lower c cs
+
+-- the first candidate of the largest figure
+unfoldable pub firstLargest : List Candidate → Candidate
+unfolding best
+firstLargest [] = nothing
+firstLargest (c ∷ cs) = best higher c cs
+
+-- of a lower value, or of the same value and a lower rank: with ranks, the order of visiting does not matter
+abbrev pub lowerRanked : {C : Type 0} → (C → ℕ) → (C → ℕ) → C → C → Bool
+lowerRanked value rank c b = ltb (value c) (value b) || (eqb (value c) (value b) && ltb (rank c) (rank b))
+
+-- r stands in the list, and S holds of it and each candidate before it
+pub data First {C : Type 0} (S : C → C → Type 0) (r : C) : List C → Type 0 where
+  here : {cs : List C} → First S r (r ∷ cs)
+  there : {c : C} {cs : List C} → S r c → First S r cs → First S r (c ∷ cs)

@@ -1,0 +1,52 @@
+-- Sums, counts and lists over the numbers below a bound.
+use Prim.Native.Nat.{ℕ, zero, suc, _+_}
+use mathlib.Core.Bool.{Bool, true, false, _&&_}
+use mathlib.Core.List.{List, [], _∷_, _++_}
+use lib.Bits.{bitXor}
+use lib.IntN.{ℤ, pos, _+ℤ_}
+
+-- F 0 + F 1 + .. + F (k − 1)
+unfoldable pub sumBelow : ℕ → (ℕ → ℤ) → ℤ
+sumBelow zero F = pos zero
+sumBelow (suc k) F = sumBelow k F +ℤ F k
+
+-- the same of natural numbers
+unfoldable pub totalBelow : ℕ → (ℕ → ℕ) → ℕ
+totalBelow zero f = zero
+totalBelow (suc k) f = totalBelow k f + f k
+
+-- 1 where a test passes, and else 0
+unfoldable pub one-if : Bool → ℕ
+one-if true = 1
+one-if false = 0
+
+-- how many numbers below k pass the test
+unfoldable pub countBelow : ℕ → (ℕ → Bool) → ℕ
+unfolding one-if
+countBelow zero p = zero
+countBelow (suc k) p = countBelow k p + one-if (p k)
+
+-- f 0 XOR f 1 XOR .. XOR f (k − 1)
+unfoldable pub xorBelow : ℕ → (ℕ → ℕ) → ℕ
+xorBelow zero f = zero
+xorBelow (suc k) f = bitXor (xorBelow k f) (f k)
+
+-- g i, g (i + 1), ..: k of them
+unfoldable pub listFrom : {A : Type 0} → ℕ → ℕ → (ℕ → A) → List A
+listFrom i zero g = []
+listFrom i (suc k) g = g i ∷ listFrom (suc i) k g
+
+-- g 0, g 1, .., g (k − 1)
+unfoldable pub listBelow : {A : Type 0} → ℕ → (ℕ → A) → List A
+unfolding listFrom
+listBelow k g = listFrom 0 k g
+
+-- the lists that a rule gives for each member, one after the other
+unfoldable pub each : {A B : Type 0} → List A → (A → List B) → List B
+each [] f = []
+each (x ∷ xs) f = f x ++ each xs f
+
+-- the test holds of every member
+unfoldable pub every : {A : Type 0} → (A → Bool) → List A → Bool
+every p [] = true
+every p (x ∷ xs) = p x && every p xs

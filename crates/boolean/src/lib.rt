@@ -1,0 +1,40 @@
+// Boolean functions: the inner product and powers of two. The definitions are in specs/, their laws in proofs/.
+ghost use mathlib.Core.Path.{_≡_};
+ghost use Prim.Native.Nat.{ℕ, _^_, _≤_, _<_};
+ghost use lib.IntN.{natAbs};
+ghost use Rattle.boolean.specs.Bits as bits;
+ghost use Rattle.boolean.specs.Functions.{signBit};
+
+// w·x: the parity of the ones in (w AND x).
+pub fn dot(w: u32, x: u32) -> u32
+    ensures { λ r. ⌜ (r ≡ bits.dot w x) × (r < 2) ⌝ }
+{
+    u32::count_ones(w & x) % 2
+}
+
+// 2 to the power k.
+pub fn power_of_two(k: u32) -> usize
+    requires { ⌜ k ≤ 16 ⌝ }
+    ensures { λ r. ⌜ (r ≡ 2 ^ k) × (r ≤ 65536) ⌝ }
+{
+    1usize << k
+}
+
+// The magnitude of a signed number, by negation. The lowest number has no negation that fits, so one is added before and after it.
+pub fn magnitude(v: i32) -> u32
+    ensures { λ r. ⌜ r ≡ natAbs v ⌝ }
+{
+    if v < 0 {
+        let above = 0 - (v + 1);
+        (above as u32) + 1
+    } else {
+        v as u32
+    }
+}
+
+// The sign of a number as a truth value: 1 for what is below 0.
+pub fn sign_bit(v: i32) -> u8
+    ensures { λ r. ⌜ r ≡ signBit v ⌝ }
+{
+    if v < 0 { 1 } else { 0 }
+}

@@ -1,0 +1,152 @@
+-- A table of checks: what its first line that applies is, what an accepted table says, and what a call then replies and leaves.
+-- Assumes nothing.
+use Prim.Native.Nat.{ℕ, _^_, _≤_}
+use mathlib.Core.Path.{_≡_, refl, sym, _∙_}
+use mathlib.Core.Bool.{Bool, true, false, not}
+use mathlib.Core.List.{List, [], _∷_, _++_}
+use native.Mathlib.Nat.{le-trans, le-of-eq, zero-lt-suc}
+use borrow.Author.Tests.{not-true, not-false, eqb-true, eq-eqb, ne-eqb}
+use lib.Dec.{eqb}
+use lib.ListN.{length}
+use lib.Pow.{pow-pos, pow-mono}
+use Rattle.refusals.specs.Table.{Check, _unless_, first, boxChecks, tableChecks, Box, Table, figures, refusal, number, replyAfter, contentAfter}
+use Rattle.refusals.specs.declared.Refusal.{Refusal}
+use Rattle.refusals.specs.declared.Checked.{Checked}
+use Rattle.refusals.specs.declared.Checked.the-variants.{Accepted, Refused}
+use Rattle.refusals.proofs.Bounds.{range-low, range-high, range-true, below-at, below-true}
+
+-- `if !f(..)`, where f ensures that its result is the test: the branch was taken, or left
+pub fails : {r t : Bool} → r ≡ t → not r ≡ true → t ≡ false
+fails {r} e k = sym e ∙ not-true r k
+
+pub holds : {r t : Bool} → r ≡ t → not r ≡ false → t ≡ true
+holds {r} e k = sym e ∙ not-false r k
+
+-- `if a != f(..)`, where f ensures that its result is b: the branch was taken, or left
+pub differs : {a r b : ℕ} → r ≡ b → (a ≡ r → ⊥) → eqb a b ≡ false
+differs {a} {b = b} e k = ne-eqb a b (λ q. k (q ∙ sym e))
+
+pub equals : {a r b : ℕ} → r ≡ b → a ≡ r → eqb a b ≡ true
+equals {a} {b = b} e k = eq-eqb a b (k ∙ e)
+
+-- One line: where its test holds the rest is asked, and where it fails its refusal is given.
+pub first-passed : (e : Refusal) (ok : Bool) (cs : List Check) → ok ≡ true → first ((e unless ok) ∷ cs) ≡ first cs
+unfolding first
+first-passed e ok cs h = rw h
+
+pub first-failed : (e : Refusal) (ok : Bool) (cs : List Check) → ok ≡ false → first ((e unless ok) ∷ cs) ≡ Refused e
+unfolding first
+first-failed e ok cs h = rw h
+
+-- A walk down a table: a line whose test holds is passed over, and one whose test fails is given.
+pub data Walk : List Check → Checked → Type 0 where
+  end : Walk [] Accepted
+  skip : {e : Refusal} {ok : Bool} {cs : List Check} {k : Checked} → ok ≡ true → Walk cs k → Walk ((e unless ok) ∷ cs) k
+  stop : {e : Refusal} {ok : Bool} {cs : List Check} → ok ≡ false → Walk ((e unless ok) ∷ cs) (Refused e)
+
+pub found : {cs : List Check} {k : Checked} → Walk cs k → k ≡ first cs
+unfolding first
+found end = refl
+found (skip {e} {ok} {cs} h w) = found w ∙ sym (first-passed e ok cs h)
+found (stop {e} {ok} {cs} h) = sym (first-failed e ok cs h)
+
+-- The lines of two tables, one after the other: where the first accepts, the second is asked, and else the first is given.
+pub first-append : (cs ds : List Check) → first cs ≡ Accepted → first (cs ++ ds) ≡ first ds
+unfolding first
+first-append [] ds h = refl
+first-append ((e unless true) ∷ cs) ds h = first-append cs ds h
+first-append ((e unless false) ∷ cs) ds h = cc
+
+pub first-refused : (cs ds : List Check) {e : Refusal} → first cs ≡ Refused e → first (cs ++ ds) ≡ Refused e
+unfolding first
+first-refused [] ds h = cc
+first-refused ((e unless true) ∷ cs) ds h = first-refused cs ds h
+first-refused ((e unless false) ∷ cs) ds h = h
+
+pub found-after : (cs : List Check) {ds : List Check} {k : Checked} → first cs ≡ Accepted → Walk ds k → k ≡ first (cs ++ ds)
+found-after cs {ds} h w = found w ∙ sym (first-append cs ds h)
+
+pub found-before : (cs ds : List Check) {e : Refusal} → first cs ≡ Refused e → Refused e ≡ first (cs ++ ds)
+found-before cs ds h = sym (first-refused cs ds h)
+
+-- and where both together accept, each does
+pub accepted-before : (cs ds : List Check) → first (cs ++ ds) ≡ Accepted → first cs ≡ Accepted
+unfolding first
+accepted-before [] ds h = refl
+accepted-before ((e unless true) ∷ cs) ds h = accepted-before cs ds h
+accepted-before ((e unless false) ∷ cs) ds h = h
+
+pub accepted-after : (cs ds : List Check) → first (cs ++ ds) ≡ Accepted → first ds ≡ Accepted
+accepted-after cs ds h = sym (first-append cs ds (accepted-before cs ds h)) ∙ h
+
+-- Of an accepted table each line's test holds; and back.
+abbrev pub Passed : List Check → Type 0
+Passed [] = Unit
+Passed ((e unless ok) ∷ cs) = (ok ≡ true) × Passed cs
+
+pub passed : (cs : List Check) → first cs ≡ Accepted → Passed cs
+unfolding first
+passed [] h = tt
+passed ((e unless true) ∷ cs) h = (refl, passed cs h)
+passed ((e unless false) ∷ cs) h = (cc, passed cs (cc))
+
+pub accepted : (cs : List Check) → Passed cs → first cs ≡ Accepted
+accepted [] p = sym (found end)
+accepted ((e unless ok) ∷ cs) p = first-passed e ok cs (p .0) ∙ accepted cs (p .1)
+
+-- What an accepted table that begins with the lines of a box, or of a truth table, says; and back.
+pub box : (n m : ℕ) (rows : List ℕ) (more : List Check) → first (boxChecks n m rows ++ more) ≡ Accepted → Box n m rows
+box n m rows more h =
+    let p = passed (boxChecks n m rows) (accepted-before (boxChecks n m rows) more h) in
+    let n-high : n ≤ 8 = range-high 1 8 n (p .0) in
+    let size : length rows ≡ 2 ^ n = eqb-true (length rows) (2 ^ n) (p .1 .1 .0) in
+    record {
+      n-low = range-low 1 8 n (p .0);
+      n-high = n-high;
+      m-low = range-low 1 16 m (p .1 .0);
+      m-high = range-high 1 16 m (p .1 .0);
+      size = size;
+      small = le-trans (le-of-eq size) (pow-mono n-high);
+      below = below-at (2 ^ m) rows (pow-pos m) (p .1 .1 .1 .0);
+    }
+
+pub box-accepted : (n m : ℕ) (rows : List ℕ) → Box n m rows → first (boxChecks n m rows) ≡ Accepted
+box-accepted n m rows b =
+    accepted (boxChecks n m rows) (
+      range-true 1 8 n (b .n-low) (b .n-high),
+      (
+        range-true 1 16 m (b .m-low) (b .m-high),
+        (eq-eqb (length rows) (2 ^ n) (b .size), (below-true (2 ^ m) rows (λ x l. b .below x), tt)),
+      ),
+    )
+
+pub table : (n : ℕ) (values : List ℕ) (more : List Check) → first (tableChecks n values ++ more) ≡ Accepted → Table n values
+table n values more h =
+    let p = passed (tableChecks n values) (accepted-before (tableChecks n values) more h) in
+    record {
+      n-low = range-low 1 8 n (p .0);
+      n-high = range-high 1 8 n (p .0);
+      size = eqb-true (length values) (2 ^ n) (p .1 .0);
+      bits = below-at 2 values (zero-lt-suc 1) (p .1 .1 .0);
+    }
+
+pub table-accepted : (n : ℕ) (values : List ℕ) → Table n values → first (tableChecks n values) ≡ Accepted
+table-accepted n values t =
+    accepted (tableChecks n values) (
+      range-true 1 8 n (t .n-low) (t .n-high),
+      (eq-eqb (length values) (2 ^ n) (t .size), (below-true 2 values (λ x l. t .bits x), tt)),
+    )
+
+-- The reply of a call, and the final content of an array lent to it, from what its checks found.
+module _ {k : Checked} where
+  pub reply-refused : {e : Refusal} → k ≡ Refused e → (given : List ℕ) → refusal (number e) ≡ replyAfter k given
+  reply-refused h given = sym (rw h)
+
+  pub reply-accepted : k ≡ Accepted → (given : List ℕ) → figures given ≡ replyAfter k given
+  reply-accepted h given = sym (rw h)
+
+  pub content-refused : {A : Type 0} {e : Refusal} → k ≡ Refused e → (result old : List A) → old ≡ contentAfter k result old
+  content-refused h result old = sym (rw h)
+
+  pub content-accepted : {A : Type 0} → k ≡ Accepted → (result old : List A) → result ≡ contentAfter k result old
+  content-accepted h result old = sym (rw h)

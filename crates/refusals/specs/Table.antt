@@ -1,0 +1,102 @@
+-- Document 01, "Where a call stops": the numbers, the checks in their order, and what a call replies and leaves.
+use Prim.Native.Nat.{ℕ, _^_, _≤_, _<_}
+use mathlib.Core.Path.{_≡_}
+use mathlib.Core.List.{List, [], _∷_}
+use mathlib.Core.Bool.{Bool, true, false, _&&_}
+use lib.ListN.{length}
+use lib.Dec.{ltb, leb, eqb}
+use Rattle.boolean.specs.Sums.{every}
+use Rattle.boolean.specs.Functions.{at}
+use Rattle.refusals.specs.declared.Refusal.{Refusal}
+use Rattle.refusals.specs.declared.Refusal.the-variants.{InputWidth, OutputWidth, ReadLength, Value, Permutation, Parameter, WrittenLength, NoFunction, ListTooShort, FileLength}
+use Rattle.refusals.specs.declared.Checked.{Checked}
+use Rattle.refusals.specs.declared.Checked.the-variants.{Accepted, Refused}
+use Rattle.refusals.specs.declared.Written.{Written}
+use Rattle.refusals.specs.declared.Written.the-variants.{Done, Declined}
+
+-- the number of each refusal
+abbrev pub number : Refusal → ℕ
+number InputWidth = 1
+number OutputWidth = 2
+number ReadLength = 3
+number Value = 4
+number Permutation = 5
+number Parameter = 6
+number WrittenLength = 7
+number NoFunction = 8
+number ListTooShort = 9
+number FileLength = 10
+
+infix 5 _unless_
+-- a line of the table: the refusal that is given unless the test holds
+pub data Check : Type 0 where
+  _unless_ : Refusal → Bool → Check
+
+-- checks run down the table; the first that applies is given, and only then
+unfoldable pub first : List Check → Checked
+first [] = Accepted
+first ((e unless ok) ∷ cs) = elim ok [ true ↦ first cs | false ↦ Refused e ]
+
+-- a is at least lo and at most hi
+abbrev pub inRange : ℕ → ℕ → ℕ → Bool
+inRange lo hi a = leb lo a && leb a hi
+
+-- every number of the list is below the limit
+abbrev pub allBelow : ℕ → List ℕ → Bool
+allBelow limit xs = every (λ x. ltb x limit) xs
+
+-- the checks of a box: n inputs, m outputs, 2^n rows below 2^m
+abbrev pub boxChecks : ℕ → ℕ → List ℕ → List Check
+boxChecks n m rows =
+    (InputWidth unless inRange 1 8 n)
+    ∷ (OutputWidth unless inRange 1 16 m)
+    ∷ (ReadLength unless eqb (length rows) (2 ^ n))
+    ∷ (Value unless allBelow (2 ^ m) rows)
+    ∷ []
+
+-- the checks of a truth table: n inputs, 2^n values of 0 or 1
+abbrev pub tableChecks : ℕ → List ℕ → List Check
+tableChecks n table =
+    (InputWidth unless inRange 1 8 n)
+    ∷ (ReadLength unless eqb (length table) (2 ^ n))
+    ∷ (Value unless allBelow 2 table)
+    ∷ []
+
+-- what a call replies: its figures in the document's order, or the number of the refusal alone
+pub data Reply : Type 0 where
+  figures : List ℕ → Reply
+  refusal : ℕ → Reply
+
+-- the reply of a call whose checks found this
+abbrev pub replyAfter : Checked → List ℕ → Reply
+replyAfter Accepted given = figures given
+replyAfter (Refused e) given = refusal (number e)
+
+-- the final content of a lent array whose call's checks found this: the result, or what was there
+abbrev pub contentAfter : {A : Type 0} → Checked → List A → List A → List A
+contentAfter Accepted result old = result
+contentAfter (Refused e) result old = old
+
+-- what the answer of a call that only writes says: no figure, or the number
+abbrev pub written : Written → Reply
+written Done = figures []
+written (Declined e) = refusal (number e)
+
+-- What the checks leave known, for the functions behind a call.
+
+-- an accepted box
+pub record Box (n m : ℕ) (rows : List ℕ) : Type 0 where
+  pub n-low : 1 ≤ n
+  pub n-high : n ≤ 8
+  pub m-low : 1 ≤ m
+  pub m-high : m ≤ 16
+  pub size : length rows ≡ 2 ^ n
+  pub small : length rows ≤ 256
+  pub below : (x : ℕ) → at rows x < 2 ^ m
+
+-- an accepted truth table
+pub record Table (n : ℕ) (table : List ℕ) : Type 0 where
+  pub n-low : 1 ≤ n
+  pub n-high : n ≤ 8
+  pub size : length table ≡ 2 ^ n
+  pub bits : (x : ℕ) → at table x < 2

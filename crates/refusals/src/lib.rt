@@ -1,0 +1,121 @@
+// The numbered refusals, the checks that many calls share, and the answer of a call that only writes.
+ghost use mathlib.Core.Path.{_≡_};
+ghost use mathlib.Core.Bool.{Bool};
+ghost use Prim.Native.Nat.{ℕ, _^_, _≤_};
+ghost use Rattle.refusals.specs.Table.{number, first, inRange, allBelow, boxChecks, tableChecks};
+
+pub enum Refusal {
+    InputWidth,
+    OutputWidth,
+    ReadLength,
+    Value,
+    Permutation,
+    Parameter,
+    WrittenLength,
+    NoFunction,
+    ListTooShort,
+    FileLength,
+}
+
+// What a call's checks find: nothing, or the first that applies.
+pub enum Checked {
+    Accepted,
+    Refused(Refusal),
+}
+
+// The answer of a call that only writes.
+pub enum Written {
+    Done,
+    Declined(Refusal),
+}
+
+// The number of a refusal, as document 01 gives it.
+pub fn number_of(e: Refusal) -> u32
+    ensures { λ r. ⌜ r ≡ number e ⌝ }
+{
+    match e {
+        Refusal::InputWidth => 1,
+        Refusal::OutputWidth => 2,
+        Refusal::ReadLength => 3,
+        Refusal::Value => 4,
+        Refusal::Permutation => 5,
+        Refusal::Parameter => 6,
+        Refusal::WrittenLength => 7,
+        Refusal::NoFunction => 8,
+        Refusal::ListTooShort => 9,
+        Refusal::FileLength => 10,
+    }
+}
+
+// Whether a is at least lo and at most hi.
+pub fn in_range(lo: u32, hi: u32, a: u32) -> bool
+    ensures { λ r. ⌜ r ≡ inRange lo hi a ⌝ }
+{
+    if a < lo {
+        return false;
+    }
+    a <= hi
+}
+
+// Whether every row is below the limit.
+pub fn rows_below(rows: &[u16], limit: usize) -> bool
+    ensures { λ r. ⌜ r ≡ allBelow limit (now (rows .entry)) ⌝ }
+{
+    let mut i = 0;
+    while i < rows.len() {
+        if limit <= rows[i] as usize {
+            return false;
+        }
+        i += 1;
+    }
+    true
+}
+
+// Whether every byte is below the limit.
+pub fn values_below(table: &[u8], limit: usize) -> bool
+    ensures { λ r. ⌜ r ≡ allBelow limit (now (table .entry)) ⌝ }
+{
+    let mut i = 0;
+    while i < table.len() {
+        if limit <= table[i] as usize {
+            return false;
+        }
+        i += 1;
+    }
+    true
+}
+
+// The checks 1 to 4 of a box.
+pub fn check_box(n: u32, m: u32, rows: &[u16]) -> Checked
+    ensures { λ r. ⌜ r ≡ first (boxChecks n m (now (rows .entry))) ⌝ }
+{
+    if !in_range(1, 8, n) {
+        return Checked::Refused(Refusal::InputWidth);
+    }
+    if !in_range(1, 16, m) {
+        return Checked::Refused(Refusal::OutputWidth);
+    }
+    if rows.len() != boolean::power_of_two(n) {
+        return Checked::Refused(Refusal::ReadLength);
+    }
+    if !rows_below(rows, boolean::power_of_two(m)) {
+        return Checked::Refused(Refusal::Value);
+    }
+    Checked::Accepted
+}
+
+// The checks 1, 3 and 4 of a truth table.
+pub fn check_table(n: u32, table: &[u8]) -> Checked
+    ensures { λ r. ⌜ r ≡ first (tableChecks n (now (table .entry))) ⌝ }
+{
+    if !in_range(1, 8, n) {
+        return Checked::Refused(Refusal::InputWidth);
+    }
+    if table.len() != boolean::power_of_two(n) {
+        return Checked::Refused(Refusal::ReadLength);
+    }
+    if !values_below(table, 2) {
+        return Checked::Refused(Refusal::Value);
+    }
+    Checked::Accepted
+}

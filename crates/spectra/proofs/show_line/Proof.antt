@@ -1,0 +1,52 @@
+-- `spectra::show_line` meets its contract: the part of the array that was lent and came back is as long as the line. Assumes nothing.
+use mathlib.Core.Path.{_≡_, sym, ap, _∙_}
+use native.Mathlib.Nat.{le-trans, le-of-eq}
+use lib.ListN.{length}
+use lib.Seq.{length-take-le}
+use Rattle.boolean.proofs.Lists.{part-inside, part-is}
+use borrow.Author.Needs.{needs}
+use Rattle.spectra.proofs.show_line.Statement.{statement}
+use Rattle.spectra.proofs.show_line.Tie as tie
+
+shorter-requires : tie.Need-shorter-requires
+shorter-requires c κs = search needs
+
+array-borrow-prefix-table : tie.Need-array-borrow-prefix-table
+array-borrow-prefix-table c = search needs
+
+slice-aggregate-read-digits : tie.Need-slice-aggregate-read-digits
+slice-aggregate-read-digits c = sym (length-take-le _ _ (c .before .shorter .ensures .1))
+
+read-digits-requires : tie.Need-read-digits-requires
+read-digits-requires c κs = le-trans (le-of-eq (length-take-le _ _ (c .before .shorter .ensures .1))) (c .before .shorter .ensures .0)
+
+-- what came back is as long as what was lent
+long : (c : tie.After-read-digits) → length (c .read-digits .last .1 .0) ≡ c .before .before .shorter .result
+long c = c .read-digits .kept .1 .0 ∙ length-take-le _ _ (c .before .before .shorter .ensures .1)
+
+array-share-prefix-table : tie.Need-array-share-prefix-table
+array-share-prefix-table c = part-inside (c .before .read-digits .last .1 .0) _ _ (long (c .before))
+
+slice-aggregate-show-table : tie.Need-slice-aggregate-show-table
+slice-aggregate-show-table c =
+    let p = c .before .before in
+    sym (ap length (part-is (p .read-digits .last .1 .0) _ _ (long p)) ∙ long p)
+
+show-table-requires : tie.Need-show-table-requires
+show-table-requires c κs = search needs
+
+returns : tie.Need-returns
+returns c = search needs
+
+pub show-line-spec : {M : Type 1} → statement M
+show-line-spec =
+    tie.close
+    (tie.spec
+    shorter-requires
+    array-borrow-prefix-table
+    slice-aggregate-read-digits
+    read-digits-requires
+    array-share-prefix-table
+    slice-aggregate-show-table
+    show-table-requires
+    returns)

@@ -1,0 +1,163 @@
+// Reads truth tables from standard input, a line of 0s and 1s each, and writes the spectrum of each and the table that its inverse gives.
+// Then it writes the inverse of some values that are given here.
+use libc::STDOUT_FILENO;
+use refusals::Refusal;
+use refusals::Written;
+ghost use Prim.Native.Nat.{_≤_};
+ghost use lib.ListN.{length};
+
+// The smaller of two lengths.
+fn shorter(a: usize, b: usize) -> usize
+    ensures { λ r. ⌜ (r ≤ a) × (r ≤ b) ⌝ }
+{
+    if a < b { a } else { b }
+}
+
+// Where the line that starts at `from` ends.
+fn line_end(text: &[u8], from: usize) -> usize
+    requires { ⌜ from ≤ length (now text) ⌝ }
+    ensures { λ r. ⌜ (from ≤ r) × (r ≤ length (now (text .entry))) ⌝ }
+{
+    let mut at = from;
+    while at < text.len() {
+        if text[at] == b'\n' {
+            return at;
+        }
+        at += 1;
+    }
+    at
+}
+
+// The largest width whose tables are no longer than this; 0 where there is none, and 8 at most.
+fn width_of(length: usize) -> u32
+    ensures { λ r. ⌜ r ≤ 8 ⌝ }
+{
+    let mut n: u32 = 0;
+    while n < 8 {
+        if length < boolean::power_of_two(n + 1) {
+            return n;
+        }
+        n += 1;
+    }
+    n
+}
+
+// A digit's value; what is no digit has a value above 1 too.
+fn digit(byte: u8) -> u8 {
+    if byte < b'0' { 255 } else { byte - b'0' }
+}
+
+fn read_digits(text: &[u8], table: &mut [u8])
+    requires { ⌜ length (now table) ≤ length (now text) ⌝ }
+{
+    let mut x = 0;
+    while x < table.len() {
+        table[x] = digit(text[x]);
+        x += 1;
+    }
+}
+
+fn write_refused(e: Refusal) {
+    io::write_all(STDOUT_FILENO, b"refused ");
+    io::print_decimal(STDOUT_FILENO, refusals::number_of(e) as u64);
+    io::write_all(STDOUT_FILENO, b"\n");
+}
+
+fn write_value(v: i32) {
+    if v < 0 {
+        io::write_all(STDOUT_FILENO, b" -");
+    } else {
+        io::write_all(STDOUT_FILENO, b" ");
+    }
+    io::print_decimal(STDOUT_FILENO, boolean::magnitude(v) as u64);
+}
+
+fn write_spectrum(values: &[i32]) {
+    io::write_all(STDOUT_FILENO, b"spectrum");
+    let mut w = 0;
+    while w < values.len() {
+        write_value(values[w]);
+        w += 1;
+    }
+    io::write_all(STDOUT_FILENO, b"\n");
+}
+
+fn write_table(table: &[u8]) {
+    io::write_all(STDOUT_FILENO, b"function ");
+    let mut x = 0;
+    while x < table.len() {
+        io::print_decimal(STDOUT_FILENO, table[x] as u64);
+        x += 1;
+    }
+    io::write_all(STDOUT_FILENO, b"\n");
+}
+
+// The function that has the values, or the refusal.
+fn show_function(n: u32, values: &[i32]) {
+    let mut table = [0u8; 256];
+    let size = shorter(values.len(), 256);
+    let answer = walsh::inverse_spectrum(n, values, &mut table[..size]);
+    let Written::Done = answer else {
+        if let Written::Declined(e) = answer {
+            write_refused(e);
+        }
+        return;
+    };
+    write_table(&table[..size]);
+}
+
+// A spectrum, and the function that has it.
+fn show_spectrum(n: u32, values: &[i32]) {
+    write_spectrum(values);
+    show_function(n, values);
+}
+
+// The spectrum of a truth table and the function that has it, or the refusal.
+fn show_table(table: &[u8]) {
+    let mut values = [0i32; 256];
+    let size = shorter(table.len(), 256);
+    let n = width_of(table.len());
+    let answer = walsh::spectrum(n, table, &mut values[..size]);
+    let Written::Done = answer else {
+        if let Written::Declined(e) = answer {
+            write_refused(e);
+        }
+        return;
+    };
+    show_spectrum(n, &values[..size]);
+}
+
+// The same of a line of digits. More than 512 of them are refused as 512 are.
+fn show_line(text: &[u8]) {
+    let mut table = [0u8; 512];
+    let length = shorter(text.len(), 512);
+    read_digits(text, &mut table[..length]);
+    show_table(&table[..length]);
+}
+
+fn show_lines(text: &[u8]) {
+    let mut from = 0;
+    while from < text.len() {
+        let end = line_end(text, from);
+        show_line(&text[from..end]);
+        from = end + 1;
+    }
+}
+
+// Document 01's cases 4, 5 and 6, values that no sum could hold, and a width and a length that are refused.
+fn show_values() {
+    show_function(2, &[2i32, 2, 2, -2]);
+    show_function(2, &[2i32, 2, 2, 2]);
+    show_function(1, &[0i32, 0]);
+    show_function(1, &[2147483647i32, -2147483648]);
+    show_function(2, &[6i32, 2, 2, -2]);
+    show_function(0, &[1i32]);
+    show_function(2, &[2i32, 2]);
+}
+
+fn main() {
+    let mut buffer = io::large_buffer();
+    let count = io::read_full(0, &mut buffer);
+    show_lines(&buffer[..count]);
+    show_values();
+}

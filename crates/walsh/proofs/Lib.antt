@@ -1,0 +1,7 @@
+pub mod Numbers
+pub mod Step
+pub mod Sum
+pub mod Turns
+pub mod SpectrumHalves
+pub mod TransformHalves
+pub mod Inverting

@@ -1,0 +1,74 @@
+-- The number of a function of three inputs: read from the highest input down, one bit at a time.
+-- Assumes nothing.
+use mathlib.Core.Path.{_≡_, sym, ap, ap₂, _∙_, subst}
+use mathlib.Core.List.{List}
+use Prim.Native.Nat.{ℕ, zero, suc, _+_, _-_, _*_, _/_, _%_, _^_, _≤_, _<_}
+use native.Mathlib.Nat.{le-refl, le-trans, div-div-eq-div-mul}
+use native.Mathlib.Omega.{arith}
+use lib.IntN.{ℤ}
+use lib.Pow.{pow-mono}
+use Rattle.boolean.specs.Functions.{at, valueAt, walsh}
+use Rattle.boolean.proofs.Walsh.{walsh-cong, walsh-le}
+use Rattle.boolean.proofs.Words.{word, word-is}
+use Rattle.walsh.specs.Work.{numbered, Spectra}
+
+-- t has the values of the table from x on, up to the eighth
+pub record Numbered (table : List ℕ) (t x : ℕ) : Type 0 where
+  pub within : x ≤ 8
+  pub small : t < 2 ^ (8 - x)
+  pub bits : (k : ℕ) → x + k < 8 → t / 2 ^ k % 2 ≡ at table (x + k)
+
+pub numbered-none : (table : List ℕ) → Numbered table 0 8
+numbered-none table = record { within = le-refl 8; small = le-refl 1; bits = λ k h. absurd (omega arith) }
+
+-- the lowest bit of 2t + b, and its others
+bit-zero : (t b : ℕ) → b < 2 → (2 * t + b) / 2 ^ 0 % 2 ≡ b
+bit-zero t b h = omega arith
+
+bit-suc : (t b k : ℕ) → b < 2 → (2 * t + b) / 2 ^ suc k % 2 ≡ t / 2 ^ k % 2
+bit-suc t b k h =
+    let half : (2 * t + b) / 2 ≡ t = omega arith in
+    let e : 2 ^ suc k ≡ 2 * 2 ^ k = omega arith in
+    ap (λ (m : ℕ). (2 * t + b) / m % 2) e
+    ∙ ap (λ (m : ℕ). m % 2) (sym (div-div-eq-div-mul (2 * t + b) 2 (2 ^ k)))
+    ∙ ap (λ (m : ℕ). m / 2 ^ k % 2) half
+
+-- one more value, from the front
+module _ (table : List ℕ) (t x b : ℕ) (s : Numbered table t x) (lt : 0 < x) (bit : b < 2) (e : b ≡ at table (x - 1)) where
+  more-bits : (k : ℕ) → x - 1 + k < 8 → (2 * t + b) / 2 ^ k % 2 ≡ at table (x - 1 + k)
+  more-bits zero h = bit-zero t b bit ∙ e ∙ ap (at table) (let j : x - 1 ≡ x - 1 + 0 = omega arith in j)
+  more-bits (suc k) h = bit-suc t b k bit ∙ s .bits k (omega arith) ∙ ap (at table) (let j : x + k ≡ x - 1 + suc k = omega arith in j)
+
+  twice : 2 ^ (8 - (x - 1)) ≡ 2 * 2 ^ (8 - x)
+  twice =
+      let d : 8 - (x - 1) ≡ suc (8 - x) = omega (arith, s .within) in
+      ap (λ (j : ℕ). 2 ^ j) d ∙ omega arith
+
+  pub numbered-more : Numbered table (2 * t + b) (x - 1)
+  numbered-more = record {
+    within = omega (arith, s .within);
+    small = omega (arith, twice, s .small, bit);
+    bits = more-bits;
+  }
+
+-- what is there so far has room for one bit more
+pub numbered-small : (table : List ℕ) (t x : ℕ) → Numbered table t x → 0 < x → t < 128
+numbered-small table t x s lt = le-trans (s .small) (pow-mono {j = 7} (omega arith))
+
+-- at the end all eight are there
+pub numbered-whole : (table : List ℕ) (t x : ℕ) → Numbered table t x → x ≡ 0 → (t < 256) × ((k : ℕ) → k < 8 → numbered t k ≡ at table k)
+unfolding numbered
+numbered-whole table t x s e = whole (subst (Numbered table t) e s)
+  where
+    whole : Numbered table t 0 → (t < 256) × ((k : ℕ) → k < 8 → t / 2 ^ k % 2 ≡ at table k)
+    whole s = (s .small, λ k h. let j : 0 + k ≡ k = omega arith in s .bits k (omega arith) ∙ ap (at table) j)
+
+-- what the fixed table has for a function that has the number t
+pub looked-up : (fixed : List ℤ) (f : ℕ → ℕ) (t w : ℕ) → Spectra fixed → t < 256 → ((x : ℕ) → x < 8 → numbered t x ≡ f x) → w < 8
+    → word (valueAt fixed (t * 8 + w)) ≡ walsh 3 f w
+looked-up fixed f t w s small e h =
+    let row : (t * 8 + w) / 8 ≡ t = omega arith in
+    let place : (t * 8 + w) % 8 ≡ w = omega arith in
+    let is : valueAt fixed (t * 8 + w) ≡ walsh 3 f w =
+    s .rule (t * 8 + w) (omega arith) ∙ ap₂ (λ (a b : ℕ). walsh 3 (numbered a) b) row place ∙ walsh-cong 3 (numbered t) f w e in
+    ap word is ∙ word-is (walsh 3 f w) (omega (arith, walsh-le 3 f w))

@@ -1,0 +1,124 @@
+-- The step of a transform that works on halves: the list that each call is lent, and what the butterfly leaves.
+-- Assumes nothing.
+use mathlib.Core.Path.{_≡_, sym, ap, ap₂, _∙_, subst}
+use mathlib.Core.List.{List, [], _∷_, _++_, append-nil}
+use Prim.Native.Nat.{ℕ, zero, suc, _+_, _-_, _/_, _^_, _≤_, _<_}
+use native.Mathlib.Nat.{two-pow-succ}
+use native.Mathlib.Decide.{decLt}
+use native.Mathlib.Omega.{arith}
+use lib.ListN.{length, getD, take, drop, length-append, length-drop, List·getD-append, List·getD-eq-default, drop-of-length-le}
+use lib.Seq.{length-take-le, take-all, take-at, drop-at, getD-take, getD-drop, getD-append-add}
+use lib.IntN.{ℤ, pos, _+ℤ_, _-ℤ_, natAbs}
+use borrow.Rule.Slice.PartMut.{putMid}
+use Rattle.boolean.specs.Sums.{listBelow}
+use Rattle.boolean.specs.Functions.{valueAt}
+use Rattle.boolean.proofs.Lists.{length-listBelow, getD-listBelow, list-is}
+use Rattle.walsh.specs.Work.{Halves, Crossed}
+
+-- the upper part of a list of two halves, as it is handed on
+pub upper-part : {A : Type 0} (h : ℕ) (l : List A) → take (length l - h) (drop h l) ≡ drop h l
+upper-part h l = take-all (length l - h) (drop h l) (omega (arith, length-drop h l))
+
+-- an array of two halves of h each: the lower half was lent and came back as g₁'s values, then the upper as g₂'s
+module _ (h : ℕ) (out : List ℤ) (long : length out ≡ h + h) (g₁ : ℕ → ℤ) (l₁ : List ℤ) (e₁ : l₁ ≡ listBelow h g₁) where
+  long₁ : length l₁ ≡ h
+  long₁ = ap length e₁ ∙ length-listBelow h g₁
+
+  abbrev pub after-lower : List ℤ
+  after-lower = l₁ ++ drop h out
+
+  length-after-lower : length after-lower ≡ h + h
+  length-after-lower = omega (arith, length-append l₁ (drop h out), length-drop h out, long₁)
+
+  -- the upper half is still what it was
+  pub upper-kept : take (length after-lower - h) (drop h after-lower) ≡ drop h out
+  upper-kept = upper-part h after-lower ∙ drop-at l₁ (drop h out) h long₁
+
+  module _ (g₂ : ℕ → ℤ) (l₂ : List ℤ) (e₂ : l₂ ≡ listBelow h g₂) where
+    long₂ : length l₂ ≡ h
+    long₂ = ap length e₂ ∙ length-listBelow h g₂
+
+    abbrev pub after-upper : List ℤ
+    after-upper = putMid h (length after-lower - h) after-lower l₂
+
+    joined : after-upper ≡ l₁ ++ l₂
+    joined =
+        ap₂ (λ (x y : List ℤ). x ++ (l₂ ++ y)) (take-at l₁ (drop h out) h long₁)
+        (drop-of-length-le (drop h after-lower) {i = length after-lower - h} (omega (arith, length-drop h after-lower)))
+        ∙ ap (λ (x : List ℤ). l₁ ++ x) (append-nil l₂)
+
+    pub length-after-upper : length after-upper ≡ h + h
+    length-after-upper = ap length joined ∙ omega (arith, length-append l₁ l₂, long₁, long₂)
+
+    at-lower : (k : ℕ) → k < h → valueAt after-upper k ≡ g₁ k
+    at-lower k lt =
+        ap (λ (l : List ℤ). valueAt l k) joined ∙ List·getD-append l₁ l₂ (pos 0) k (omega (arith, long₁))
+        ∙ ap (λ (l : List ℤ). valueAt l k) e₁ ∙ getD-listBelow h g₁ k (pos 0) lt
+
+    at-upper : (k : ℕ) → k < h → valueAt after-upper (h + k) ≡ g₂ k
+    at-upper k lt =
+        ap (λ (l : List ℤ). valueAt l (h + k)) joined ∙ ap (λ (j : ℕ). valueAt (l₁ ++ l₂) (j + k)) (sym long₁)
+        ∙ getD-append-add l₁ l₂ k (pos 0) ∙ ap (λ (l : List ℤ). valueAt l k) e₂ ∙ getD-listBelow h g₂ k (pos 0) lt
+
+    -- what is shown of g₁ and of g₂ holds of every entry
+    pub halves : ((k : ℕ) → k < h → natAbs (g₁ k) ≤ 2 ^ 29) → ((k : ℕ) → k < h → natAbs (g₂ k) ≤ 2 ^ 29) → Halves h after-upper
+    halves small₁ small₂ = record { size = length-after-upper; small = λ k. go k (decLt k h) (decLt k (h + h)) }
+      where
+        go : (k : ℕ) → Dec (k < h) → Dec (k < h + h) → natAbs (valueAt after-upper k) ≤ 2 ^ 29
+        go k (yes lt) d = subst (λ (z : ℤ). natAbs z ≤ 2 ^ 29) (sym (at-lower k lt)) (small₁ k lt)
+        go k (no ge) (yes lt) =
+            let e : h + (k - h) ≡ k = omega arith in
+            subst (λ (j : ℕ). natAbs (valueAt after-upper j) ≤ 2 ^ 29) e
+            (subst (λ (z : ℤ). natAbs z ≤ 2 ^ 29) (sym (at-upper (k - h) (omega arith))) (small₂ (k - h) (omega arith)))
+        go k (no ge) (no past) =
+            subst (λ (z : ℤ). natAbs z ≤ 2 ^ 29) (sym (List·getD-eq-default after-upper (pos 0) (omega (arith, length-after-upper)))) (omega arith)
+
+    -- the butterfly makes the values of G of them, where the halving rule says so
+    pub crossed-is : (new : List ℤ) → length new ≡ length after-upper → Crossed h after-upper new → (G : ℕ → ℤ)
+        → ((k : ℕ) → k < h → G k ≡ g₁ k +ℤ g₂ k) → ((k : ℕ) → k < h → G (h + k) ≡ g₁ k -ℤ g₂ k) → new ≡ listBelow (h + h) G
+    crossed-is new kept crossed G low high =
+        list-is (pos 0) (h + h) G new (omega (arith, kept, length-after-upper)) (λ k lt. entry k lt (decLt k h))
+      where
+        in-lower : (k : ℕ) → k < h → valueAt new k ≡ G k
+        in-lower k lt = crossed .sums k lt ∙ ap₂ (λ (x y : ℤ). x +ℤ y) (at-lower k lt) (at-upper k lt) ∙ sym (low k lt)
+
+        in-upper : (k : ℕ) → k < h → valueAt new (h + k) ≡ G (h + k)
+        in-upper k lt = crossed .differences k lt ∙ ap₂ (λ (x y : ℤ). x -ℤ y) (at-lower k lt) (at-upper k lt) ∙ sym (high k lt)
+
+        entry : (k : ℕ) → k < h + h → Dec (k < h) → valueAt new k ≡ G k
+        entry k lt (yes l) = in-lower k l
+        entry k lt (no ge) =
+            let e : h + (k - h) ≡ k = omega arith in
+            subst (λ (j : ℕ). valueAt new j ≡ G j) e (in-upper (k - h) (omega arith))
+
+-- a list of 2^(n+1) entries in two halves
+module _ {A : Type 0} (n : ℕ) (l : List A) (size : length l ≡ 2 ^ suc n) where
+  pub half-is : length l / 2 ≡ 2 ^ n
+  half-is = omega (arith, size, two-pow-succ n)
+
+  pub two-halves : length l ≡ length l / 2 + length l / 2
+  two-halves = omega (arith, size, two-pow-succ n)
+
+  pub lower-length : length (take (length l / 2) l) ≡ length l / 2
+  lower-length = length-take-le (length l / 2) l (omega arith)
+
+  pub upper-length : length (drop (length l / 2) l) ≡ length l / 2
+  upper-length = omega (arith, length-drop (length l / 2) l, two-halves)
+
+-- what holds of every entry, past the end too, holds of every entry of a part
+pub take-entries : {A : Type 0} (d : A) (P : A → Type 0) (h : ℕ) (l : List A) → P d → ((k : ℕ) → P (getD l k d)) → (k : ℕ) → P (getD (take h l) k d)
+take-entries d P zero l p all k = p
+take-entries d P (suc h) [] p all k = p
+take-entries d P (suc h) (x ∷ l) p all zero = all 0
+take-entries d P (suc h) (x ∷ l) p all (suc k) = take-entries d P h l p (λ j. all (suc j)) k
+
+pub drop-entries : {A : Type 0} (d : A) (P : A → Type 0) (h : ℕ) (l : List A) → ((k : ℕ) → P (getD l k d)) → (k : ℕ) → P (getD (drop h l) k d)
+drop-entries d P h l all k = subst P (sym (getD-drop h l k d)) (all (h + k))
+
+-- the lower and the upper half of a list, as functions
+module _ {A : Type 0} (d : A) (h : ℕ) (l : List A) (x : ℕ) where
+  pub lower-entry : x < h → getD l x d ≡ getD (take h l) x d
+  lower-entry lt = sym (getD-take h l x d lt)
+
+  pub upper-entry : (k : ℕ) → h ≡ k → getD l (k + x) d ≡ getD (drop h l) x d
+  upper-entry k e = ap (λ (j : ℕ). getD l (j + x) d) (sym e) ∙ sym (getD-drop h l x d)

@@ -1,0 +1,74 @@
+-- `walsh::all_within` meets its contract: from the index on, the values have the answer that all of them have. Assumes nothing.
+use Prim.Native.Nat.{ℕ, _-_}
+use mathlib.Core.Path.{_≡_, ap, _∙_}
+use mathlib.Core.Bool.{Bool}
+use native.Mathlib.Omega.{arith}
+use borrow.Author.Needs.{needs}
+use borrow.Author.Tests.{le-leb, lt-leb}
+use lib.Dec.{leb}
+use lib.IntN.{ℤ, pos, natAbs}
+use lib.ListN.{length}
+use Rattle.boolean.specs.Functions.{valueAt}
+use Rattle.boolean.proofs.Words.{word-told}
+use Rattle.boolean.proofs.Every.{Rest, rest-all, rest-next, rest-fails, rest-none}
+use Rattle.walsh.proofs.all_within.Statement.{statement}
+use Rattle.walsh.proofs.all_within.Tie as tie
+
+abbrev within : ℕ → ℤ → Bool
+within limit v = leb (natAbs v) limit
+
+abbrev Inv-loop : tie.InvT-loop
+Inv-loop values limit k₀ k = Rest (within limit) (pos 0) values k
+
+abbrev μ-loop : tie.MeasureT-loop
+μ-loop values limit k₀ k = length values - k
+
+-- the value that is read, and its magnitude
+abbrev value : tie.After-magnitude Inv-loop μ-loop → ℤ
+value c = let at-loop = c .before .before .before in valueAt (at-loop .before .args .values .now) (at-loop .loop .k)
+
+read : (c : tie.After-magnitude Inv-loop μ-loop) → c .magnitude .result ≡ natAbs (value c)
+read c = c .magnitude .ensures ∙ ap natAbs (word-told (value c) (c .before .magnitude-arg .given))
+
+loop-holds : tie.Need-loop-holds Inv-loop μ-loop
+loop-holds c = rest-all _ _ _
+
+mul-magnitude : tie.Need-mul-magnitude Inv-loop μ-loop
+mul-magnitude c = search needs
+
+shared-slice-copy-out-magnitude : tie.Need-shared-slice-copy-out-magnitude Inv-loop μ-loop
+shared-slice-copy-out-magnitude c = search needs
+
+magnitude-requires : tie.Need-magnitude-requires Inv-loop μ-loop
+magnitude-requires c κs = search needs
+
+returns : tie.Need-returns Inv-loop μ-loop
+returns c = rest-fails _ _ (c .before .before .before .before .loop .inv) (omega arith) (lt-leb (natAbs (value (c .before))) (c .before .before .before .before .before .args .limit) (omega (arith, read (c .before), c .if1 .taken)))
+
+add-k : tie.Need-add-k Inv-loop μ-loop
+add-k c = search needs
+
+loop-less : tie.Need-loop-less Inv-loop μ-loop
+loop-less c = search needs
+
+loop-again : tie.Need-loop-again Inv-loop μ-loop
+loop-again c = rest-next _ _ (c .before .before .before .before .loop .inv) (omega arith) (le-leb (natAbs (value (c .before))) (c .before .before .before .before .before .args .limit) (omega (arith, read (c .before), c .if1 .left)))
+
+returns-2 : tie.Need-returns-2 Inv-loop μ-loop
+returns-2 c = rest-none _ _ (c .before .loop .inv) (omega arith)
+
+pub all-within-spec : {M : Type 1} → statement M
+all-within-spec =
+    tie.close
+    (tie.spec
+    Inv-loop
+    μ-loop
+    loop-holds
+    mul-magnitude
+    shared-slice-copy-out-magnitude
+    magnitude-requires
+    returns
+    add-k
+    loop-less
+    loop-again
+    returns-2)

@@ -1,0 +1,115 @@
+-- `walsh::inverse_spectrum` meets its contract: the width and the lengths, the size of the values, then the transform. Assumes nothing.
+use mathlib.Core.List.{[]}
+use mathlib.Core.Path.{_≡_, sym, ap, _∙_}
+use Prim.Native.Nat.{_^_}
+use native.Mathlib.Nat.{le-trans}
+use borrow.Author.Needs.{needs}
+use lib.Dec.{lit≤}
+use lib.ListN.{length}
+use lib.Seq.{length-take-le}
+use Rattle.boolean.specs.Sums.{listBelow}
+use Rattle.boolean.specs.Functions.{valueAt, inverse}
+use Rattle.refusals.specs.Table.{first, replyAfter, contentAfter}
+use Rattle.refusals.specs.declared.Checked.{Checked}
+use Rattle.refusals.specs.declared.Checked.the-variants.{Accepted}
+use Rattle.refusals.proofs.Checks.{fails, holds, first-refused, reply-refused, content-refused}
+use Rattle.walsh.specs.Calls.{inverseLengths, functionCheck, inverseChecks}
+use Rattle.walsh.proofs.Inverting.{no-function-found, outside, inverse-few, inverse-size, inverse-short, inverse-decided, invertible}
+use Rattle.walsh.proofs.inverse_spectrum.Statement.{statement}
+use Rattle.walsh.proofs.inverse_spectrum.Tie as tie
+
+check-lengths-requires : tie.Need-check-lengths-requires
+check-lengths-requires c κs = search needs
+
+enum-known-e : tie.Need-enum-known-e
+enum-known-e c = search needs
+
+returns : tie.Need-returns
+unfolding inverseChecks
+returns c =
+    let p = c .before .before .before in
+    let a = p .before .before .args in
+    let h = first-refused (inverseLengths (a .n) (length (a .values .now)) (length (a .table .now))) (functionCheck (a .n) (a .values .now))
+    (sym (p .check-lengths .ensures) ∙ c .before .e .given .1) in
+    (reply-refused h [], content-refused h _ _)
+
+enum-told : tie.Need-enum-told
+enum-told c = search needs
+
+-- the width and the lengths were accepted
+lengths : (c : tie.After-enum-told) →
+    let a = c .before .before .before .before .args in
+    first (inverseLengths (a .n) (length (a .values .now)) (length (a .table .now))) ≡ Accepted
+lengths c = sym (c .before .before .check-lengths .ensures) ∙ c .enum-told .given .1
+
+power-of-two-requires : tie.Need-power-of-two-requires
+power-of-two-requires c κs =
+    let a = c .before .before .before .before .args in
+    le-trans (inverse-few (a .n) (a .values .now) (a .table .now) (lengths c)) (lit≤ tt)
+
+cast-all-within : tie.Need-cast-all-within
+cast-all-within c = search needs
+
+all-within-requires : tie.Need-all-within-requires
+all-within-requires c κs = search needs
+
+returns-2 : tie.Need-returns-2
+returns-2 c =
+    let power = c .before .before in
+    let told = power .before in
+    let a = told .before .before .before .before .args in
+    let h = inverse-decided (a .n) (a .values .now) (a .table .now) (lengths told)
+    ∙ no-function-found (a .n) (a .values .now)
+    (outside (a .n) (a .values .now) (inverse-size (a .n) (a .values .now) (a .table .now) (lengths told)) (power .power-of-two .result) (power .power-of-two .ensures .0)
+    (fails (c .before .all-within .ensures) (c .if1 .taken))) in
+    (reply-refused h [], content-refused h _ _)
+
+array-borrow-prefix-work : tie.Need-array-borrow-prefix-work
+array-borrow-prefix-work c =
+    let told = c .before .before .before in
+    let a = told .before .before .before .before .args in
+    inverse-short (a .n) (a .values .now) (a .table .now) (lengths told)
+
+slice-aggregate-invert : tie.Need-slice-aggregate-invert
+slice-aggregate-invert c =
+    let told = c .before .before .before .before in
+    let a = told .before .before .before .before .args in
+    sym (length-take-le _ _ (inverse-short (a .n) (a .values .now) (a .table .now) (lengths told)))
+
+invert-requires : tie.Need-invert-requires
+invert-requires c κs =
+    let else = c .before .before in
+    let power = else .before .before in
+    let told = power .before in
+    let a = told .before .before .before .before .args in
+    invertible (a .n) (a .values .now) (a .table .now) (lengths told) (power .power-of-two .result) (power .power-of-two .ensures .0)
+    (holds (else .before .all-within .ensures) (else .if1 .left)) _ (inverse-short (a .n) (a .values .now) (a .table .now) (lengths told))
+
+same-length : tie.Need-same-length
+same-length c = search needs
+
+returns-3 : tie.Need-returns-3
+returns-3 c =
+    let inverted = c .before .before .before in
+    let told = inverted .before .before .before .before .before .before in
+    let a = told .before .before .before .before .args in
+    let h = sym (inverse-decided (a .n) (a .values .now) (a .table .now) (lengths told)) in
+    (inverted .invert .ensures .0 ∙ ap (λ (k : Checked). replyAfter k []) h, inverted .invert .ensures .1 .0 ∙ ap (λ (k : Checked). contentAfter k (listBelow (2 ^ a .n) (λ x. inverse (a .n) (valueAt (a .values .now)) x)) (a .table .now)) h)
+
+pub inverse-spectrum-spec : {M : Type 1} → statement M
+inverse-spectrum-spec =
+    tie.close
+    (tie.spec
+    check-lengths-requires
+    enum-known-e
+    returns
+    enum-told
+    power-of-two-requires
+    cast-all-within
+    all-within-requires
+    returns-2
+    array-borrow-prefix-work
+    slice-aggregate-invert
+    invert-requires
+    same-length
+    returns-3)

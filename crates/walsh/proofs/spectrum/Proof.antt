@@ -1,0 +1,74 @@
+-- `walsh::spectrum` meets its contract: what the checks found says which case it is, in the reply and in the array. Assumes nothing.
+use mathlib.Core.List.{List, []}
+use mathlib.Core.Path.{_≡_, _∙_, sym}
+use Prim.Native.Nat.{ℕ, _^_}
+use borrow.Author.Needs.{needs}
+use borrow.Author.Tests.{eqb-true}
+use lib.IntN.{ℤ}
+use lib.ListN.{length}
+use Rattle.refusals.specs.Table.{first, tableChecks}
+use Rattle.refusals.specs.declared.Checked.the-variants.{Accepted}
+use Rattle.refusals.proofs.Checks.{passed, accepted-after, table, reply-refused, reply-accepted, content-refused, content-accepted}
+use Rattle.walsh.specs.Calls.{spectrumChecks}
+use Rattle.walsh.specs.Work.{Ready}
+use Rattle.walsh.proofs.spectrum.Statement.{statement}
+use Rattle.walsh.proofs.spectrum.Tie as tie
+
+check-spectrum-requires : tie.Need-check-spectrum-requires
+check-spectrum-requires c κs = search needs
+
+enum-known-e : tie.Need-enum-known-e
+enum-known-e c = search needs
+
+returns : tie.Need-returns
+returns c =
+    let p = c .before .before .before in
+    let h = sym (p .check-spectrum .ensures) ∙ c .before .e .given .1 in
+    (reply-refused h [], content-refused h _ _)
+
+enum-told : tie.Need-enum-told
+enum-told c = search needs
+
+-- accepted: the table is one, and the array is as long
+ready : (n : ℕ) (table : List ℕ) (out : List ℤ) → first (spectrumChecks n table (length out)) ≡ Accepted → Ready n table out
+unfolding spectrumChecks
+ready n values out h = record {
+  read = table n values _ h;
+  room = eqb-true (length out) (2 ^ n) (passed _ (accepted-after (tableChecks n values) _ h) .0);
+}
+
+accepted : (c : tie.After-enum-told) →
+    let a = c .before .before .before .before .args in
+    first (spectrumChecks (a .n) (a .table .now) (length (a .out .now))) ≡ Accepted
+accepted c = sym (c .before .before .check-spectrum .ensures) ∙ c .enum-told .given .1
+
+spectra-requires : tie.Need-spectra-requires
+spectra-requires c κs = search needs
+
+descend-requires : tie.Need-descend-requires
+descend-requires c κs =
+    let told = c .before .before .before in
+    let a = told .before .before .before .before .args in
+    (ready (a .n) (a .table .now) (a .out .now) (accepted told), c .before .before .spectra .ensures)
+
+same-length : tie.Need-same-length
+same-length c = search needs
+
+returns-2 : tie.Need-returns-2
+returns-2 c =
+    let p = c .before in
+    let h = accepted (p .before .before .before .before) in
+    (reply-accepted h [], p .descend .ensures ∙ content-accepted h _ _)
+
+pub spectrum-spec : {M : Type 1} → statement M
+spectrum-spec =
+    tie.close
+    (tie.spec
+    check-spectrum-requires
+    enum-known-e
+    returns
+    enum-told
+    spectra-requires
+    descend-requires
+    same-length
+    returns-2)

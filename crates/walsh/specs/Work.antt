@@ -1,0 +1,47 @@
+-- What the functions behind the spectrum calls ask and leave.
+use Prim.Native.Nat.{ℕ, _+_, _*_, _/_, _%_, _^_, _≤_, _<_}
+use mathlib.Core.Path.{_≡_}
+use mathlib.Core.List.{List}
+use lib.ListN.{length}
+use lib.IntN.{ℤ, _+ℤ_, _-ℤ_, natAbs}
+use Rattle.boolean.specs.Functions.{valueAt, walsh}
+use Rattle.refusals.specs.Table.{Table}
+
+-- the function of three inputs with the number t: its value at x is bit x of t, counted from 0
+unfoldable pub numbered : ℕ → ℕ → ℕ
+numbered t x = t / 2 ^ x % 2
+
+-- the fixed table's rule: entry 8t + w is the spectrum value at w of the function with the number t
+pub record Spectra (fixed : List ℤ) : Type 0 where
+  pub rule : (k : ℕ) → k < 2048 → valueAt fixed k ≡ walsh 3 (numbered (k / 8)) (k % 8)
+
+-- an accepted truth table, and an array that is as long
+pub record Ready (n : ℕ) (table : List ℕ) (out : List ℤ) : Type 0 where
+  pub read : Table n table
+  pub room : length out ≡ 2 ^ n
+
+-- two halves of h numbers, none so large that a sum of two would not fit
+pub record Halves (h : ℕ) (values : List ℤ) : Type 0 where
+  pub size : length values ≡ h + h
+  pub small : (k : ℕ) → natAbs (valueAt values k) ≤ 2 ^ 29
+
+-- the sums of the two halves in the lower half, and their differences in the upper half
+pub record Crossed (h : ℕ) (old new : List ℤ) : Type 0 where
+  pub sums : (k : ℕ) → k < h → valueAt new k ≡ valueAt old k +ℤ valueAt old (h + k)
+  pub differences : (k : ℕ) → k < h → valueAt new (h + k) ≡ valueAt old k -ℤ valueAt old (h + k)
+
+-- 2^n numbers, so small that no sum of all of them is too large
+pub record Summable (n : ℕ) (values : List ℤ) : Type 0 where
+  pub few : n ≤ 8
+  pub size : length values ≡ 2 ^ n
+  pub bound : ℕ
+  pub small : (k : ℕ) → natAbs (valueAt values k) ≤ bound
+  pub total : 2 ^ n * bound ≤ 2 ^ 29
+
+-- what the inverse works on: 2^n values between −2^n and 2^n, and two arrays as long
+pub record Invertible (n : ℕ) (values work : List ℤ) (table : List ℕ) : Type 0 where
+  pub few : n ≤ 8
+  pub size : length values ≡ 2 ^ n
+  pub work-size : length work ≡ 2 ^ n
+  pub room : length table ≡ 2 ^ n
+  pub small : (k : ℕ) → natAbs (valueAt values k) ≤ 2 ^ n

@@ -1,0 +1,268 @@
+// The Walsh spectrum of a truth table, and the truth table of a spectrum.
+mod fixed;
+
+use refusals::Checked;
+use refusals::Refusal;
+use refusals::Written;
+ghost use mathlib.Core.Path.{_≡_};
+ghost use mathlib.Core.Bool.{Bool};
+ghost use mathlib.Core.List.{[]};
+ghost use Prim.Native.Nat.{ℕ, _+_, _*_, _^_, _≤_, _<_};
+ghost use lib.Dec.{leb, eqb};
+ghost use lib.IntN.{natAbs};
+ghost use lib.ListN.{length};
+ghost use Rattle.boolean.specs.Bits.{dot};
+ghost use Rattle.boolean.specs.Sums.{sumBelow, listBelow, every};
+ghost use Rattle.boolean.specs.Functions.{at, valueAt, agreement, signBit, inverse};
+ghost use Rattle.boolean.specs.Functions as functions;
+ghost use Rattle.refusals.specs.Table.{first, replyAfter, contentAfter, written, Table};
+ghost use Rattle.walsh.specs.Calls.{spectrumChecks, inverseLengths, functionCheck, inverseChecks};
+ghost use Rattle.walsh.specs.Work.{numbered, Spectra, Ready, Halves, Crossed, Summable, Invertible};
+
+// A byte as an index.
+fn wide(x: u8) -> usize
+    ensures { λ r. ⌜ r ≡ x ⌝ }
+{
+    x as usize
+}
+
+// The number of a truth table of three inputs: its entry at x is bit x.
+fn number(table: &[u8]) -> usize
+    requires { ⌜ Table 3 (now table) ⌝ }
+    ensures { λ r. ⌜ (r < 256) × ((x : ℕ) → x < 8 → numbered r x ≡ at (now (table .entry)) x) ⌝ }
+{
+    let mut t: usize = 0;
+    let mut x: usize = 8;
+    while 0 < x {
+        x -= 1;
+        t = 2 * t + wide(table[x]);
+    }
+    t
+}
+
+// Three inputs: the fixed table is read.
+fn by_table(fixed: &[i32; 2048], table: &[u8], out: &mut [i32])
+    requires { ⌜ Ready 3 (now table) (now out) × Spectra (now fixed) ⌝ }
+    ensures { λ _. ⌜ now (out .exit) ≡ functions.spectrum 3 (at (now (table .entry))) ⌝ }
+{
+    let first = number(table) * 8;
+    let mut w: usize = 0;
+    while w < 8 {
+        out[w] = fixed[first + w];
+        w += 1;
+    }
+}
+
+// One spectrum value by its definition: +1 where the table equals w·x, and −1 elsewhere.
+fn value(table: &[u8], w: u32) -> i32
+    requires { ⌜ length (now table) ≤ 256 ⌝ }
+    ensures { λ r. ⌜ r ≡ sumBelow (length (now (table .entry))) (λ x. agreement (at (now (table .entry)) x) (dot w x)) ⌝ }
+{
+    let size = table.len() as u32;
+    let mut sum: i32 = 0;
+    let mut x: u32 = 0;
+    while x < size {
+        if table[x as usize] as u32 == boolean::dot(w, x) {
+            sum += 1;
+        } else {
+            sum -= 1;
+        }
+        x += 1;
+    }
+    sum
+}
+
+// Widths 1 and 2: the definition.
+fn by_definition(n: u32, table: &[u8], out: &mut [i32])
+    requires { ⌜ Ready n (now table) (now out) ⌝ }
+    ensures { λ _. ⌜ now (out .exit) ≡ functions.spectrum n (at (now (table .entry))) ⌝ }
+{
+    let size = table.len() as u32;
+    let mut w: u32 = 0;
+    while w < size {
+        out[w as usize] = value(table, w);
+        w += 1;
+    }
+}
+
+// Sums go to the lower half and differences to the upper.
+fn butterfly(values: &mut [i32], h: usize)
+    requires { ⌜ Halves h (now values) ⌝ }
+    ensures { λ _. ⌜ Crossed h (now (values .entry)) (now (values .exit)) ⌝ }
+{
+    let mut k: usize = 0;
+    while k < h {
+        let a = values[k];
+        let b = values[h + k];
+        values[k] = a + b;
+        values[h + k] = a - b;
+        k += 1;
+    }
+}
+
+// The spectrum of an accepted table, with the fixed table lent. Above width 3 the table and the array are cut in halves; the width
+// falls by one at each cut.
+pub fn descend(fixed: &[i32; 2048], n: u32, table: &[u8], out: &mut [i32])
+    requires { ⌜ Ready n (now table) (now out) × Spectra (now fixed) ⌝ }
+    ensures { λ _. ⌜ now (out .exit) ≡ functions.spectrum n (at (now (table .entry))) ⌝ }
+{
+    if n < 3 {
+        by_definition(n, table, out);
+    } else if n == 3 {
+        by_table(fixed, table, out);
+    } else {
+        let h = table.len() / 2;
+        descend(fixed, n - 1, &table[..h], &mut out[..h]);
+        descend(fixed, n - 1, &table[h..], &mut out[h..]);
+        butterfly(out, h);
+    }
+}
+
+// The fixed table, for callers that take many spectra.
+pub fn spectra() -> [i32; 2048]
+    ensures { λ r. ⌜ Spectra r ⌝ }
+{
+    fixed::spectra()
+}
+
+// The Walsh-Hadamard transform of any integers that are small enough, in place.
+pub fn transform(n: u32, values: &mut [i32])
+    requires { ⌜ Summable n (now values) ⌝ }
+    ensures { λ _. ⌜ now (values .exit) ≡ listBelow (2 ^ n) (λ w. functions.transform n (valueAt (now (values .entry))) w) ⌝ }
+{
+    if n != 0 {
+        let h = values.len() / 2;
+        transform(n - 1, &mut values[..h]);
+        transform(n - 1, &mut values[h..]);
+        butterfly(values, h);
+    }
+}
+
+// The checks of the spectrum call.
+fn check_spectrum(n: u32, table: &[u8], room: usize) -> Checked
+    ensures { λ r. ⌜ r ≡ first (spectrumChecks n (now (table .entry)) room) ⌝ }
+{
+    if let Checked::Refused(e) = refusals::check_table(n, table) {
+        return Checked::Refused(e);
+    }
+    if room != boolean::power_of_two(n) {
+        return Checked::Refused(Refusal::WrittenLength);
+    }
+    Checked::Accepted
+}
+
+// The spectrum of a truth table.
+pub fn spectrum(n: u32, table: &[u8], out: &mut [i32]) -> Written
+    ensures reply { λ r. ⌜ written r ≡ replyAfter (first (spectrumChecks n (now (table .entry)) (length (now (out .entry))))) [] ⌝ }
+    ensures content { λ r. ⌜ now (out .exit) ≡ contentAfter (first (spectrumChecks n (now (table .entry)) (length (now (out .entry))))) (functions.spectrum n (at (now (table .entry)))) (now (out .entry)) ⌝ }
+{
+    if let Checked::Refused(e) = check_spectrum(n, table, out.len()) {
+        return Written::Declined(e);
+    }
+    let fixed = spectra();
+    descend(&fixed, n, table, out);
+    Written::Done
+}
+
+// Whether no magnitude is above the limit.
+fn all_within(values: &[i32], limit: u32) -> bool
+    ensures { λ r. ⌜ r ≡ every (λ v. leb (natAbs v) limit) (now (values .entry)) ⌝ }
+{
+    let mut k = 0;
+    while k < values.len() {
+        if limit < boolean::magnitude(values[k]) {
+            return false;
+        }
+        k += 1;
+    }
+    true
+}
+
+// Whether every magnitude is the size.
+fn all_full(values: &[i32], size: u32) -> bool
+    ensures { λ r. ⌜ r ≡ every (λ v. eqb (natAbs v) size) (now (values .entry)) ⌝ }
+{
+    let mut k = 0;
+    while k < values.len() {
+        if boolean::magnitude(values[k]) != size {
+            return false;
+        }
+        k += 1;
+    }
+    true
+}
+
+// The values, copied.
+fn copy(values: &[i32], work: &mut [i32])
+    requires { ⌜ length (now work) ≡ length (now values) ⌝ }
+    ensures { λ _. ⌜ now (work .exit) ≡ now (values .entry) ⌝ }
+{
+    let mut k = 0;
+    while k < values.len() {
+        work[k] = values[k];
+        k += 1;
+    }
+}
+
+// The signs of the values as truth values.
+fn write_signs(values: &[i32], table: &mut [u8])
+    requires { ⌜ length (now table) ≡ length (now values) ⌝ }
+    ensures { λ _. ⌜ now (table .exit) ≡ listBelow (length (now (values .entry))) (λ x. signBit (valueAt (now (values .entry)) x)) ⌝ }
+{
+    let mut x = 0;
+    while x < values.len() {
+        table[x] = boolean::sign_bit(values[x]);
+        x += 1;
+    }
+}
+
+// The width and the lengths of the inverse call.
+fn check_lengths(n: u32, count: usize, room: usize) -> Checked
+    ensures { λ r. ⌜ r ≡ first (inverseLengths n count room) ⌝ }
+{
+    if !refusals::in_range(1, 8, n) {
+        return Checked::Refused(Refusal::InputWidth);
+    }
+    let size = boolean::power_of_two(n);
+    if count != size {
+        return Checked::Refused(Refusal::ReadLength);
+    }
+    if room != size {
+        return Checked::Refused(Refusal::WrittenLength);
+    }
+    Checked::Accepted
+}
+
+// The truth table that has the values, which are transformed in a second array. It is written only where a function has them: where
+// the transform is 2^n or −2^n everywhere.
+fn invert(n: u32, values: &[i32], work: &mut [i32], table: &mut [u8]) -> Written
+    requires { ⌜ Invertible n (now values) (now work) (now table) ⌝ }
+    ensures reply { λ r. ⌜ written r ≡ replyAfter (first (functionCheck n (now (values .entry)))) [] ⌝ }
+    ensures content { λ r. ⌜ now (table .exit) ≡ contentAfter (first (functionCheck n (now (values .entry)))) (listBelow (2 ^ n) (λ x. inverse n (valueAt (now (values .entry))) x)) (now (table .entry)) ⌝ }
+    ensures transformed { λ r. ⌜ now (work .exit) ≡ listBelow (2 ^ n) (λ x. functions.transform n (valueAt (now (values .entry))) x) ⌝ }
+{
+    copy(values, work);
+    transform(n, work);
+    if !all_full(work, boolean::power_of_two(n) as u32) {
+        return Written::Declined(Refusal::NoFunction);
+    }
+    write_signs(work, table);
+    Written::Done
+}
+
+// The truth table of a spectrum, or the refusal where no function has the values. Values outside −2^n to 2^n are refused before
+// any are added.
+pub fn inverse_spectrum(n: u32, values: &[i32], table: &mut [u8]) -> Written
+    ensures reply { λ r. ⌜ written r ≡ replyAfter (first (inverseChecks n (now (values .entry)) (length (now (table .entry))))) [] ⌝ }
+    ensures content { λ r. ⌜ now (table .exit) ≡ contentAfter (first (inverseChecks n (now (values .entry)) (length (now (table .entry))))) (listBelow (2 ^ n) (λ x. inverse n (valueAt (now (values .entry))) x)) (now (table .entry)) ⌝ }
+{
+    if let Checked::Refused(e) = check_lengths(n, values.len(), table.len()) {
+        return Written::Declined(e);
+    }
+    if !all_within(values, boolean::power_of_two(n) as u32) {
+        return Written::Declined(Refusal::NoFunction);
+    }
+    let mut work = [0i32; 256];
+    let size = values.len();
+    invert(n, values, &mut work[..size], table)
+}
