@@ -1,21 +1,12 @@
 -- A function is bent exactly when no square of its spectrum is over 2^n.
 use mathlib.Core.Path.{_≡_, sym, ap, ap₂, _∙_}
-use mathlib.Core.Logic.{_⊎_, inl, inr}
 use Prim.Native.Nat.{ℕ, _*_, _^_, _<_, _≤_}
 use native.Mathlib.Omega.{arith}
 use lib.Pow.{pow-pos, pow-add}
-use lib.IntN.{ℤ, pos, negsuc, negℤ, natAbs}
+use lib.IntN.{natAbs}
 use Rattle.boolean.specs.Functions.{Boolean, Bent, walsh, square}
-use Rattle.boolean.proofs.Sizes.{abs-neg}
+use Rattle.boolean.proofs.Sizes.{abs-cases, cases-abs}
 use Rattle.boolean.proofs.Spectrum.{bent-even}
-
-abs-cases : (z : ℤ) (k : ℕ) → natAbs z ≡ k → (z ≡ pos k) ⊎ (z ≡ negℤ (pos k))
-abs-cases (pos a) k e = inl (ap pos e)
-abs-cases (negsuc a) k e = inr (ap (λ (i : ℕ). negℤ (pos i)) e)
-
-cases-abs : (z : ℤ) (k : ℕ) → (z ≡ pos k) ⊎ (z ≡ negℤ (pos k)) → natAbs z ≡ k
-cases-abs z k (inl e) = ap natAbs e
-cases-abs z k (inr e) = ap natAbs e ∙ abs-neg (pos k)
 
 pub bent-of-squares : (n : ℕ) (f : ℕ → ℕ) → Boolean n f → ((w : ℕ) → w < 2 ^ n → square (walsh n f w) ≤ 2 ^ n) → Bent n f
 bent-of-squares n f h b =

@@ -65,8 +65,3 @@ same-value (pos a) (pos b) t = ap pos (eqb→eq a b t)
 same-value (pos a) (negsuc b) t = absurd t
 same-value (negsuc a) (pos b) t = absurd t
 same-value (negsuc a) (negsuc b) t = ap negsuc (eqb→eq a b t)
-
-pub int4 : (l r : ℕ → ℕ → ℕ → ℕ → ℤ) → T (both (λ a. both (λ b. both (λ c. both (λ d. sameValue (l a b c d) (r a b c d))))))
-    → (a b c d : ℕ) → a < 2 → b < 2 → c < 2 → d < 2 → l a b c d ≡ r a b c d
-int4 l r t a b c d ha hb hc hd =
-    same-value (l a b c d) (r a b c d) (all3 (λ b c d. sameValue (l a b c d) (r a b c d)) (all1 (λ a. both (λ b. both (λ c. both (λ d. sameValue (l a b c d) (r a b c d))))) t a ha) b c d hb hc hd)

@@ -1,6 +1,5 @@
 -- A list of integers is the spectrum of a function exactly when its transform is 2^n or −2^n everywhere; and of one function only.
 use mathlib.Core.Path.{_≡_, refl, sym, ap, _∙_, subst}
-use mathlib.Core.Logic.{_⊎_, inl, inr}
 use mathlib.Core.Bool.{Bool, true, false}
 use mathlib.Core.List.{List, [], _∷_}
 use Prim.Native.Nat.{ℕ, _^_, _<_, _≤_}
@@ -8,14 +7,14 @@ use native.Mathlib.Omega.{arith}
 use lib.Dec.{T}
 use lib.ListN.{length}
 use lib.Pow.{pow-pos}
-use lib.IntN.{ℤ, pos, negsuc, negℤ, natAbs}
+use lib.IntN.{ℤ, pos, negsuc, natAbs}
 use borrow.Author.Tests.{eq-eqb}
 use Rattle.boolean.specs.Sums.{listBelow}
 use Rattle.boolean.specs.Functions.{Boolean, valueAt, walsh, spectrum, signBit, transform, inverse, sameValue, sameValues, isSpectrum}
 use Rattle.boolean.proofs.Cases.{same-value}
 use Rattle.boolean.proofs.Every.{both, both-true}
 use Rattle.boolean.proofs.Lists.{list-is, getD-listBelow}
-use Rattle.boolean.proofs.Sizes.{abs-neg}
+use Rattle.boolean.proofs.Sizes.{abs-cases, cases-abs}
 use Rattle.boolean.proofs.Transform.{transform-cong}
 use Rattle.boolean.proofs.Walsh.{walsh-le}
 use Rattle.boolean.proofs.Spectrum.{walsh-inversion, spectrum-back, spectrum-forth, sign-bit-of, sign-bit-lt}
@@ -41,15 +40,6 @@ same-values (u ∷ us) (v ∷ vs) e =
     let head : u ≡ v = same-value u v (true-T (p .0)) in
     let tail : us ≡ vs = same-values us vs (p .1) in
     cc
-
--- ---- signs
-sized : (m : ℕ) (z : ℤ) → natAbs z ≡ m → (z ≡ pos m) ⊎ (z ≡ negℤ (pos m))
-sized m (pos a) e = inl (ap pos e)
-sized m (negsuc a) e = inr (ap (λ (k : ℕ). negℤ (pos k)) e)
-
-unsigned : (m : ℕ) (z : ℤ) → (z ≡ pos m) ⊎ (z ≡ negℤ (pos m)) → natAbs z ≡ m
-unsigned m z (inl e) = ap natAbs e
-unsigned m z (inr e) = ap natAbs e ∙ abs-neg (pos m)
 
 pub inverse-boolean : (n : ℕ) (F : ℕ → ℤ) → Boolean n (inverse n F)
 unfolding inverse
@@ -78,11 +68,11 @@ module _ (n : ℕ) (values : List ℤ) (size : length values ≡ 2 ^ n) where
 
   pub full-is-spectrum : ((x : ℕ) → x < 2 ^ n → natAbs (transform n (valueAt values) x) ≡ 2 ^ n) → isSpectrum n values ≡ true
   full-is-spectrum full =
-      listed (spectrum-back n (valueAt values) (λ x l. sized (2 ^ n) (transform n (valueAt values) x) (full x l)))
+      listed (spectrum-back n (valueAt values) (λ x l. abs-cases (transform n (valueAt values) x) (2 ^ n) (full x l)))
 
   pub is-spectrum-full : isSpectrum n values ≡ true → (x : ℕ) → x < 2 ^ n → natAbs (transform n (valueAt values) x) ≡ 2 ^ n
   is-spectrum-full e x l =
-      unsigned (2 ^ n) (transform n (valueAt values) x)
+      cases-abs (transform n (valueAt values) x) (2 ^ n)
       (spectrum-forth n (valueAt values) (inverse n (valueAt values)) (inverse-boolean n (valueAt values)) (λ w k. sym (has-values e w k)) x l)
 
   pub is-spectrum-small : isSpectrum n values ≡ true → (w : ℕ) → w < 2 ^ n → natAbs (valueAt values w) ≤ 2 ^ n
@@ -91,7 +81,7 @@ module _ (n : ℕ) (values : List ℤ) (size : length values ≡ 2 ^ n) where
   -- refused exactly when no function has the values
   pub has-function : (f : ℕ → ℕ) → Boolean n f → ((w : ℕ) → w < 2 ^ n → walsh n f w ≡ valueAt values w) → isSpectrum n values ≡ true
   has-function f bits has =
-      full-is-spectrum (λ x l. unsigned (2 ^ n) (transform n (valueAt values) x) (spectrum-forth n (valueAt values) f bits (λ w k. sym (has w k)) x l))
+      full-is-spectrum (λ x l. cases-abs (transform n (valueAt values) x) (2 ^ n) (spectrum-forth n (valueAt values) f bits (λ w k. sym (has w k)) x l))
 
   pub no-function : isSpectrum n values ≡ false → (f : ℕ → ℕ) → Boolean n f → ((w : ℕ) → w < 2 ^ n → walsh n f w ≡ valueAt values w) → ⊥
   no-function e f bits has = let t : true ≡ false = sym (has-function f bits has) ∙ e in let z : _≡_ {A = ℕ} 0 1 = cc in absurd-path z

@@ -56,6 +56,19 @@ module _ {C : Type 0} (beats : C → C → Bool) where
       skip (List·Memᴰ·head e) = List·Memᴰ·head e
       skip (List·Memᴰ·tail m) = List·Memᴰ·tail (List·Memᴰ·tail m)
 
+  -- where no candidate beats b the result is b
+  pub best-stays : (b : C) (cs : List C) → ((c : C) → List·Memᴰ c cs → beats c b ≡ false) → best beats b cs ≡ b
+  unfolding best
+  best-stays b [] h = refl
+  best-stays b (c ∷ cs) h = best-keeps b c cs (h c (List·Memᴰ·head refl)) ∙ best-stays b cs (λ d m. h d (List·Memᴰ·tail m))
+
+  -- it is r where r beats b and each candidate before it, and none beats r
+  pub best-is : (b r : C) {cs : List C} → beats r b ≡ true → First (λ r c. beats r c ≡ true) r cs → ((c : C) → List·Memᴰ c cs → beats c r ≡ false)
+      → best beats b cs ≡ r
+  best-is b r t (here {cs}) h = best-takes b r cs t ∙ best-stays r cs (λ d m. h d (List·Memᴰ·tail m))
+  best-is b r t (there {c} {cs} s f) h =
+      best-step (λ z. z ≡ r) b c cs (λ e. best-is c r s f (λ d m. h d (List·Memᴰ·tail m))) (λ e. best-is b r t f (λ d m. h d (List·Memᴰ·tail m)))
+
 -- a comparison that goes by an order: R, at least as good as; S, better than
 pub record Ordered {C : Type 0} (beats : C → C → Bool) (R S : C → C → Type 0) : Type 0 where
   pub same : (a : C) → R a a
@@ -261,3 +274,11 @@ pub first-ranked : {C : Type 0} (rank : C → ℕ) (S : C → C → Type 0) {r :
     → (c : C) → List·Memᴰ c cs → rank c < rank r → S r c
 first-ranked rank S {r} a here c m l = of-cons (λ z. rank z < rank r → S r z) (λ k. absurd (omega arith)) (λ n k. absurd (omega (arith, a .0 c n))) m l
 first-ranked rank S {r} a (there s f) c m l = of-cons (S r) s (λ n. first-ranked rank S (a .1) f c n l) m
+
+-- a member that stands so to each candidate of a lower rank is first
+pub ranked-first : {C : Type 0} (rank : C → ℕ) (S : C → C → Type 0) (r : C) (cs : List C) → Ascending rank cs → List·Memᴰ r cs
+    → ((c : C) → List·Memᴰ c cs → rank c < rank r → S r c) → First S r cs
+ranked-first rank S r [] a m h = absurd (List·Memᴰ·not-nil m)
+ranked-first rank S r (c ∷ cs) a (List·Memᴰ·head e) h = rw (← e) here
+ranked-first rank S r (c ∷ cs) a (List·Memᴰ·tail m) h =
+    there (h c (List·Memᴰ·head refl) (a .0 r m)) (ranked-first rank S r cs (a .1) m (λ d n. h d (List·Memᴰ·tail n)))

@@ -1,5 +1,6 @@
 -- The size of an integer, `natAbs`: of sums, differences, and transforms.
 use mathlib.Core.Path.{_≡_, refl, ap, _∙_}
+use mathlib.Core.Logic.{_⊎_, inl, inr}
 use mathlib.Core.Bool.{Bool, true, false, cond}
 use Prim.Native.Nat.{ℕ, zero, suc, _+_, _*_, _-_, _^_, _<_, _≤_}
 use native.Mathlib.Nat.{le-refl, le-trans, le-suc, le-of-eq, suc-mul}
@@ -29,6 +30,15 @@ pub abs-neg : (z : ℤ) → natAbs (negℤ z) ≡ natAbs z
 abs-neg (pos zero) = refl
 abs-neg (pos (suc n)) = refl
 abs-neg (negsuc n) = refl
+
+-- an integer of size k is k or −k
+pub abs-cases : (z : ℤ) (k : ℕ) → natAbs z ≡ k → (z ≡ pos k) ⊎ (z ≡ negℤ (pos k))
+abs-cases (pos a) k e = inl (ap pos e)
+abs-cases (negsuc a) k e = inr (ap (λ (i : ℕ). negℤ (pos i)) e)
+
+pub cases-abs : (z : ℤ) (k : ℕ) → (z ≡ pos k) ⊎ (z ≡ negℤ (pos k)) → natAbs z ≡ k
+cases-abs z k (inl e) = ap natAbs e
+cases-abs z k (inr e) = ap natAbs e ∙ abs-neg (pos k)
 
 pub abs-sub : (a b : ℤ) → natAbs (a -ℤ b) ≤ natAbs a + natAbs b
 abs-sub a b = omega (arith, abs-add a (negℤ b), abs-neg b)

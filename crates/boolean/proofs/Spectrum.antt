@@ -4,7 +4,7 @@ use mathlib.Core.Logic.{_⊎_, inl, inr}
 use Prim.Native.Nat.{ℕ, zero, suc, _+_, _*_, _-_, _/_, _^_, _<_, _≤_}
 use native.Mathlib.Nat.{le-of-eq, mul-one, mul-div-right, mul-zero, not-suc-le-zero}
 use native.Mathlib.Omega.{arith}
-use lib.Pow.{pow-pos, pow-add}
+use lib.Pow.{pow-pos}
 use lib.Bits.{bitXor, xor-lt}
 use lib.IntN.{ℤ, pos, negsuc, _+ℤ_, _-ℤ_, _*ℤ_, negℤ, natAbs, +ℤ-idl, *ℤ-comm, *ℤ-one, -ℤ-+ℤ-cancel, +ℤ-invr}
 use Rattle.boolean.specs.Bits.{dot}
@@ -45,9 +45,6 @@ walsh-parseval n f h = ap natAbs
     ∙ sum-cong (2 ^ n) _ _ (λ w l. sym (square-is (walsh n f w)) ∙ ap (λ (z : ℤ). z *ℤ z) (walsh-transform n f w h))
     ∙ parseval n (λ x. sign (f x))
     ∙ ap (λ (z : ℤ). pos (2 ^ n) *ℤ z) (sum-cong (2 ^ n) _ _ (λ x l. sign-square (f x)) ∙ total-is (2 ^ n) (λ x. 1) ∙ ap pos (total-ones (2 ^ n))))
-
-pub walsh-parseval-pow : (n : ℕ) (f : ℕ → ℕ) → Boolean n f → totalBelow (2 ^ n) (λ w. square (walsh n f w)) ≡ 2 ^ (n + n)
-walsh-parseval-pow n f h = walsh-parseval n f h ∙ sym (pow-add 2 n n)
 
 -- some value of the spectrum is at least 2^(n/2) in size
 pub some-walsh-large : (n : ℕ) (f : ℕ → ℕ) → Boolean n f → (w : ℕ) × (w < 2 ^ n) × (2 ^ n ≤ square (walsh n f w))

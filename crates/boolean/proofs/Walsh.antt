@@ -1,18 +1,16 @@
 -- The Walsh transform of 0/1 functions and tables.
 use mathlib.Core.Path.{_≡_, refl, sym, ap, ap₂, _∙_, subst}
 use mathlib.Core.Bool.{Bool, true, false, not, cond}
-use mathlib.Core.List.{List, [], _∷_, _++_}
+use mathlib.Core.List.{[], _∷_}
 use Prim.Native.Nat.{ℕ, zero, suc, _+_, _*_, _-_, _^_, _<_, _≤_}
 use native.Mathlib.Nat.{two-pow-succ, not-suc-le-zero, add-zero, mul-add}
 use native.Mathlib.Omega.{arith}
 use native.Mathlib.Numerals.{one-add, add-one}
 use lib.Dec.{eqb, ltb}
-use lib.ListN.{length, List·getD-append}
-use lib.Seq.{getD-append-add}
 use lib.Bits.{bitXor, xor-zero-r}
 use lib.IntN.{ℤ, pos, negsuc, _+ℤ_, _-ℤ_, _*ℤ_, natAbs, +ℤ-negℤ-cancel}
 use Rattle.boolean.specs.Bits.{dot, affine}
-use Rattle.boolean.specs.Functions.{sign, agreement, walsh, distance, transform, at, Boolean}
+use Rattle.boolean.specs.Functions.{sign, agreement, walsh, distance, transform, Boolean}
 use Rattle.boolean.specs.Sums.{sumBelow, countBelow, one-if}
 use Rattle.boolean.proofs.Ints.{add4, swap}
 use Rattle.boolean.proofs.Ring.{v, _⊞_, _⊖_, solve}
@@ -52,20 +50,6 @@ module _ (n : ℕ) (f : ℕ → ℕ) (w : ℕ) (h : Boolean (suc n) f) (l : w < 
   walsh-high =
       walsh-transform (suc n) f (2 ^ n + w) h ∙ transform-high n (λ x. sign (f x)) w l
       ∙ sym (ap₂ (λ (a b : ℤ). a -ℤ b) (walsh-transform n f w lower-bits) (walsh-transform n (λ x. f (2 ^ n + x)) w upper-bits))
-
--- the same of a table in two halves
-module _ (n : ℕ) (lower upper : List ℕ) (w : ℕ) (e : length lower ≡ 2 ^ n) (h : Boolean (suc n) (at (lower ++ upper))) (l : w < 2 ^ n) where
-  at-lower : (x : ℕ) → x < 2 ^ n → at (lower ++ upper) x ≡ at lower x
-  at-lower x k = List·getD-append lower upper 0 x (subst (λ (z : ℕ). x < z) (sym e) k)
-
-  at-upper : (x : ℕ) → x < 2 ^ n → at (lower ++ upper) (2 ^ n + x) ≡ at upper x
-  at-upper x k = ap (λ (z : ℕ). at (lower ++ upper) (z + x)) (sym e) ∙ getD-append-add lower upper x 0
-
-  pub table-low : walsh (suc n) (at (lower ++ upper)) w ≡ walsh n (at lower) w +ℤ walsh n (at upper) w
-  table-low = walsh-low n (at (lower ++ upper)) w h l ∙ ap₂ (λ (a b : ℤ). a +ℤ b) (walsh-cong n _ _ w at-lower) (walsh-cong n _ _ w at-upper)
-
-  pub table-high : walsh (suc n) (at (lower ++ upper)) (2 ^ n + w) ≡ walsh n (at lower) w -ℤ walsh n (at upper) w
-  table-high = walsh-high n (at (lower ++ upper)) w h l ∙ ap₂ (λ (a b : ℤ). a -ℤ b) (walsh-cong n _ _ w at-lower) (walsh-cong n _ _ w at-upper)
 
 -- ---- the distance
 agree-count : (k : ℕ) (f g : ℕ → ℕ) → sumBelow k (λ x. agreement (f x) (g x)) +ℤ pos (2 * countBelow k (λ x. not (eqb (f x) (g x)))) ≡ pos k

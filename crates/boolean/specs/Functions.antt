@@ -5,11 +5,12 @@ use mathlib.Core.Logic.{_⊎_}
 use mathlib.Core.Bool.{Bool, true, false, not, cond, _&&_}
 use mathlib.Core.List.{List, [], _∷_}
 use lib.Bits.{bitAnd, bitXor}
+use lib.Count.{ones}
 use lib.Dec.{eqb}
 use lib.ListN.{getD}
 use lib.IntN.{ℤ, pos, negsuc, _*ℤ_, negℤ, natAbs}
-use Rattle.boolean.specs.Bits.{parity, dot, affine, within}
-use Rattle.boolean.specs.Sums.{sumBelow, countBelow, xorBelow, listFrom, listBelow}
+use Rattle.boolean.specs.Bits.{parity, dot, affine, bit, within}
+use Rattle.boolean.specs.Sums.{sumBelow, countBelow, xorBelow, largestBelow, listFrom, listBelow}
 
 -- every value of f at an input of n bits is 0 or 1
 abbrev pub Boolean : ℕ → (ℕ → ℕ) → Type 0
@@ -53,10 +54,30 @@ unfoldable pub autocorrelation : ℕ → (ℕ → ℕ) → ℕ → ℤ
 unfolding sumBelow agreement
 autocorrelation n f s = sumBelow (2 ^ n) (λ x. agreement (f x) (f (bitXor x s)))
 
+-- the count of inputs at which f changes where d is XORed to the input
+unfoldable pub changes : ℕ → (ℕ → ℕ) → ℕ → ℕ
+unfolding countBelow
+changes n f d = countBelow (2 ^ n) (λ x. not (eqb (f x) (f (bitXor x d))))
+
 -- the normal form's coefficient at u: the XOR of f(x) over all x whose ones lie within u
 unfoldable pub coefficient : ℕ → (ℕ → ℕ) → ℕ → ℕ
 unfolding xorBelow within
 coefficient n f u = xorBelow (2 ^ n) (λ x. cond (within u x) (f x) 0)
+
+-- the normal form: the coefficients at 0, 1, .., 2^n − 1
+unfoldable pub normalForm : ℕ → (ℕ → ℕ) → List ℕ
+unfolding listBelow coefficient
+normalForm n f = listBelow (2 ^ n) (λ u. coefficient n f u)
+
+-- the degree: the most ones in any u with coefficient 1, and 0 if there is none
+unfoldable pub degree : ℕ → (ℕ → ℕ) → ℕ
+unfolding largestBelow coefficient
+degree n f = largestBelow (2 ^ n) (λ u. cond (eqb (coefficient n f u) 1) (ones u) 0)
+
+-- column j of a box: bit j of the rows
+unfoldable pub column : List ℕ → ℕ → ℕ → ℕ
+unfolding bit
+column rows j x = bit j (at rows x)
 
 -- the component of a box at the mask c, which document 01 calls combination c: the parity of the ones in (row AND c)
 unfoldable pub component : List ℕ → ℕ → ℕ → ℕ

@@ -1,5 +1,5 @@
 -- Sums, counts and lists over the numbers below a bound.
-use Prim.Native.Nat.{ℕ, zero, suc, _+_}
+use Prim.Native.Nat.{ℕ, zero, suc, _+_, max}
 use mathlib.Core.Bool.{Bool, true, false, _&&_}
 use mathlib.Core.List.{List, [], _∷_, _++_}
 use lib.Bits.{bitXor}
@@ -50,3 +50,13 @@ each (x ∷ xs) f = f x ++ each xs f
 unfoldable pub every : {A : Type 0} → (A → Bool) → List A → Bool
 every p [] = true
 every p (x ∷ xs) = p x && every p xs
+
+-- the members that pass the test, in their order
+unfoldable pub keep : {A : Type 0} → (A → Bool) → List A → List A
+unfolding each
+keep p xs = each xs (λ x. elim (p x) [ true ↦ x ∷ [] | false ↦ [] ])
+
+-- the largest of f 0, f 1, .., f (k − 1), and 0 where there are none
+unfoldable pub largestBelow : ℕ → (ℕ → ℕ) → ℕ
+largestBelow zero f = zero
+largestBelow (suc k) f = max (largestBelow k f) (f k)

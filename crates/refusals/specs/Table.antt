@@ -13,6 +13,8 @@ use Rattle.refusals.specs.declared.Checked.{Checked}
 use Rattle.refusals.specs.declared.Checked.the-variants.{Accepted, Refused}
 use Rattle.refusals.specs.declared.Written.{Written}
 use Rattle.refusals.specs.declared.Written.the-variants.{Done, Declined}
+use Rattle.refusals.specs.declared.Verdict.{Verdict}
+use Rattle.refusals.specs.declared.Verdict.the-variants.{Yes, No, Undecided}
 
 -- the number of each refusal
 abbrev pub number : Refusal → ℕ
@@ -81,6 +83,17 @@ contentAfter (Refused e) result old = old
 abbrev pub written : Written → Reply
 written Done = figures []
 written (Declined e) = refusal (number e)
+
+-- what a yes or no says: 1 or 0, or the number
+abbrev pub verdict : Verdict → Reply
+verdict Yes = figures (1 ∷ [])
+verdict No = figures (0 ∷ [])
+verdict (Undecided e) = refusal (number e)
+
+-- the figure of a test
+abbrev pub asFigure : Bool → List ℕ
+asFigure true = 1 ∷ []
+asFigure false = 0 ∷ []
 
 -- What the checks leave known, for the functions behind a call.
 

@@ -29,6 +29,13 @@ pub enum Written {
     Declined(Refusal),
 }
 
+// The answer of a call that says yes or no.
+pub enum Verdict {
+    Yes,
+    No,
+    Undecided(Refusal),
+}
+
 // The number of a refusal, as document 01 gives it.
 pub fn number_of(e: Refusal) -> u32
     ensures { λ r. ⌜ r ≡ number e ⌝ }

@@ -1,17 +1,9 @@
 // Reads truth tables from standard input, a line of 0s and 1s each, and writes the spectrum of each and the table that its inverse gives.
 // Then it writes the inverse of some values that are given here.
 use libc::STDOUT_FILENO;
-use refusals::Refusal;
 use refusals::Written;
 ghost use Prim.Native.Nat.{_≤_};
 ghost use lib.ListN.{length};
-
-// The smaller of two lengths.
-fn shorter(a: usize, b: usize) -> usize
-    ensures { λ r. ⌜ (r ≤ a) × (r ≤ b) ⌝ }
-{
-    if a < b { a } else { b }
-}
 
 // Where the line that starts at `from` ends.
 fn line_end(text: &[u8], from: usize) -> usize
@@ -57,12 +49,6 @@ fn read_digits(text: &[u8], table: &mut [u8])
     }
 }
 
-fn write_refused(e: Refusal) {
-    io::write_all(STDOUT_FILENO, b"refused ");
-    io::print_decimal(STDOUT_FILENO, refusals::number_of(e) as u64);
-    io::write_all(STDOUT_FILENO, b"\n");
-}
-
 fn write_value(v: i32) {
     if v < 0 {
         io::write_all(STDOUT_FILENO, b" -");
@@ -95,11 +81,11 @@ fn write_table(table: &[u8]) {
 // The function that has the values, or the refusal.
 fn show_function(n: u32, values: &[i32]) {
     let mut table = [0u8; 256];
-    let size = shorter(values.len(), 256);
+    let size = lines::smaller(values.len(), 256);
     let answer = walsh::inverse_spectrum(n, values, &mut table[..size]);
     let Written::Done = answer else {
         if let Written::Declined(e) = answer {
-            write_refused(e);
+            lines::write_refused(e);
         }
         return;
     };
@@ -115,12 +101,12 @@ fn show_spectrum(n: u32, values: &[i32]) {
 // The spectrum of a truth table and the function that has it, or the refusal.
 fn show_table(table: &[u8]) {
     let mut values = [0i32; 256];
-    let size = shorter(table.len(), 256);
+    let size = lines::smaller(table.len(), 256);
     let n = width_of(table.len());
     let answer = walsh::spectrum(n, table, &mut values[..size]);
     let Written::Done = answer else {
         if let Written::Declined(e) = answer {
-            write_refused(e);
+            lines::write_refused(e);
         }
         return;
     };
@@ -130,7 +116,7 @@ fn show_table(table: &[u8]) {
 // The same of a line of digits. More than 512 of them are refused as 512 are.
 fn show_line(text: &[u8]) {
     let mut table = [0u8; 512];
-    let length = shorter(text.len(), 512);
+    let length = lines::smaller(text.len(), 512);
     read_digits(text, &mut table[..length]);
     show_table(&table[..length]);
 }

@@ -7,14 +7,14 @@ use borrow.Author.Needs.{needs}
 use Rattle.spectra.proofs.show_function.Statement.{statement}
 use Rattle.spectra.proofs.show_function.Tie as tie
 
-shorter-requires : tie.Need-shorter-requires
-shorter-requires c κs = search needs
+smaller-requires : tie.Need-smaller-requires
+smaller-requires c κs = search needs
 
 array-borrow-prefix-table : tie.Need-array-borrow-prefix-table
 array-borrow-prefix-table c = search needs
 
 slice-aggregate-inverse-spectrum : tie.Need-slice-aggregate-inverse-spectrum
-slice-aggregate-inverse-spectrum c = sym (length-take-le _ _ (c .before .shorter .ensures .1))
+slice-aggregate-inverse-spectrum c = sym (length-take-le _ _ (c .before .smaller .ensures .1))
 
 inverse-spectrum-requires : tie.Need-inverse-spectrum-requires
 inverse-spectrum-requires c κs = search needs
@@ -41,8 +41,8 @@ returns-2 : tie.Need-returns-2
 returns-2 c = search needs
 
 -- what came back is as long as what was lent
-long : (c : tie.After-inverse-spectrum) → length (c .inverse-spectrum .last .1 .1 .0) ≡ c .before .before .shorter .result
-long c = c .inverse-spectrum .kept .1 .1 .0 ∙ length-take-le _ _ (c .before .before .shorter .ensures .1)
+long : (c : tie.After-inverse-spectrum) → length (c .inverse-spectrum .last .1 .1 .0) ≡ c .before .before .smaller .result
+long c = c .inverse-spectrum .kept .1 .1 .0 ∙ length-take-le _ _ (c .before .before .smaller .ensures .1)
 
 array-share-prefix-table : tie.Need-array-share-prefix-table
 array-share-prefix-table c = part-inside (c .before .before .before .inverse-spectrum .last .1 .1 .0) _ _ (long (c .before .before .before))
@@ -62,7 +62,7 @@ pub show-function-spec : {M : Type 1} → statement M
 show-function-spec =
     tie.close
     (tie.spec
-    shorter-requires
+    smaller-requires
     array-borrow-prefix-table
     slice-aggregate-inverse-spectrum
     inverse-spectrum-requires

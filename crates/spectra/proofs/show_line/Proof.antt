@@ -8,21 +8,21 @@ use borrow.Author.Needs.{needs}
 use Rattle.spectra.proofs.show_line.Statement.{statement}
 use Rattle.spectra.proofs.show_line.Tie as tie
 
-shorter-requires : tie.Need-shorter-requires
-shorter-requires c κs = search needs
+smaller-requires : tie.Need-smaller-requires
+smaller-requires c κs = search needs
 
 array-borrow-prefix-table : tie.Need-array-borrow-prefix-table
 array-borrow-prefix-table c = search needs
 
 slice-aggregate-read-digits : tie.Need-slice-aggregate-read-digits
-slice-aggregate-read-digits c = sym (length-take-le _ _ (c .before .shorter .ensures .1))
+slice-aggregate-read-digits c = sym (length-take-le _ _ (c .before .smaller .ensures .1))
 
 read-digits-requires : tie.Need-read-digits-requires
-read-digits-requires c κs = le-trans (le-of-eq (length-take-le _ _ (c .before .shorter .ensures .1))) (c .before .shorter .ensures .0)
+read-digits-requires c κs = le-trans (le-of-eq (length-take-le _ _ (c .before .smaller .ensures .1))) (c .before .smaller .ensures .0)
 
 -- what came back is as long as what was lent
-long : (c : tie.After-read-digits) → length (c .read-digits .last .1 .0) ≡ c .before .before .shorter .result
-long c = c .read-digits .kept .1 .0 ∙ length-take-le _ _ (c .before .before .shorter .ensures .1)
+long : (c : tie.After-read-digits) → length (c .read-digits .last .1 .0) ≡ c .before .before .smaller .result
+long c = c .read-digits .kept .1 .0 ∙ length-take-le _ _ (c .before .before .smaller .ensures .1)
 
 array-share-prefix-table : tie.Need-array-share-prefix-table
 array-share-prefix-table c = part-inside (c .before .read-digits .last .1 .0) _ _ (long (c .before))
@@ -42,7 +42,7 @@ pub show-line-spec : {M : Type 1} → statement M
 show-line-spec =
     tie.close
     (tie.spec
-    shorter-requires
+    smaller-requires
     array-borrow-prefix-table
     slice-aggregate-read-digits
     read-digits-requires

@@ -7,8 +7,8 @@ use borrow.Author.Needs.{needs}
 use Rattle.spectra.proofs.show_table.Statement.{statement}
 use Rattle.spectra.proofs.show_table.Tie as tie
 
-shorter-requires : tie.Need-shorter-requires
-shorter-requires c κs = search needs
+smaller-requires : tie.Need-smaller-requires
+smaller-requires c κs = search needs
 
 width-of-requires : tie.Need-width-of-requires
 width-of-requires c κs = search needs
@@ -17,7 +17,7 @@ array-borrow-prefix-values : tie.Need-array-borrow-prefix-values
 array-borrow-prefix-values c = search needs
 
 slice-aggregate-spectrum : tie.Need-slice-aggregate-spectrum
-slice-aggregate-spectrum c = sym (length-take-le _ _ (c .before .before .shorter .ensures .1))
+slice-aggregate-spectrum c = sym (length-take-le _ _ (c .before .before .smaller .ensures .1))
 
 spectrum-requires : tie.Need-spectrum-requires
 spectrum-requires c κs = search needs
@@ -44,8 +44,8 @@ returns-2 : tie.Need-returns-2
 returns-2 c = search needs
 
 -- what came back is as long as what was lent
-long : (c : tie.After-spectrum) → length (c .spectrum .last .1 .1 .0) ≡ c .before .before .before .shorter .result
-long c = c .spectrum .kept .1 .1 .0 ∙ length-take-le _ _ (c .before .before .before .shorter .ensures .1)
+long : (c : tie.After-spectrum) → length (c .spectrum .last .1 .1 .0) ≡ c .before .before .before .smaller .result
+long c = c .spectrum .kept .1 .1 .0 ∙ length-take-le _ _ (c .before .before .before .smaller .ensures .1)
 
 array-share-prefix-values : tie.Need-array-share-prefix-values
 array-share-prefix-values c = part-inside (c .before .before .before .spectrum .last .1 .1 .0) _ _ (long (c .before .before .before))
@@ -65,7 +65,7 @@ pub show-table-spec : {M : Type 1} → statement M
 show-table-spec =
     tie.close
     (tie.spec
-    shorter-requires
+    smaller-requires
     width-of-requires
     array-borrow-prefix-values
     slice-aggregate-spectrum

@@ -1,0 +1,4 @@
+pub mod Rows
+pub mod Accepted
+pub mod Additions
+pub mod Demand3

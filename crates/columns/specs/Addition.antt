@@ -1,0 +1,55 @@
+-- Column addition: an affine function is added to one column of a box.
+use Prim.Native.Nat.{ℕ, _-_, _*_, _^_}
+use mathlib.Core.List.{List, [], _∷_, _++_}
+use lib.Bits.{bitXor}
+use lib.Dec.{ltb, eqb}
+use lib.ListN.{length}
+use Rattle.boolean.specs.Bits.{affine}
+use Rattle.boolean.specs.Sums.{listBelow}
+use Rattle.boolean.specs.Functions.{at}
+use Rattle.refusals.specs.Table.{Check, _unless_, inRange, boxChecks, first, contentAfter}
+use Rattle.refusals.specs.declared.Refusal.the-variants.{Parameter, WrittenLength}
+use Rattle.refusals.specs.declared.Checked.{Checked}
+
+-- a row, with bit j XORed with w·x XOR b
+unfoldable pub addedRow : ℕ → ℕ → ℕ → ℕ → ℕ → ℕ
+unfolding affine
+addedRow j w b x row = bitXor row (affine w b x * 2 ^ (j - 1))
+
+-- the new rows
+unfoldable pub addedRows : ℕ → ℕ → ℕ → List ℕ → List ℕ
+unfolding listBelow addedRow
+addedRows j w b rows = listBelow (length rows) (λ x. addedRow j w b x (at rows x))
+
+-- the checks of the call: a box's own, then the column, the mask, the constant, and the written array
+unfoldable pub additionChecks : ℕ → ℕ → List ℕ → ℕ → ℕ → ℕ → ℕ → List Check
+additionChecks n m rows j w b room =
+    boxChecks n m rows ++ (
+    (Parameter unless inRange 1 m j)
+    ∷ (Parameter unless ltb w (2 ^ n))
+    ∷ (Parameter unless ltb b 2)
+    ∷ (WrittenLength unless eqb room (2 ^ n))
+    ∷ [])
+
+-- an addition in a list of them: its column, its mask and constant, and the array that it is lent
+pub record Addition : Type 0 where
+  pub column : ℕ
+  pub mask : ℕ
+  pub constant : ℕ
+  pub lent : List ℕ
+
+-- what the checks of an addition to these rows find
+unfoldable pub additionChecked : ℕ → ℕ → List ℕ → Addition → Checked
+unfolding first additionChecks
+additionChecked n m rows a = first (additionChecks n m rows (a .column) (a .mask) (a .constant) (length (a .lent)))
+
+-- the rows that stand after an addition: its new rows where it is accepted, and else those it was given
+unfoldable pub standing : ℕ → ℕ → List ℕ → Addition → List ℕ
+unfolding additionChecked addedRows
+standing n m rows a = contentAfter (additionChecked n m rows a) (addedRows (a .column) (a .mask) (a .constant) rows) rows
+
+-- the rows that stand after a list of additions, each given the rows that stand
+unfoldable pub standingAfter : ℕ → ℕ → List ℕ → List Addition → List ℕ
+unfolding standing
+standingAfter n m rows [] = rows
+standingAfter n m rows (a ∷ additions) = standingAfter n m (standing n m rows a) additions

@@ -1,0 +1,74 @@
+// Column addition: an affine function is added to one column of a box.
+use refusals::Checked;
+use refusals::Refusal;
+use refusals::Written;
+ghost use mathlib.Core.Path.{_≡_};
+ghost use mathlib.Core.List.{[]};
+ghost use Prim.Native.Nat.{ℕ, _^_, _≤_, _<_};
+ghost use lib.ListN.{length};
+ghost use Rattle.refusals.specs.Table.{first, replyAfter, contentAfter, written};
+ghost use Rattle.columns.specs.Addition.{addedRow, addedRows, additionChecks};
+
+// The row at input x, with bit j XORed with w·x XOR b.
+fn added_row(j: u32, w: u32, b: u32, x: usize, row: u16) -> u16
+    requires { ⌜ (1 ≤ j) × (j ≤ 16) × (b < 2) × (x < 256) ⌝ }
+    ensures { λ r. ⌜ r ≡ addedRow j w b x row ⌝ }
+{
+    let flip = boolean::dot(w, x as u32) ^ b;
+    row ^ ((flip as u16) << (j - 1))
+}
+
+// The new rows.
+fn add_rows(rows: &[u16], j: u32, w: u32, b: u32, out: &mut [u16])
+    requires { ⌜ (1 ≤ j) × (j ≤ 16) × (b < 2) × (length (now rows) ≤ 256) × (length (now out) ≡ length (now rows)) ⌝ }
+    ensures { λ _. ⌜ now (out .exit) ≡ addedRows j w b (now (rows .entry)) ⌝ }
+{
+    let mut x = 0;
+    while x < rows.len() {
+        out[x] = added_row(j, w, b, x, rows[x]);
+        x += 1;
+    }
+}
+
+// The checks of a column addition.
+fn check_addition(n: u32, m: u32, rows: &[u16], j: u32, w: u32, b: u32, room: usize) -> Checked
+    ensures { λ r. ⌜ r ≡ first (additionChecks n m (now (rows .entry)) j w b room) ⌝ }
+{
+    if let Checked::Refused(e) = refusals::check_box(n, m, rows) {
+        return Checked::Refused(e);
+    }
+    if !refusals::in_range(1, m, j) {
+        return Checked::Refused(Refusal::Parameter);
+    }
+    let size = boolean::power_of_two(n);
+    if size <= w as usize {
+        return Checked::Refused(Refusal::Parameter);
+    }
+    if 1 < b {
+        return Checked::Refused(Refusal::Parameter);
+    }
+    if room != size {
+        return Checked::Refused(Refusal::WrittenLength);
+    }
+    Checked::Accepted
+}
+
+// The affine function (w, b) is added to column j of the rows; the new rows go to a second array.
+pub fn add_to_column(
+    n: u32,
+    m: u32,
+    rows: &[u16],
+    j: u32,
+    w: u32,
+    b: u32,
+    out: &mut [u16],
+) -> Written
+    ensures reply { λ r. ⌜ written r ≡ replyAfter (first (additionChecks n m (now (rows .entry)) j w b (length (now (out .entry))))) [] ⌝ }
+    ensures content { λ r. ⌜ now (out .exit) ≡ contentAfter (first (additionChecks n m (now (rows .entry)) j w b (length (now (out .entry))))) (addedRows j w b (now (rows .entry))) (now (out .entry)) ⌝ }
+{
+    if let Checked::Refused(e) = check_addition(n, m, rows, j, w, b, out.len()) {
+        return Written::Declined(e);
+    }
+    add_rows(rows, j, w, b, out);
+    Written::Done
+}

@@ -1,0 +1,115 @@
+-- The list of pairs: which pairs it has, and that they stand in the order of c, then w, then b.
+use mathlib.Core.Path.{_≡_, refl, ap}
+use mathlib.Core.Logic.{_⊎_, inl, inr}
+use mathlib.Core.List.{List, [], _∷_, List·Memᴰ, List·Memᴰ·head, List·Memᴰ·tail, List·Memᴰ·not-nil}
+use Prim.Native.Nat.{ℕ, suc, _+_, _*_, _-_, _^_, _<_, _≤_}
+use native.Mathlib.Nat.{zero-lt-suc, le-refl, mul-le-mul-right, suc-mul}
+use native.Mathlib.Omega.{arith}
+use lib.Pow.{pow-pos, pow-lt}
+use Rattle.boolean.specs.Sums.{listBelow}
+use Rattle.boolean.specs.Functions.{at, components}
+use Rattle.boolean.specs.Selection.{Candidate}
+use Rattle.boolean.proofs.Dots.{bit-cases}
+use Rattle.boolean.proofs.Selection.{Ascending, of-cons}
+use Rattle.boolean.proofs.Lists.{mem-listFrom, in-listFrom, mem-listBelow, in-listBelow, mem-each, in-each, ascending-listFrom, ascending-listBelow, ascending-blocks}
+use Rattle.linear.specs.Nonlinearity.{pair, pairsOf, pairs}
+
+-- component c and the affine function (w, b) are a pair of a box of n inputs and m outputs
+pub record IsPair (n m c w b : ℕ) : Type 0 where
+  pub c-low : 1 ≤ c
+  pub c-high : c < 2 ^ m
+  pub w-high : w < 2 ^ n
+  pub b-high : b < 2
+
+-- there is one
+pub first-pair : (n m : ℕ) → 1 ≤ m → IsPair n m 1 0 0
+first-pair n m h = record { c-low = le-refl 1; c-high = pow-lt h; w-high = pow-pos n; b-high = zero-lt-suc 1 }
+
+-- (c′, w′, b′) comes before (c, w, b): by c, then w, then b
+abbrev pub Before : (c′ w′ b′ c w b : ℕ) → Type 0
+Before c′ w′ b′ c w b = (c′ < c) ⊎ (((c′ ≡ c) × (w′ < w)) ⊎ ((c′ ≡ c) × (w′ ≡ w) × (b′ < b)))
+
+-- a pair's number in that order
+abbrev pub pairRank : ℕ → Candidate → ℕ
+pairRank n p = at (p .witness) 0 * (2 * 2 ^ n) + at (p .witness) 1 * 2 + at (p .witness) 2
+
+pub before-rank : (n c′ w′ b′ c w b : ℕ) → w′ < 2 ^ n → b′ < 2 → Before c′ w′ b′ c w b
+    → c′ * (2 * 2 ^ n) + w′ * 2 + b′ < c * (2 * 2 ^ n) + w * 2 + b
+before-rank n c′ w′ b′ c w b hw hb (inl l) = omega (arith, suc-mul c′ (2 * 2 ^ n), mul-le-mul-right (2 * 2 ^ n) l)
+before-rank n c′ w′ b′ c w b hw hb (inr (inl h)) = omega (arith, ap (λ (z : ℕ). z * (2 * 2 ^ n)) (h .0))
+before-rank n c′ w′ b′ c w b hw hb (inr (inr h)) = omega (arith, ap (λ (z : ℕ). z * (2 * 2 ^ n)) (h .0))
+
+-- ---- the pairs of one component
+module _ (n : ℕ) (rows : List ℕ) (c : ℕ) where
+  -- one affine function's mask w, with b = 0 and b = 1
+  abbrev both : ℕ → List Candidate
+  both w = pair n rows c w 0 ∷ pair n rows c w 1 ∷ []
+
+  abbrev Of : ℕ → Candidate → Type 0
+  Of w p = (b : ℕ) × (b < 2) × (p ≡ pair n rows c w b)
+
+  mem-both : (w : ℕ) (p : Candidate) → List·Memᴰ p (both w) → Of w p
+  mem-both w p = of-cons (Of w) (0, zero-lt-suc 1, refl) (of-cons (Of w) (1, le-refl 2, refl) (λ m. absurd (List·Memᴰ·not-nil m)))
+
+  pub in-pairsOf : (w b : ℕ) → w < 2 ^ n → b < 2 → List·Memᴰ (pair n rows c w b) (pairsOf n rows c)
+  unfolding pairsOf
+  in-pairsOf w b hw hb = in-each (listBelow (2 ^ n) (λ w. w)) both w (pair n rows c w b) (in-listBelow (2 ^ n) (λ w. w) w hw)
+      (bit-cases (λ b. List·Memᴰ (pair n rows c w b) (both w)) (List·Memᴰ·head refl) (List·Memᴰ·tail (List·Memᴰ·head refl)) b hb)
+
+  pub mem-pairsOf : (p : Candidate) → List·Memᴰ p (pairsOf n rows c) → (w b : ℕ) × (w < 2 ^ n) × (b < 2) × (p ≡ pair n rows c w b)
+  unfolding pairsOf
+  mem-pairsOf p m =
+      let t = mem-each (listBelow (2 ^ n) (λ w. w)) both p m in
+      let s = mem-listBelow (2 ^ n) (λ w. w) (t .0) (t .1) in
+      let u = mem-both (t .0) p (t .2) in
+      (t .0, u .0, omega (arith, s .1, s .2), u .1, u .2)
+
+  pub ascending-pairsOf : Ascending (pairRank n) (pairsOf n rows c)
+  unfolding pairsOf
+  ascending-pairsOf =
+      ascending-blocks (c * (2 * 2 ^ n)) 2 (λ w. w) (pairRank n) (listBelow (2 ^ n) (λ w. w)) both
+      (ascending-listBelow (λ w. w) (2 ^ n) (λ w. w) (λ a b l m. l)) (λ w m. ascending-both w) (λ w m p k. inside w p (mem-both w p k))
+    where
+      ascending-both : (w : ℕ) → Ascending (pairRank n) (both w)
+      ascending-both w = (λ p m. of-cons (λ p. pairRank n (pair n rows c w 0) < pairRank n p) (omega arith) (λ k. absurd (List·Memᴰ·not-nil k)) m, (λ p m. absurd (List·Memᴰ·not-nil m), tt))
+
+      inside : (w : ℕ) (p : Candidate) → Of w p → (c * (2 * 2 ^ n) + w * 2 ≤ pairRank n p) × (pairRank n p < c * (2 * 2 ^ n) + suc w * 2)
+      inside w p t = omega (arith, ap (pairRank n) (t .2), t .1)
+
+-- ---- all pairs
+module _ (n m : ℕ) (rows : List ℕ) where
+  pub in-pairs : (c w b : ℕ) → IsPair n m c w b → List·Memᴰ (pair n rows c w b) (pairs n m rows)
+  unfolding pairs components
+  in-pairs c w b h =
+      in-each (components m) (pairsOf n rows) c (pair n rows c w b) (in-listFrom 1 (2 ^ m - 1) (λ c. c) c (h .c-low) (omega arith))
+      (in-pairsOf n rows c w b (h .w-high) (h .b-high))
+
+  pub mem-pairs : (p : Candidate) → List·Memᴰ p (pairs n m rows) → (c w b : ℕ) × IsPair n m c w b × (p ≡ pair n rows c w b)
+  unfolding pairs components
+  mem-pairs p k =
+      let t = mem-each (components m) (pairsOf n rows) p k in
+      let s = mem-listFrom 1 (2 ^ m - 1) (λ c. c) (t .0) (t .1) in
+      let u = mem-pairsOf n rows (t .0) p (t .2) in (
+        t .0,
+        u .0,
+        u .1,
+        record { c-low = omega (arith, s .1, s .3); c-high = omega (arith, s .2, s .3, pow-pos m); w-high = u .2; b-high = u .3 },
+        u .4,
+      )
+
+  pub ascending-pairs : Ascending (pairRank n) (pairs n m rows)
+  unfolding pairs components
+  ascending-pairs =
+      ascending-blocks 0 (2 * 2 ^ n) (λ c. c) (pairRank n) (components m) (pairsOf n rows)
+      (ascending-listFrom (λ c. c) 1 (2 ^ m - 1) (λ c. c) (λ a b l k h. k)) (λ c k. ascending-pairsOf n rows c) (λ c k p j. inside c p (mem-pairsOf n rows c p j))
+    where
+      inside : (c : ℕ) (p : Candidate) → (w b : ℕ) × (w < 2 ^ n) × (b < 2) × (p ≡ pair n rows c w b)
+          → (0 + c * (2 * 2 ^ n) ≤ pairRank n p) × (pairRank n p < 0 + suc c * (2 * 2 ^ n))
+      inside c p t = omega (arith, ap (pairRank n) (t .4), t .2, t .3, suc-mul c (2 * 2 ^ n))
+
+  pub pairs-nonempty : 1 ≤ m → (p : Candidate) × (ps : List Candidate) × (pairs n m rows ≡ p ∷ ps)
+  pairs-nonempty h = go (pairs n m rows) (in-pairs 1 0 0 (first-pair n m h))
+    where
+      go : (l : List Candidate) → List·Memᴰ (pair n rows 1 0 0) l → (p : Candidate) × (ps : List Candidate) × (l ≡ p ∷ ps)
+      go [] k = absurd (List·Memᴰ·not-nil k)
+      go (p ∷ ps) k = (p, ps, refl)

@@ -1,0 +1,79 @@
+-- `linear::largest_magnitude` meets its contract: it has the largest magnitude of the values before the index. Assumes nothing.
+use mathlib.Core.Path.{_≡_, ap, _∙_}
+use mathlib.Core.Logic.{⊎-elim}
+use Prim.Native.Nat.{_-_}
+use borrow.Author.Needs.{needs}
+use native.Mathlib.Omega.{arith}
+use lib.IntN.{ℤ, natAbs}
+use lib.ListN.{length}
+use Rattle.boolean.specs.Functions.{valueAt}
+use Rattle.boolean.proofs.Words.{word-told}
+use Rattle.linear.proofs.Magnitudes.{Leading, leading-one, leading-keeps, leading-takes, leading-all}
+use Rattle.linear.proofs.largest_magnitude.Statement.{statement}
+use Rattle.linear.proofs.largest_magnitude.Tie as tie
+
+abbrev Inv-loop : tie.InvT-loop
+Inv-loop values largest₀ w₀ largest w = Leading values w largest
+
+abbrev μ-loop : tie.MeasureT-loop
+μ-loop values largest₀ w₀ largest w = length values - w
+
+shared-slice-copy-out-magnitude : tie.Need-shared-slice-copy-out-magnitude Inv-loop μ-loop
+shared-slice-copy-out-magnitude c = search needs
+
+magnitude-requires : tie.Need-magnitude-requires Inv-loop μ-loop
+magnitude-requires c κs = search needs
+
+loop-holds : tie.Need-loop-holds Inv-loop μ-loop
+loop-holds c =
+    leading-one _ _ (c .before .before .pre)
+    (c .magnitude .ensures ∙ ap natAbs (word-told (valueAt (c .before .before .args .values .now) 0) (c .before .magnitude-arg .given)))
+
+mul-magnitude : tie.Need-mul-magnitude Inv-loop μ-loop
+mul-magnitude c = search needs
+
+shared-slice-copy-out-magnitude-2 : tie.Need-shared-slice-copy-out-magnitude-2 Inv-loop μ-loop
+shared-slice-copy-out-magnitude-2 c = search needs
+
+magnitude-requires-2 : tie.Need-magnitude-requires-2 Inv-loop μ-loop
+magnitude-requires-2 c κs = search needs
+
+add-w : tie.Need-add-w Inv-loop μ-loop
+add-w c = search needs
+
+loop-less : tie.Need-loop-less Inv-loop μ-loop
+loop-less c = search needs
+
+-- the value that is read, and its magnitude
+abbrev value : tie.After-magnitude2 Inv-loop μ-loop → ℤ
+value c = let at-loop = c .before .before .before in valueAt (at-loop .before .before .before .args .values .now) (at-loop .loop .w)
+
+read : (c : tie.After-magnitude2 Inv-loop μ-loop) → c .magnitude2 .result ≡ natAbs (value c)
+read c = c .magnitude2 .ensures ∙ ap natAbs (word-told (value c) (c .before .magnitude-arg2 .given))
+
+loop-again : tie.Need-loop-again Inv-loop μ-loop
+loop-again c =
+    let so-far = c .before .before .before .before .loop .inv in
+    let inside = c .before .before .before .loop-test .taken in
+    ⊎-elim (λ t. leading-takes so-far _ inside (t .1 ∙ read (c .before)) (omega (arith, t .0 .taken)))
+    (λ t. rw (t .1) (leading-keeps so-far inside (omega (arith, t .0 .left, read (c .before))))) (c .if1 .came)
+
+returns : tie.Need-returns Inv-loop μ-loop
+returns c = leading-all (c .before .loop .inv) (c .loop-test .left)
+
+pub largest-magnitude-spec : {M : Type 1} → statement M
+largest-magnitude-spec =
+    tie.close
+    (tie.spec
+    Inv-loop
+    μ-loop
+    shared-slice-copy-out-magnitude
+    magnitude-requires
+    loop-holds
+    mul-magnitude
+    shared-slice-copy-out-magnitude-2
+    magnitude-requires-2
+    add-w
+    loop-less
+    loop-again
+    returns)

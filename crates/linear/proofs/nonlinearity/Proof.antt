@@ -1,0 +1,72 @@
+-- `linear::nonlinearity` meets its contract: what the checks found says which case it is, and the sweep has the figure and its pair. Assumes nothing.
+use borrow.Author.Needs.{needs}
+use mathlib.Core.Path.{_≡_, sym, ap, _∙_}
+use mathlib.Core.List.{[]}
+use lib.Seq.{length-take-le}
+use Rattle.boolean.specs.Selection.{Candidate, shown}
+use Rattle.refusals.specs.Table.{figures, first, boxChecks, Box}
+use Rattle.refusals.specs.declared.Checked.the-variants.{Accepted}
+use Rattle.refusals.proofs.Checks.{box, reply-refused, reply-accepted}
+use Rattle.linear.proofs.nonlinearity.Statement.{statement}
+use Rattle.linear.proofs.nonlinearity.Tie as tie
+
+check-box-requires : tie.Need-check-box-requires
+check-box-requires c κs = search needs
+
+enum-known-e : tie.Need-enum-known-e
+enum-known-e c = search needs
+
+returns : tie.Need-returns
+returns c = reply-refused (sym (c .before .before .before .check-box .ensures) ∙ c .before .e .given .1) _
+
+enum-told : tie.Need-enum-told
+enum-told c = search needs
+
+-- accepted: the rows are a box
+accepted : (c : tie.After-enum-told) → let a = c .before .before .before .before .args in first (boxChecks (a .n) (a .m) (a .rows .now)) ≡ Accepted
+accepted c = sym (c .before .before .check-box .ensures) ∙ c .enum-told .given .1
+
+boxed : (c : tie.After-enum-told) → let a = c .before .before .before .before .args in Box (a .n) (a .m) (a .rows .now)
+boxed c = let a = c .before .before .before .before .args in box (a .n) (a .m) (a .rows .now) [] (accepted c)
+
+spectra-requires : tie.Need-spectra-requires
+spectra-requires c κs = search needs
+
+array-borrow-prefix-table : tie.Need-array-borrow-prefix-table
+array-borrow-prefix-table c = boxed (c .before .before) .small
+
+slice-aggregate-sweep : tie.Need-slice-aggregate-sweep
+slice-aggregate-sweep c = sym (length-take-le _ _ (boxed (c .before .before .before) .small))
+
+array-borrow-prefix-values : tie.Need-array-borrow-prefix-values
+array-borrow-prefix-values c = boxed (c .before .before .before) .small
+
+slice-aggregate-sweep-2 : tie.Need-slice-aggregate-sweep-2
+slice-aggregate-sweep-2 c = sym (length-take-le _ _ (boxed (c .before .before .before .before) .small))
+
+sweep-requires : tie.Need-sweep-requires
+sweep-requires c κs =
+    let told = c .before .before .before .before in
+    let b = boxed told in
+    (record { box = b; table-size = length-take-le _ _ (b .small) ∙ b .size; out-size = length-take-le _ _ (b .small) ∙ b .size }, c .before .before .before .spectra .ensures)
+
+returns-2 : tie.Need-returns-2
+returns-2 c =
+    let swept = c .before .before in
+    ap (λ (k : Candidate). figures (shown k)) (swept .sweep .ensures) ∙ reply-accepted (accepted (swept .before .before .before .before .before)) _
+
+pub nonlinearity-spec : {M : Type 1} → statement M
+nonlinearity-spec =
+    tie.close
+    (tie.spec
+    check-box-requires
+    enum-known-e
+    returns
+    enum-told
+    spectra-requires
+    array-borrow-prefix-table
+    slice-aggregate-sweep
+    array-borrow-prefix-values
+    slice-aggregate-sweep-2
+    sweep-requires
+    returns-2)

@@ -1,0 +1,80 @@
+-- `linear::with_spectrum` meets its contract: the first value of the largest magnitude, with its sign, is the component's first nearest pair. Assumes nothing.
+use mathlib.Core.Path.{ap, _∙_}
+use Prim.Native.Nat.{ℕ, _-_, _/_}
+use native.Mathlib.Omega.{arith}
+use borrow.Author.Needs.{needs}
+use Rattle.boolean.specs.Functions.{valueAt, signBit}
+use Rattle.boolean.proofs.Words.{word-told}
+use Rattle.linear.specs.Calls.{candidate}
+use Rattle.linear.proofs.Nearest.{values-length, values-nonempty, largest-le, taken, kept}
+use Rattle.linear.proofs.with_spectrum.Statement.{statement}
+use Rattle.linear.proofs.with_spectrum.Tie as tie
+
+largest-magnitude-requires : tie.Need-largest-magnitude-requires
+largest-magnitude-requires c κs = let a = c .before .args in values-nonempty (a .n) (a .rows .now) (a .c) (c .before .pre .1)
+
+cast-count : tie.Need-cast-count
+cast-count c = search needs
+
+sub-count : tie.Need-sub-count
+sub-count c =
+    let a = c .before .before .args in
+    let h = largest-le (a .n) (a .rows .now) (a .c) (c .before .before .pre .1) (c .largest-magnitude .ensures) in
+    omega (arith, c .before .before .pre .0 .size)
+
+first-place-requires : tie.Need-first-place-requires
+first-place-requires c κs = search needs
+
+mul-sign-bit : tie.Need-mul-sign-bit
+mul-sign-bit c = search needs
+
+shared-slice-copy-out-sign-bit : tie.Need-shared-slice-copy-out-sign-bit
+shared-slice-copy-out-sign-bit c = search needs
+
+sign-bit-requires : tie.Need-sign-bit-requires
+sign-bit-requires c κs = search needs
+
+cast-t19 : tie.Need-cast-t19
+cast-t19 c =
+    let placed = c .before .before in
+    let start = placed .before .before .before .before .before in
+    let a = start .args in
+    omega (arith, placed .first-place .ensures .inside, values-length (a .n) (a .rows .now) (a .c) (start .pre .1), start .pre .0 .size, start .pre .0 .small)
+
+cast-t20 : tie.Need-cast-t20
+cast-t20 c = search needs
+
+returns : tie.Need-returns
+returns c =
+    let placed = c .before .before in
+    let counted = placed .before .before .before in
+    let start = counted .before .before in
+    let a = start .args in
+    taken (a .n) (a .rows .now) (a .c) (start .pre .1) (counted .largest-magnitude .ensures)
+    (ap (λ (k : ℕ). (k - counted .largest-magnitude .result) / 2) (start .pre .0 .size))
+    (candidate (a .found)) (placed .before .if1 .taken) (placed .first-place .ensures)
+    (c .sign-bit .ensures ∙ ap signBit (word-told (valueAt (a .values .now) (placed .first-place .result)) (c .before .sign-bit-arg .given)))
+
+returns-2 : tie.Need-returns-2
+returns-2 c =
+    let counted = c .before .before in
+    let start = counted .before .before in
+    let a = start .args in
+    kept (a .n) (a .rows .now) (a .c) (start .pre .1) (counted .largest-magnitude .ensures)
+    (ap (λ (k : ℕ). (k - counted .largest-magnitude .result) / 2) (start .pre .0 .size)) (candidate (a .found)) (c .if1 .left)
+
+pub with-spectrum-spec : {M : Type 1} → statement M
+with-spectrum-spec =
+    tie.close
+    (tie.spec
+    largest-magnitude-requires
+    cast-count
+    sub-count
+    first-place-requires
+    mul-sign-bit
+    shared-slice-copy-out-sign-bit
+    sign-bit-requires
+    cast-t19
+    cast-t20
+    returns
+    returns-2)

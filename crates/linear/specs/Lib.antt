@@ -1,0 +1,2 @@
+pub mod Nonlinearity
+pub mod Calls

@@ -1,0 +1,30 @@
+-- Nonlinearity: the least count of differing inputs over all components and all affine functions, with the first pair that reaches it.
+use Prim.Native.Nat.{ℕ, _^_}
+use mathlib.Core.List.{List, [], _∷_}
+use Rattle.boolean.specs.Sums.{each, listBelow}
+use Rattle.boolean.specs.Functions.{distance, component, components}
+use Rattle.boolean.specs.Selection.{Candidate, firstLeast, shown}
+use Rattle.refusals.specs.Table.{Reply, replyAfter, first, boxChecks}
+
+-- a pair: component c and the affine function (w, b), with the count of inputs at which they differ
+abbrev pub pair : ℕ → List ℕ → ℕ → ℕ → ℕ → Candidate
+pair n rows c w b = record { figure = distance n (component rows c) w b; witness = c ∷ w ∷ b ∷ [] }
+
+-- the pairs of one component, in ascending w, then b
+unfoldable pub pairsOf : ℕ → List ℕ → ℕ → List Candidate
+unfolding each listBelow
+pairsOf n rows c = each (listBelow (2 ^ n) (λ w. w)) (λ w. pair n rows c w 0 ∷ pair n rows c w 1 ∷ [])
+
+-- all pairs, in the components' order, then w, then b
+unfoldable pub pairs : ℕ → ℕ → List ℕ → List Candidate
+unfolding each components pairsOf
+pairs n m rows = each (components m) (λ c. pairsOf n rows c)
+
+-- the first pair that differs at the fewest inputs
+unfoldable pub nonlinearity : ℕ → ℕ → List ℕ → Candidate
+unfolding firstLeast pairs
+nonlinearity n m rows = firstLeast (pairs n m rows)
+
+-- what the call replies: figure, c, w, b, or the number of the refusal
+abbrev pub nonlinearityReply : ℕ → ℕ → List ℕ → Reply
+nonlinearityReply n m rows = replyAfter (first (boxChecks n m rows)) (shown (nonlinearity n m rows))

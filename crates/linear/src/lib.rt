@@ -1,0 +1,199 @@
+// The components of a box: their spectra, and the nonlinearity.
+use refusals::Checked;
+use refusals::Refusal;
+use refusals::Written;
+ghost use mathlib.Core.Path.{_≡_};
+ghost use mathlib.Core.List.{[]};
+ghost use Prim.Native.Nat.{ℕ, _+_, _*_, _^_, _≤_, _<_};
+ghost use lib.IntN.{natAbs};
+ghost use lib.ListN.{length};
+ghost use Rattle.boolean.specs.Bits.{dot};
+ghost use Rattle.boolean.specs.Sums.{listBelow};
+ghost use Rattle.boolean.specs.Functions.{component, spectrum, valueAt};
+ghost use Rattle.boolean.specs.Selection.{best, lower};
+ghost use Rattle.refusals.specs.Table.{first, replyAfter, contentAfter, written, Box};
+ghost use Rattle.walsh.specs.Work.{Spectra};
+ghost use Rattle.linear.specs.Nonlinearity.{pairsOf, nonlinearityReply};
+ghost use Rattle.linear.specs.Nonlinearity as spec;
+ghost use Rattle.linear.specs.Calls.{componentChecks, leastPair, candidate, Swept, Largest, FirstPlace};
+
+// The best pair so far.
+pub struct Found {
+    pub count: u32,
+    pub c: u32,
+    pub w: u32,
+    pub b: u32,
+}
+
+// The answer of the nonlinearity call.
+pub enum LeastPair {
+    Reached { count: u32, c: u32, w: u32, b: u32 },
+    Declined(Refusal),
+}
+
+// The value of component c at a row.
+fn component_at(row: u16, c: u32) -> u8
+    ensures { λ r. ⌜ r ≡ dot row c ⌝ }
+{
+    boolean::dot(row as u32, c) as u8
+}
+
+// The truth table of component c.
+pub fn write_component(rows: &[u16], c: u32, table: &mut [u8])
+    requires { ⌜ length (now table) ≡ length (now rows) ⌝ }
+    ensures { λ _. ⌜ now (table .exit) ≡ listBelow (length (now (rows .entry))) (λ x. component (now (rows .entry)) c x) ⌝ }
+{
+    let mut x = 0;
+    while x < rows.len() {
+        table[x] = component_at(rows[x], c);
+        x += 1;
+    }
+}
+
+// The spectrum of component c, with the fixed table and an array for the truth table lent.
+pub fn component_spectrum(
+    fixed: &[i32; 2048],
+    n: u32,
+    m: u32,
+    rows: &[u16],
+    c: u32,
+    table: &mut [u8],
+    out: &mut [i32],
+)
+    requires { ⌜ Swept n m (now rows) (now table) (now out) × Spectra (now fixed) ⌝ }
+    ensures { λ _. ⌜ (now (out .exit) ≡ spectrum n (component (now (rows .entry)) c)) × (now (table .exit) ≡ listBelow (2 ^ n) (λ x. component (now (rows .entry)) c x)) ⌝ }
+{
+    write_component(rows, c, table);
+    walsh::descend(fixed, n, table, out);
+}
+
+// The checks of the component's spectrum.
+fn check_component(n: u32, m: u32, rows: &[u16], c: u32, room: usize) -> Checked
+    ensures { λ r. ⌜ r ≡ first (componentChecks n m (now (rows .entry)) c room) ⌝ }
+{
+    if let Checked::Refused(e) = refusals::check_box(n, m, rows) {
+        return Checked::Refused(e);
+    }
+    let masks = boolean::power_of_two(m) as u32;
+    if !refusals::in_range(1, masks - 1, c) {
+        return Checked::Refused(Refusal::Parameter);
+    }
+    if room != boolean::power_of_two(n) {
+        return Checked::Refused(Refusal::WrittenLength);
+    }
+    Checked::Accepted
+}
+
+// The spectrum of component c of a box.
+pub fn spectrum_of_component(n: u32, m: u32, rows: &[u16], c: u32, out: &mut [i32]) -> Written
+    ensures reply { λ r. ⌜ written r ≡ replyAfter (first (componentChecks n m (now (rows .entry)) c (length (now (out .entry))))) [] ⌝ }
+    ensures content { λ r. ⌜ now (out .exit) ≡ contentAfter (first (componentChecks n m (now (rows .entry)) c (length (now (out .entry))))) (spectrum n (component (now (rows .entry)) c)) (now (out .entry)) ⌝ }
+{
+    if let Checked::Refused(e) = check_component(n, m, rows, c, out.len()) {
+        return Written::Declined(e);
+    }
+    let fixed = walsh::spectra();
+    let mut table = [0u8; 256];
+    let size = rows.len();
+    component_spectrum(&fixed, n, m, rows, c, &mut table[..size], out);
+    Written::Done
+}
+
+// The largest magnitude of a spectrum, by negation.
+fn largest_magnitude(values: &[i32]) -> u32
+    requires { ⌜ 0 < length (now values) ⌝ }
+    ensures { λ r. ⌜ Largest (now (values .entry)) r ⌝ }
+{
+    let mut largest = boolean::magnitude(values[0]);
+    let mut w = 1;
+    while w < values.len() {
+        let size = boolean::magnitude(values[w]);
+        if largest < size {
+            largest = size;
+        }
+        w += 1;
+    }
+    largest
+}
+
+// The first place of a magnitude that some value has.
+fn first_place(values: &[i32], size: u32) -> usize
+    requires { ⌜ Largest (now values) size ⌝ }
+    ensures { λ r. ⌜ FirstPlace (now (values .entry)) size r ⌝ }
+{
+    let mut w = 0;
+    while boolean::magnitude(values[w]) != size {
+        w += 1;
+    }
+    w
+}
+
+// The best pair so far, with those of component c, whose spectrum is given. The largest magnitude has the fewest differing inputs, and
+// its sign decides b.
+fn with_spectrum(found: Found, n: u32, m: u32, rows: &[u16], c: u32, values: &[i32]) -> Found
+    requires { ⌜ Box n m (now rows) × (now values ≡ spectrum n (component (now rows) c)) ⌝ }
+    ensures { λ r. ⌜ candidate r ≡ best lower (candidate found) (pairsOf n (now (rows .entry)) c) ⌝ }
+{
+    let largest = largest_magnitude(values);
+    let count = (rows.len() as u32 - largest) / 2;
+    if count < found.count {
+        let w = first_place(values, largest);
+        let b = boolean::sign_bit(values[w]);
+        Found {
+            count,
+            c,
+            w: w as u32,
+            b: b as u32,
+        }
+    } else {
+        found
+    }
+}
+
+// Every component in turn, from 1 to 2^m − 1. It starts from a count that no pair has.
+fn sweep(
+    fixed: &[i32; 2048],
+    n: u32,
+    m: u32,
+    rows: &[u16],
+    table: &mut [u8],
+    values: &mut [i32],
+) -> Found
+    requires { ⌜ Swept n m (now rows) (now table) (now values) × Spectra (now fixed) ⌝ }
+    ensures { λ r. ⌜ candidate r ≡ spec.nonlinearity n m (now (rows .entry)) ⌝ }
+{
+    let masks = boolean::power_of_two(m) as u32;
+    let mut found = Found {
+        count: rows.len() as u32 + 1,
+        c: 0,
+        w: 0,
+        b: 0,
+    };
+    let mut c: u32 = 1;
+    while c < masks {
+        component_spectrum(fixed, n, m, rows, c, table, values);
+        found = with_spectrum(found, n, m, rows, c, values);
+        c += 1;
+    }
+    found
+}
+
+// The nonlinearity of a box, with the first pair that reaches it.
+pub fn nonlinearity(n: u32, m: u32, rows: &[u16]) -> LeastPair
+    ensures { λ r. ⌜ leastPair r ≡ nonlinearityReply n m (now (rows .entry)) ⌝ }
+{
+    if let Checked::Refused(e) = refusals::check_box(n, m, rows) {
+        return LeastPair::Declined(e);
+    }
+    let fixed = walsh::spectra();
+    let mut table = [0u8; 256];
+    let mut values = [0i32; 256];
+    let size = rows.len();
+    let found = sweep(&fixed, n, m, rows, &mut table[..size], &mut values[..size]);
+    LeastPair::Reached {
+        count: found.count,
+        c: found.c,
+        w: found.w,
+        b: found.b,
+    }
+}
