@@ -1,14 +1,16 @@
 -- Lists over the numbers below a bound, and the lists that a rule gives for each member, one after the other.
 use mathlib.Core.Path.{_≡_, refl, sym, ap, ap₂, _∙_, subst}
+use mathlib.Core.Bool.{Bool}
 use mathlib.Core.Logic.{_⊎_, inl, inr}
-use mathlib.Core.List.{List, [], _∷_, _++_, append-assoc, List·Memᴰ, List·Memᴰ·head, List·Memᴰ·tail, List·Memᴰ·not-nil, List·Memᴰ·append-cases, Memᴰ·append-left, Memᴰ·append-right}
-use Prim.Native.Nat.{ℕ, zero, suc, _+_, _*_, _<_, _≤_, zero-le}
+use mathlib.Core.List.{List, [], _∷_, _++_, append-assoc, append-nil, List·Memᴰ, List·Memᴰ·head, List·Memᴰ·tail, List·Memᴰ·not-nil, List·Memᴰ·append-cases, Memᴰ·append-left, Memᴰ·append-right}
+use Prim.Native.Nat.{ℕ, zero, suc, _+_, _-_, _*_, _<_, _≤_, zero-le}
 use native.Mathlib.Nat.{add-zero, zero-add, le-refl, le-of-suc-le-suc, not-suc-le-zero, mul-le-mul-right}
+use native.Mathlib.Numerals.{add-one}
 use native.Mathlib.Omega.{arith}
 use native.Mathlib.Decide.{ℕ-discrete}
-use lib.ListN.{length, getD, take, drop, length-append}
-use lib.Seq.{ext-getD, take-at}
-use Rattle.boolean.specs.Sums.{listFrom, listBelow, each}
+use lib.ListN.{length, getD, take, drop, length-append, length-drop}
+use lib.Seq.{ext-getD, take-at, take-all}
+use Rattle.boolean.specs.Sums.{countBelow, one-if, listFrom, listBelow, each}
 use Rattle.boolean.proofs.Selection.{Ascending, of-cons}
 
 shift : (i k : ℕ) → suc i + k ≡ i + suc k
@@ -155,9 +157,44 @@ module _ {A B : Type 0} where
   ascending-blocks start size rank sub xs f p q h =
       ascending-each rank sub xs f p q (λ x y m n l a b j k. omega (arith, h x m a j .1, h y n b k .0, mul-le-mul-right size l))
 
+-- a loop over numbers from one on, and from zero on: one turn more
+pub each-from-one : {B : Type 0} (k : ℕ) (f : ℕ → List B) → 1 ≤ k → each (listFrom 1 (k + 1 - 1) (λ c. c)) f ≡ each (listFrom 1 (k - 1) (λ c. c)) f ++ f k
+unfolding each
+each-from-one {B} k f h =
+    let more : k + 1 - 1 ≡ suc (k - 1) = omega arith in
+    let last : 1 + (k - 1) ≡ k = omega arith in
+    ap (λ (j : ℕ). each (listFrom 1 j (λ c. c)) f) more ∙ ap (λ (l : List ℕ). each l f) (listFrom-more 1 (k - 1) (λ c. c))
+    ∙ each-append (listFrom 1 (k - 1) (λ c. c)) ((1 + (k - 1)) ∷ []) f
+    ∙ ap (λ (l : List B). each (listFrom 1 (k - 1) (λ c. c)) f ++ l) (append-nil (f (1 + (k - 1))) ∙ ap f last)
+
+pub each-from-zero : {B : Type 0} (k : ℕ) (f : ℕ → List B) → each (listBelow (k + 1) (λ c. c)) f ≡ each (listBelow k (λ c. c)) f ++ f k
+unfolding each
+each-from-zero {B} k f =
+    ap (λ (j : ℕ). each (listBelow j (λ c. c)) f) (add-one k) ∙ ap (λ (l : List ℕ). each l f) (listBelow-more k (λ c. c))
+    ∙ each-append (listBelow k (λ c. c)) (k ∷ []) f ∙ ap (λ (l : List B). each (listBelow k (λ c. c)) f ++ l) (append-nil (f k))
+
+-- more numbers make no shorter list
+pub each-grows : {B : Type 0} (i j k : ℕ) (f : ℕ → List B) → j ≤ k → length (each (listFrom i j (λ c. c)) f) ≤ length (each (listFrom i k (λ c. c)) f)
+unfolding each listFrom
+each-grows i zero k f h = zero-le
+each-grows i (suc j) zero f h = absurd (not-suc-le-zero h)
+each-grows i (suc j) (suc k) f h = simp length-append (omega (arith, each-grows (suc i) j k f (le-of-suc-le-suc h)))
+
+-- lists of one element where a test passes, and of none elsewhere, are counted by it
+pub each-counts : {B : Type 0} (k : ℕ) (f : ℕ → List B) (p : ℕ → Bool) → ((x : ℕ) → length (f x) ≡ one-if (p x)) → length (each (listBelow k (λ c. c)) f) ≡ countBelow k p
+unfolding countBelow each listBelow listFrom
+each-counts zero f p h = refl
+each-counts (suc k) f p h =
+    ap length (ap (λ (j : ℕ). each (listBelow j (λ c. c)) f) (sym (add-one k)) ∙ each-from-zero k f)
+    ∙ length-append (each (listBelow k (λ c. c)) f) (f k) ∙ ap₂ (λ (a b : ℕ). a + b) (each-counts k f p h) (h k)
+
 -- an array whose first k elements were lent and have come back: that part is within it, and is what came back
 pub part-inside : {A : Type 0} (last old : List A) (k : ℕ) → length last ≡ k → k ≤ length (last ++ drop k old)
 part-inside last old k h = simp length-append (omega arith)
 
 pub part-is : {A : Type 0} (last old : List A) (k : ℕ) → length last ≡ k → take k (last ++ drop k old) ≡ last
 part-is last old k h = take-at last (drop k old) k h
+
+-- what is past a place, as `&l[h..]` hands it on
+pub upper-part : {A : Type 0} (h : ℕ) (l : List A) → take (length l - h) (drop h l) ≡ drop h l
+upper-part h l = take-all (length l - h) (drop h l) (omega (arith, length-drop h l))

@@ -180,6 +180,31 @@ pub firstLargest-from : (b c : Candidate) (cs : List Candidate) → b .figure < 
 unfolding firstLargest
 firstLargest-from b c cs h = best-takes higher b c cs (lt-ltb _ _ h)
 
+-- two starts of one figure give the same where some candidate beats them
+best-same : (b d : Candidate) (cs : List Candidate) → b .figure ≡ d .figure → (c : Candidate) → List·Memᴰ c cs → d .figure < c .figure
+    → best higher b cs ≡ best higher d cs
+best-same b d [] e c m l = absurd (List·Memᴰ·not-nil m)
+best-same b d (x ∷ cs) e c m l =
+    best-step higher (λ z. best higher b (x ∷ cs) ≡ z) d x cs (λ t. best-takes higher b x cs (same ∙ t))
+    (λ t.
+    best-keeps higher b x cs (same ∙ t)
+    ∙ of-cons (λ z. d .figure < z .figure → best higher b cs ≡ best higher d cs) (λ k. absurd (omega (arith, ltb-false (d .figure) (x .figure) t)))
+    (λ n k. best-same b d cs e c n k) m l)
+  where
+    same : higher x b ≡ higher x d
+    same = ap (λ (k : ℕ). ltb k (x .figure)) e
+
+-- a loop starts from figure 0, which some candidate exceeds
+pub firstLargest-above : (b : Candidate) (cs : List Candidate) → b .figure ≡ 0 → (c : Candidate) → List·Memᴰ c cs → 0 < c .figure
+    → best higher b cs ≡ firstLargest cs
+unfolding firstLargest
+firstLargest-above b [] e c m l = absurd (List·Memᴰ·not-nil m)
+firstLargest-above b (x ∷ cs) e c m l =
+    best-step higher (λ z. z ≡ best higher x cs) b x cs (λ t. refl)
+    (λ t.
+    let z = ltb-false (b .figure) (x .figure) t in
+    best-same b x cs (omega arith) c (of-cons (λ d. 0 < d .figure → List·Memᴰ d cs) (λ k. absurd (omega arith)) (λ n k. n) m l) (omega arith))
+
 -- ---- ties broken by a rank
 module _ {C : Type 0} (value rank : C → ℕ) where
   -- of a lower value, or of the same and no higher rank

@@ -52,7 +52,7 @@ module _ (n : ℕ) (f : ℕ → ℕ) (w : ℕ) (h : Boolean (suc n) f) (l : w < 
       ∙ sym (ap₂ (λ (a b : ℤ). a -ℤ b) (walsh-transform n f w lower-bits) (walsh-transform n (λ x. f (2 ^ n + x)) w upper-bits))
 
 -- ---- the distance
-agree-count : (k : ℕ) (f g : ℕ → ℕ) → sumBelow k (λ x. agreement (f x) (g x)) +ℤ pos (2 * countBelow k (λ x. not (eqb (f x) (g x)))) ≡ pos k
+pub agree-count : (k : ℕ) (f g : ℕ → ℕ) → sumBelow k (λ x. agreement (f x) (g x)) +ℤ pos (2 * countBelow k (λ x. not (eqb (f x) (g x)))) ≡ pos k
 unfolding sumBelow agreement countBelow one-if
 agree-count zero f g = refl
 agree-count (suc k) f g = step (eqb (f k) (g k)) (sumBelow k (λ x. agreement (f x) (g x))) (countBelow k (λ x. not (eqb (f x) (g x)))) (agree-count k f g)

@@ -1,8 +1,9 @@
 -- Sums, counts and lists over the numbers below a bound.
 use Prim.Native.Nat.{ℕ, zero, suc, _+_, max}
-use mathlib.Core.Bool.{Bool, true, false, _&&_}
+use mathlib.Core.Bool.{Bool, true, false, not, _&&_}
 use mathlib.Core.List.{List, [], _∷_, _++_}
 use lib.Bits.{bitXor}
+use lib.Dec.{eqb}
 use lib.IntN.{ℤ, pos, _+ℤ_}
 
 -- F 0 + F 1 + .. + F (k − 1)
@@ -60,3 +61,9 @@ keep p xs = each xs (λ x. elim (p x) [ true ↦ x ∷ [] | false ↦ [] ])
 unfoldable pub largestBelow : ℕ → (ℕ → ℕ) → ℕ
 largestBelow zero f = zero
 largestBelow (suc k) f = max (largestBelow k f) (f k)
+
+-- no two members are equal
+unfoldable pub distinct : List ℕ → Bool
+unfolding every
+distinct [] = true
+distinct (x ∷ xs) = every (λ y. not (eqb x y)) xs && distinct xs

@@ -1,7 +1,11 @@
-// Reads boxes from standard input, each as n and m in a byte and its rows in two, low byte first, and writes the nonlinearity of each: as it is,
-// after one column addition, after a second, and after a third that is refused and leaves the rows standing.
+// Reads boxes from standard input, each as n and m in a byte and its rows in two, low byte first, and writes the figures of each; then its
+// nonlinearity after one column addition, after a second, and after a third that is refused and leaves the rows standing.
+use algebraic::DegreeFound;
+use avalanche::LargestChange;
+use differential::LargestCell;
 use libc::STDOUT_FILENO;
 use linear::LeastPair;
+use refusals::Verdict;
 use refusals::Written;
 ghost use Prim.Native.Nat.{_*_, _≤_};
 ghost use lib.ListN.{length};
@@ -35,6 +39,60 @@ fn show_nonlinearity(n: u32, m: u32, rows: &[u16]) {
     lines::write_number(w);
     lines::write_number(b);
     lines::end_line();
+}
+
+fn show_largest_cell(n: u32, m: u32, rows: &[u16]) {
+    let answer = differential::largest_cell(n, m, rows);
+    let LargestCell::Reached { count, a, beta } = answer else {
+        return;
+    };
+    io::write_all(STDOUT_FILENO, b"xor");
+    lines::write_number(count);
+    lines::write_number(a);
+    lines::write_number(beta);
+    lines::end_line();
+}
+
+fn show_change(answer: LargestChange) {
+    let LargestChange::Reached { figure, c, s } = answer else {
+        return;
+    };
+    lines::write_number(figure);
+    lines::write_number(c);
+    lines::write_number(s);
+    lines::end_line();
+}
+
+fn show_changes(n: u32, m: u32, rows: &[u16]) {
+    io::write_all(STDOUT_FILENO, b"autocorrelation");
+    show_change(avalanche::autocorrelation(n, m, rows));
+    io::write_all(STDOUT_FILENO, b"sac");
+    show_change(avalanche::dynamic_distance(n, m, rows, 1, 1));
+    io::write_all(STDOUT_FILENO, b"bic");
+    show_change(avalanche::dynamic_distance(n, m, rows, 2, 1));
+}
+
+fn show_verdict(answer: Verdict) {
+    match answer {
+        Verdict::Yes => lines::write_number(1),
+        Verdict::No => lines::write_number(0),
+        Verdict::Undecided(e) => lines::write_refused(e),
+    }
+    lines::end_line();
+}
+
+fn show_degree(n: u32, m: u32, rows: &[u16]) {
+    let answer = algebraic::degree(n, m, rows);
+    let DegreeFound::Reached { degree } = answer else {
+        return;
+    };
+    io::write_all(STDOUT_FILENO, b"degree");
+    lines::write_number(degree);
+    lines::end_line();
+    io::write_all(STDOUT_FILENO, b"complete");
+    show_verdict(avalanche::is_complete(n, m, rows));
+    io::write_all(STDOUT_FILENO, b"bijective");
+    show_verdict(algebraic::is_bijective(n, m, rows));
 }
 
 // The nonlinearity of the rows that stand after an addition to column m + 1, which no box has.
@@ -86,6 +144,9 @@ fn show_box(n: u32, m: u32, rows: &[u16]) {
     lines::write_number(m);
     lines::end_line();
     show_nonlinearity(n, m, rows);
+    show_largest_cell(n, m, rows);
+    show_changes(n, m, rows);
+    show_degree(n, m, rows);
     show_first(n, m, rows);
 }
 

@@ -11,6 +11,7 @@ use lib.IntN.{ℤ, _+ℤ_, _-ℤ_, natAbs}
 use borrow.Rule.Slice.PartMut.{putMid}
 use Rattle.boolean.specs.Sums.{listBelow}
 use Rattle.boolean.specs.Functions.{at, walsh, spectrum}
+use Rattle.boolean.proofs.Lists.{upper-part}
 use Rattle.boolean.proofs.Walsh.{walsh-cong, walsh-le, walsh-low, walsh-high}
 use Rattle.walsh.specs.Work.{Ready, Halves, Crossed}
 use Rattle.walsh.proofs.Step as step
@@ -64,7 +65,7 @@ module _ (n : ℕ) (table : List ℕ) (out : List ℤ) (r : Ready n table out) (
 
     pub upper-ready : Ready (n - 1) (take (length table - h) (drop h table)) (take (length after-lower - h) (drop h after-lower))
     upper-ready =
-        subst (λ (t : List ℕ). Ready (n - 1) t (take (length after-lower - h) (drop h after-lower))) (sym (step.upper-part h table))
+        subst (λ (t : List ℕ). Ready (n - 1) t (take (length after-lower - h) (drop h after-lower))) (sym (upper-part h table))
         (record {
           read = record {
             n-low = omega arith;
@@ -79,7 +80,7 @@ module _ (n : ℕ) (table : List ℕ) (out : List ℤ) (r : Ready n table out) (
       as-upper : l₂ ≡ listBelow h upper
       unfolding spectrum
       as-upper =
-          e₂ ∙ ap (λ (t : List ℕ). spectrum (n - 1) (at t)) (step.upper-part h table) ∙ ap (λ (k : ℕ). listBelow k upper) (sym half)
+          e₂ ∙ ap (λ (t : List ℕ). spectrum (n - 1) (at t)) (upper-part h table) ∙ ap (λ (k : ℕ). listBelow k upper) (sym half)
 
       abbrev pub after-upper : List ℤ
       after-upper = putMid h (length after-lower - h) after-lower l₂

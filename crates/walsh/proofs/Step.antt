@@ -7,24 +7,20 @@ use native.Mathlib.Nat.{two-pow-succ}
 use native.Mathlib.Decide.{decLt}
 use native.Mathlib.Omega.{arith}
 use lib.ListN.{length, getD, take, drop, length-append, length-drop, List·getD-append, List·getD-eq-default, drop-of-length-le}
-use lib.Seq.{length-take-le, take-all, take-at, drop-at, getD-take, getD-drop, getD-append-add}
+use lib.Seq.{length-take-le, take-at, drop-at, getD-take, getD-drop, getD-append-add}
 use lib.IntN.{ℤ, pos, _+ℤ_, _-ℤ_, natAbs}
 use borrow.Rule.Slice.PartMut.{putMid}
 use Rattle.boolean.specs.Sums.{listBelow}
 use Rattle.boolean.specs.Functions.{valueAt}
-use Rattle.boolean.proofs.Lists.{length-listBelow, getD-listBelow, list-is}
+use Rattle.boolean.proofs.Lists.{upper-part, length-listBelow, getD-listBelow, list-is}
 use Rattle.walsh.specs.Work.{Halves, Crossed}
 
--- the upper part of a list of two halves, as it is handed on
-pub upper-part : {A : Type 0} (h : ℕ) (l : List A) → take (length l - h) (drop h l) ≡ drop h l
-upper-part h l = take-all (length l - h) (drop h l) (omega (arith, length-drop h l))
-
 -- an array of two halves of h each: the lower half was lent and came back as g₁'s values, then the upper as g₂'s
-module _ (h : ℕ) (out : List ℤ) (long : length out ≡ h + h) (g₁ : ℕ → ℤ) (l₁ : List ℤ) (e₁ : l₁ ≡ listBelow h g₁) where
+module _ {A : Type 0} (h : ℕ) (out : List A) (long : length out ≡ h + h) (g₁ : ℕ → A) (l₁ : List A) (e₁ : l₁ ≡ listBelow h g₁) where
   long₁ : length l₁ ≡ h
   long₁ = ap length e₁ ∙ length-listBelow h g₁
 
-  abbrev pub after-lower : List ℤ
+  abbrev pub after-lower : List A
   after-lower = l₁ ++ drop h out
 
   length-after-lower : length after-lower ≡ h + h
@@ -34,62 +30,77 @@ module _ (h : ℕ) (out : List ℤ) (long : length out ≡ h + h) (g₁ : ℕ �
   pub upper-kept : take (length after-lower - h) (drop h after-lower) ≡ drop h out
   upper-kept = upper-part h after-lower ∙ drop-at l₁ (drop h out) h long₁
 
-  module _ (g₂ : ℕ → ℤ) (l₂ : List ℤ) (e₂ : l₂ ≡ listBelow h g₂) where
+  module _ (g₂ : ℕ → A) (l₂ : List A) (e₂ : l₂ ≡ listBelow h g₂) where
     long₂ : length l₂ ≡ h
     long₂ = ap length e₂ ∙ length-listBelow h g₂
 
-    abbrev pub after-upper : List ℤ
+    abbrev pub after-upper : List A
     after-upper = putMid h (length after-lower - h) after-lower l₂
 
     joined : after-upper ≡ l₁ ++ l₂
     joined =
-        ap₂ (λ (x y : List ℤ). x ++ (l₂ ++ y)) (take-at l₁ (drop h out) h long₁)
+        ap₂ (λ (x y : List A). x ++ (l₂ ++ y)) (take-at l₁ (drop h out) h long₁)
         (drop-of-length-le (drop h after-lower) {i = length after-lower - h} (omega (arith, length-drop h after-lower)))
-        ∙ ap (λ (x : List ℤ). l₁ ++ x) (append-nil l₂)
+        ∙ ap (λ (x : List A). l₁ ++ x) (append-nil l₂)
 
     pub length-after-upper : length after-upper ≡ h + h
     length-after-upper = ap length joined ∙ omega (arith, length-append l₁ l₂, long₁, long₂)
 
-    at-lower : (k : ℕ) → k < h → valueAt after-upper k ≡ g₁ k
-    at-lower k lt =
-        ap (λ (l : List ℤ). valueAt l k) joined ∙ List·getD-append l₁ l₂ (pos 0) k (omega (arith, long₁))
-        ∙ ap (λ (l : List ℤ). valueAt l k) e₁ ∙ getD-listBelow h g₁ k (pos 0) lt
+    pub at-lower : (d : A) (k : ℕ) → k < h → getD after-upper k d ≡ g₁ k
+    at-lower d k lt =
+        ap (λ (l : List A). getD l k d) joined ∙ List·getD-append l₁ l₂ d k (omega (arith, long₁))
+        ∙ ap (λ (l : List A). getD l k d) e₁ ∙ getD-listBelow h g₁ k d lt
 
-    at-upper : (k : ℕ) → k < h → valueAt after-upper (h + k) ≡ g₂ k
-    at-upper k lt =
-        ap (λ (l : List ℤ). valueAt l (h + k)) joined ∙ ap (λ (j : ℕ). valueAt (l₁ ++ l₂) (j + k)) (sym long₁)
-        ∙ getD-append-add l₁ l₂ k (pos 0) ∙ ap (λ (l : List ℤ). valueAt l k) e₂ ∙ getD-listBelow h g₂ k (pos 0) lt
+    pub at-upper : (d : A) (k : ℕ) → k < h → getD after-upper (h + k) d ≡ g₂ k
+    at-upper d k lt =
+        ap (λ (l : List A). getD l (h + k) d) joined ∙ ap (λ (j : ℕ). getD (l₁ ++ l₂) (j + k) d) (sym long₁)
+        ∙ getD-append-add l₁ l₂ k d ∙ ap (λ (l : List A). getD l k d) e₂ ∙ getD-listBelow h g₂ k d lt
 
-    -- what is shown of g₁ and of g₂ holds of every entry
-    pub halves : ((k : ℕ) → k < h → natAbs (g₁ k) ≤ 2 ^ 29) → ((k : ℕ) → k < h → natAbs (g₂ k) ≤ 2 ^ 29) → Halves h after-upper
-    halves small₁ small₂ = record { size = length-after-upper; small = λ k. go k (decLt k h) (decLt k (h + h)) }
-      where
-        go : (k : ℕ) → Dec (k < h) → Dec (k < h + h) → natAbs (valueAt after-upper k) ≤ 2 ^ 29
-        go k (yes lt) d = subst (λ (z : ℤ). natAbs z ≤ 2 ^ 29) (sym (at-lower k lt)) (small₁ k lt)
-        go k (no ge) (yes lt) =
-            let e : h + (k - h) ≡ k = omega arith in
-            subst (λ (j : ℕ). natAbs (valueAt after-upper j) ≤ 2 ^ 29) e
-            (subst (λ (z : ℤ). natAbs z ≤ 2 ^ 29) (sym (at-upper (k - h) (omega arith))) (small₂ (k - h) (omega arith)))
-        go k (no ge) (no past) =
-            subst (λ (z : ℤ). natAbs z ≤ 2 ^ 29) (sym (List·getD-eq-default after-upper (pos 0) (omega (arith, length-after-upper)))) (omega arith)
+-- a list whose two halves of h entries each are G's values is the list of them
+pub halves-are : {A : Type 0} (d : A) (h : ℕ) (G : ℕ → A) (l : List A) → length l ≡ h + h
+    → ((k : ℕ) → k < h → getD l k d ≡ G k) → ((k : ℕ) → k < h → getD l (h + k) d ≡ G (h + k)) → l ≡ listBelow (h + h) G
+halves-are {A} d h G l long low high = list-is d (h + h) G l long (λ k lt. entry k lt (decLt k h))
+  where
+    entry : (k : ℕ) → k < h + h → Dec (k < h) → getD l k d ≡ G k
+    entry k lt (yes below) = low k below
+    entry k lt (no ge) =
+        let e : h + (k - h) ≡ k = omega arith in
+        subst (λ (j : ℕ). getD l j d ≡ G j) e (high (k - h) (omega arith))
 
-    -- the butterfly makes the values of G of them, where the halving rule says so
-    pub crossed-is : (new : List ℤ) → length new ≡ length after-upper → Crossed h after-upper new → (G : ℕ → ℤ)
-        → ((k : ℕ) → k < h → G k ≡ g₁ k +ℤ g₂ k) → ((k : ℕ) → k < h → G (h + k) ≡ g₁ k -ℤ g₂ k) → new ≡ listBelow (h + h) G
-    crossed-is new kept crossed G low high =
-        list-is (pos 0) (h + h) G new (omega (arith, kept, length-after-upper)) (λ k lt. entry k lt (decLt k h))
-      where
-        in-lower : (k : ℕ) → k < h → valueAt new k ≡ G k
-        in-lower k lt = crossed .sums k lt ∙ ap₂ (λ (x y : ℤ). x +ℤ y) (at-lower k lt) (at-upper k lt) ∙ sym (low k lt)
+-- the same of integers, before and after the butterfly
+module _ (h : ℕ) (out : List ℤ) (long : length out ≡ h + h) (g₁ : ℕ → ℤ) (l₁ : List ℤ) (e₁ : l₁ ≡ listBelow h g₁) (g₂ : ℕ → ℤ) (l₂ : List ℤ) (e₂ : l₂ ≡ listBelow h g₂) where
+  abbrev lent : List ℤ
+  lent = after-upper h out long g₁ l₁ e₁ g₂ l₂ e₂
 
-        in-upper : (k : ℕ) → k < h → valueAt new (h + k) ≡ G (h + k)
-        in-upper k lt = crossed .differences k lt ∙ ap₂ (λ (x y : ℤ). x -ℤ y) (at-lower k lt) (at-upper k lt) ∙ sym (high k lt)
+  long-lent : length lent ≡ h + h
+  long-lent = length-after-upper h out long g₁ l₁ e₁ g₂ l₂ e₂
 
-        entry : (k : ℕ) → k < h + h → Dec (k < h) → valueAt new k ≡ G k
-        entry k lt (yes l) = in-lower k l
-        entry k lt (no ge) =
-            let e : h + (k - h) ≡ k = omega arith in
-            subst (λ (j : ℕ). valueAt new j ≡ G j) e (in-upper (k - h) (omega arith))
+  lower-value : (k : ℕ) → k < h → valueAt lent k ≡ g₁ k
+  lower-value = at-lower h out long g₁ l₁ e₁ g₂ l₂ e₂ (pos 0)
+
+  upper-value : (k : ℕ) → k < h → valueAt lent (h + k) ≡ g₂ k
+  upper-value = at-upper h out long g₁ l₁ e₁ g₂ l₂ e₂ (pos 0)
+
+  -- what is shown of g₁ and of g₂ holds of every entry
+  pub halves : ((k : ℕ) → k < h → natAbs (g₁ k) ≤ 2 ^ 29) → ((k : ℕ) → k < h → natAbs (g₂ k) ≤ 2 ^ 29) → Halves h lent
+  halves small₁ small₂ = record { size = long-lent; small = λ k. go k (decLt k h) (decLt k (h + h)) }
+    where
+      go : (k : ℕ) → Dec (k < h) → Dec (k < h + h) → natAbs (valueAt lent k) ≤ 2 ^ 29
+      go k (yes lt) d = subst (λ (z : ℤ). natAbs z ≤ 2 ^ 29) (sym (lower-value k lt)) (small₁ k lt)
+      go k (no ge) (yes lt) =
+          let e : h + (k - h) ≡ k = omega arith in
+          subst (λ (j : ℕ). natAbs (valueAt lent j) ≤ 2 ^ 29) e
+          (subst (λ (z : ℤ). natAbs z ≤ 2 ^ 29) (sym (upper-value (k - h) (omega arith))) (small₂ (k - h) (omega arith)))
+      go k (no ge) (no past) =
+          subst (λ (z : ℤ). natAbs z ≤ 2 ^ 29) (sym (List·getD-eq-default lent (pos 0) (omega (arith, long-lent)))) (omega arith)
+
+  -- the butterfly makes the values of G of them, where the halving rule says so
+  pub crossed-is : (new : List ℤ) → length new ≡ length lent → Crossed h lent new → (G : ℕ → ℤ)
+      → ((k : ℕ) → k < h → G k ≡ g₁ k +ℤ g₂ k) → ((k : ℕ) → k < h → G (h + k) ≡ g₁ k -ℤ g₂ k) → new ≡ listBelow (h + h) G
+  crossed-is new kept crossed G low high =
+      halves-are (pos 0) h G new (kept ∙ long-lent)
+      (λ k lt. crossed .sums k lt ∙ ap₂ (λ (x y : ℤ). x +ℤ y) (lower-value k lt) (upper-value k lt) ∙ sym (low k lt))
+      (λ k lt. crossed .differences k lt ∙ ap₂ (λ (x y : ℤ). x -ℤ y) (lower-value k lt) (upper-value k lt) ∙ sym (high k lt))
 
 -- a list of 2^(n+1) entries in two halves
 module _ {A : Type 0} (n : ℕ) (l : List A) (size : length l ≡ 2 ^ suc n) where

@@ -1,0 +1,5 @@
+pub mod Adding
+pub mod MoebiusHalves
+pub mod ColumnForms
+pub mod Bijections
+pub mod Theorems

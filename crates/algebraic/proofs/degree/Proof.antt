@@ -1,0 +1,59 @@
+-- `algebraic::degree` meets its contract: what the checks found says which case it is, and the sweep of the columns has the degree. Assumes nothing.
+use mathlib.Core.List.{[], _∷_}
+use mathlib.Core.Path.{_≡_, sym, ap, _∙_}
+use Prim.Native.Nat.{ℕ}
+use borrow.Author.Needs.{needs}
+use lib.Seq.{length-take-le}
+use Rattle.refusals.specs.Table.{figures, first, boxChecks, Box}
+use Rattle.refusals.specs.declared.Checked.the-variants.{Accepted}
+use Rattle.refusals.proofs.Checks.{box, reply-refused, reply-accepted}
+use Rattle.algebraic.proofs.degree.Statement.{statement}
+use Rattle.algebraic.proofs.degree.Tie as tie
+
+check-box-requires : tie.Need-check-box-requires
+check-box-requires c κs = search needs
+
+enum-known-e : tie.Need-enum-known-e
+enum-known-e c = search needs
+
+returns : tie.Need-returns
+returns c = reply-refused (sym (c .before .before .before .check-box .ensures) ∙ c .before .e .given .1) _
+
+enum-told : tie.Need-enum-told
+enum-told c = search needs
+
+-- accepted: the rows are a box
+accepted : (c : tie.After-enum-told) → let a = c .before .before .before .before .args in first (boxChecks (a .n) (a .m) (a .rows .now)) ≡ Accepted
+accepted c = sym (c .before .before .check-box .ensures) ∙ c .enum-told .given .1
+
+boxed : (c : tie.After-enum-told) → let a = c .before .before .before .before .args in Box (a .n) (a .m) (a .rows .now)
+boxed c = let a = c .before .before .before .before .args in box (a .n) (a .m) (a .rows .now) [] (accepted c)
+
+array-borrow-prefix-table : tie.Need-array-borrow-prefix-table
+array-borrow-prefix-table c = boxed c .small
+
+slice-aggregate-largest-degree : tie.Need-slice-aggregate-largest-degree
+slice-aggregate-largest-degree c = sym (length-take-le _ _ (boxed (c .before) .small))
+
+largest-degree-requires : tie.Need-largest-degree-requires
+largest-degree-requires c κs =
+    let b = boxed (c .before) in
+    (record { size = b .size; small = b .small; room = length-take-le _ _ (b .small) ∙ b .size }, b .m-low, b .m-high)
+
+returns-2 : tie.Need-returns-2
+returns-2 c =
+    let swept = c .before in
+    ap (λ (k : ℕ). figures (k ∷ [])) (swept .largest-degree .ensures .0) ∙ reply-accepted (accepted (swept .before .before)) _
+
+pub degree-spec : {M : Type 1} → statement M
+degree-spec =
+    tie.close
+    (tie.spec
+    check-box-requires
+    enum-known-e
+    returns
+    enum-told
+    array-borrow-prefix-table
+    slice-aggregate-largest-degree
+    largest-degree-requires
+    returns-2)

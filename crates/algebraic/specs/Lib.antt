@@ -1,0 +1,2 @@
+pub mod Algebraic
+pub mod Calls

@@ -1,0 +1,135 @@
+-- The autocorrelation and the dynamic distance: the largest figure, the first change that has it, and (1, 1) where it is 0. The strict
+-- avalanche criterion as document 000 defines it.
+use mathlib.Core.Path.{_≡_, sym, ap, _∙_, subst}
+use mathlib.Core.Logic.{_⊎_, inl, inr, _↔_}
+use mathlib.Core.List.{List, [], _∷_, List·Memᴰ}
+use Prim.Native.Nat.{ℕ, suc, _+_, _*_, _-_, _^_, _<_, _≤_}
+use native.Mathlib.Nat.{le-refl, le-of-eq, mul-le-mul-right, suc-mul}
+use native.Mathlib.Omega.{arith}
+use lib.Count.{ones-le}
+use lib.IntN.{ℤ, pos, negsuc, _+ℤ_, _-ℤ_, natAbs, +ℤ-idl, +ℤ-invr, -ℤ-+ℤ-cancel}
+use lib.Pow.{pow-pos, pow-lt}
+use Rattle.boolean.specs.Functions.{changes, component, column}
+use Rattle.boolean.specs.Selection.{Candidate, firstLargest, First}
+use Rattle.boolean.proofs.Correlation.{changes-cong}
+use Rattle.boolean.proofs.FirstLargest.{firstLargest-none}
+use Rattle.boolean.proofs.OneBit.{ones-power, power-of-ones}
+use Rattle.boolean.proofs.Columns.{component-column}
+use Rattle.boolean.proofs.Selection.{firstLargest-ge, firstLargest-mem, firstLargest-first, first-ranked}
+use Rattle.refusals.specs.Table.{Box}
+use Rattle.avalanche.specs.Avalanche.{measured, boxAutocorrelation, imbalance, dynamicDistance}
+use Rattle.avalanche.specs.Calls.{correlated, change, Within}
+use Rattle.avalanche.proofs.Changes.{changeRank, in-measured, mem-measured, ascending-measured, measured-first}
+
+-- (c′, s′) comes before (c, s): by c, then s
+abbrev pub Before : (c′ s′ c s : ℕ) → Type 0
+Before c′ s′ c s = (c′ < c) ⊎ ((c′ ≡ c) × (s′ < s))
+
+before-rank : (n c′ s′ c s : ℕ) → s′ < 2 ^ n → Before c′ s′ c s → c′ * 2 ^ n + s′ < c * 2 ^ n + s
+before-rank n c′ s′ c s h (inl l) = omega (arith, suc-mul c′ (2 ^ n), mul-le-mul-right (2 ^ n) l)
+before-rank n c′ s′ c s h (inr l) = omega (arith, ap (λ (z : ℕ). z * 2 ^ n) (l .0))
+
+-- r is the first of the largest figures over components with at most i ones and changes with at most j
+pub record Widest (n m i j : ℕ) (figure : ℕ → ℕ → ℕ) (r : Candidate) : Type 0 where
+  -- no figure is larger
+  pub most : (c s : ℕ) → Within i (2 ^ m) c → Within j (2 ^ n) s → figure c s ≤ r .figure
+  -- it is that of its witness
+  pub c : ℕ
+  pub s : ℕ
+  pub c-within : Within i (2 ^ m) c
+  pub s-within : Within j (2 ^ n) s
+  pub reached : r ≡ change figure c s
+  -- each before it is smaller
+  pub first : (c′ s′ : ℕ) → Within i (2 ^ m) c′ → Within j (2 ^ n) s′ → Before c′ s′ c s → figure c′ s′ < r .figure
+  -- a figure of 0 is that of (1, 1)
+  pub none : r .figure ≡ 0 → r .witness ≡ 1 ∷ 1 ∷ []
+
+module _ (n m i j : ℕ) (figure : ℕ → ℕ → ℕ) (n-low : 1 ≤ n) (m-low : 1 ≤ m) (i-low : 1 ≤ i) (j-low : 1 ≤ j) where
+  widest : Widest n m i j figure (firstLargest (measured n m i j figure))
+  widest =
+      let head = measured-first n m i j figure n-low m-low i-low j-low in
+      let found = mem-measured n m i j figure (firstLargest (measured n m i j figure))
+      (subst (λ (l : List Candidate). List·Memᴰ (firstLargest l) l) (sym (head .1)) (firstLargest-mem (change figure 1 1) (head .0))) in
+      record {
+        most = λ c s hc hs. firstLargest-ge (measured n m i j figure) (change figure c s) (in-measured n m i j figure c s hc hs);
+        c = found .0;
+        s = found .1;
+        c-within = found .2;
+        s-within = found .3;
+        reached = found .4;
+        first = λ c′ s′ hc hs l.
+            first-ranked (changeRank n) (λ r p. p .figure < r .figure) (ascending-measured n m i j figure)
+            (subst (λ (l : List Candidate). First (λ r p. p .figure < r .figure) (firstLargest l) l) (sym (head .1)) (firstLargest-first (change figure 1 1) (head .0)))
+            (change figure c′ s′) (in-measured n m i j figure c′ s′ hc hs)
+            (omega (arith, ap (changeRank n) (found .4), before-rank n c′ s′ (found .0) (found .1) (hs .high) l));
+        none = λ e.
+            ap (λ (p : Candidate). p .witness)
+            (ap firstLargest (head .1) ∙ firstLargest-none (change figure 1 1) (head .0) (sym (ap (λ (l : List Candidate). firstLargest l .figure) (head .1)) ∙ e));
+      }
+
+module _ (n m : ℕ) (rows : List ℕ) (b : Box n m rows) where
+  -- ---- the autocorrelation: no component and no change from 1 is left out
+  pub autocorrelation-widest : Widest n m m n (correlated n rows) (boxAutocorrelation n m rows)
+  unfolding boxAutocorrelation
+  autocorrelation-widest = widest n m m n (correlated n rows) (b .n-low) (b .m-low) (b .m-low) (b .n-low)
+
+  all-within : (k v : ℕ) → 1 ≤ v → v < 2 ^ k → Within k (2 ^ k) v
+  all-within k v l h = record { low = l; high = h; few = ones-le k v h }
+
+  pub autocorrelation-most : (c s : ℕ) → 1 ≤ c → c < 2 ^ m → 1 ≤ s → s < 2 ^ n → correlated n rows c s ≤ boxAutocorrelation n m rows .figure
+  autocorrelation-most c s lc hc ls hs = autocorrelation-widest .most c s (all-within m c lc hc) (all-within n s ls hs)
+
+  -- ---- the dynamic distance
+  abbrev pub distanceOf : ℕ → ℕ → ℕ
+  distanceOf c d = imbalance n (component rows c) d
+
+  pub distance-widest : (i j : ℕ) → 1 ≤ i → 1 ≤ j → Widest n m i j distanceOf (dynamicDistance n m rows i j)
+  unfolding dynamicDistance
+  distance-widest i j i-low j-low = widest n m i j distanceOf (b .n-low) (b .m-low) i-low j-low
+
+  -- ---- the criterion: each single input change alters each column at half of the inputs
+  no-size : (z : ℤ) → natAbs z ≡ 0 → z ≡ pos 0
+  no-size (pos k) e = ap pos e
+  no-size (negsuc k) e = absurd (omega arith)
+
+  balanced : (f : ℕ → ℕ) (d : ℕ) → imbalance n f d ≡ 0 → changes n f d ≡ 2 ^ (n - 1)
+  unfolding imbalance
+  balanced f d e =
+      ap natAbs
+      (sym (sym (-ℤ-+ℤ-cancel (pos (2 ^ (n - 1))) (pos (changes n f d)))
+      ∙ ap (λ (z : ℤ). z +ℤ pos (changes n f d)) (no-size (pos (2 ^ (n - 1)) -ℤ pos (changes n f d)) e) ∙ +ℤ-idl (pos (changes n f d))))
+
+  no-imbalance : (f : ℕ → ℕ) (d : ℕ) → changes n f d ≡ 2 ^ (n - 1) → imbalance n f d ≡ 0
+  unfolding imbalance
+  no-imbalance f d e = ap (λ (k : ℕ). natAbs (pos (2 ^ (n - 1)) -ℤ pos k)) e ∙ ap natAbs (+ℤ-invr (pos (2 ^ (n - 1))))
+
+  -- the masks with a single 1 are the powers of two
+  single : (k p : ℕ) → 1 ≤ p → p ≤ k → Within 1 (2 ^ k) (2 ^ (p - 1))
+  single k p l h = record { low = pow-pos (p - 1); high = pow-lt (omega arith); few = le-of-eq (ones-power (p - 1)) }
+
+  power : {k v : ℕ} → Within 1 (2 ^ k) v → (p : ℕ) × (1 ≤ p) × (p ≤ k) × (v ≡ 2 ^ (p - 1))
+  power {k} {v} w =
+      let t = power-of-ones k v (w .low) (w .high) (w .few) in
+      let back : t .0 ≡ suc (t .0) - 1 = omega arith in
+      (suc (t .0), omega arith, omega (arith, t .1), t .2 ∙ ap (λ (q : ℕ). 2 ^ q) back)
+
+  by-column : (j d : ℕ) → changes n (component rows (2 ^ (j - 1))) d ≡ changes n (column rows j) d
+  by-column j d = changes-cong n (component rows (2 ^ (j - 1))) (column rows j) d (λ x. component-column rows j x)
+
+  pub strict-avalanche : dynamicDistance n m rows 1 1 .figure ≡ 0
+      ↔ ((j k : ℕ) → 1 ≤ j → j ≤ m → 1 ≤ k → k ≤ n → changes n (column rows j) (2 ^ (k - 1)) ≡ 2 ^ (n - 1))
+  strict-avalanche = (
+    λ e j k lj hj lk hk.
+        let t = distance-widest 1 1 (le-refl 1) (le-refl 1) in
+        let low = t .most (2 ^ (j - 1)) (2 ^ (k - 1)) (single m j lj hj) (single n k lk hk) in
+        let z : distanceOf (2 ^ (j - 1)) (2 ^ (k - 1)) ≡ 0 = omega arith in
+        sym (by-column j (2 ^ (k - 1))) ∙ balanced (component rows (2 ^ (j - 1))) (2 ^ (k - 1)) z,
+    λ h.
+        let t = distance-widest 1 1 (le-refl 1) (le-refl 1) in
+        let j = power (t .c-within) in
+        let k = power (t .s-within) in
+        ap (λ (p : Candidate). p .figure) (t .reached)
+        ∙ no-imbalance (component rows (t .c)) (t .s)
+        (ap (λ (c : ℕ). changes n (component rows c) (t .s)) (j .3) ∙ ap (changes n (component rows (2 ^ (j .0 - 1)))) (k .3)
+        ∙ by-column (j .0) (2 ^ (k .0 - 1)) ∙ h (j .0) (k .0) (j .1) (j .2) (k .1) (k .2)),
+  )

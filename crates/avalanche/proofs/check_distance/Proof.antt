@@ -1,0 +1,69 @@
+-- `avalanche::check_distance` meets its contract: the lines of a box's checks, then the order. Assumes nothing.
+use mathlib.Core.Path.{_≡_, sym, _∙_}
+use Rattle.refusals.specs.Table.{first, boxChecks}
+use Rattle.refusals.specs.declared.Checked.the-variants.{Accepted}
+use Rattle.refusals.proofs.Checks.{fails, holds, found-before, found-after, skip, stop, end}
+use Rattle.avalanche.specs.Calls.{distanceChecks}
+use borrow.Author.Needs.{needs}
+use Rattle.avalanche.proofs.check_distance.Statement.{statement}
+use Rattle.avalanche.proofs.check_distance.Tie as tie
+
+-- the lines of the box's checks, where they were passed
+ok-box : (c : tie.After-enum-told) →
+    let a = c .before .before .before .before .args in
+    first (boxChecks (a .n) (a .m) (a .rows .now)) ≡ Accepted
+ok-box c = sym (c .before .before .check-box .ensures) ∙ c .enum-told .given .1
+
+check-box-requires : tie.Need-check-box-requires
+check-box-requires c κs = search needs
+
+enum-known-e : tie.Need-enum-known-e
+enum-known-e c = search needs
+
+returns : tie.Need-returns
+unfolding distanceChecks
+returns c =
+    let p = c .before .before .before in
+    let a = p .before .before .args in
+    found-before (boxChecks (a .n) (a .m) (a .rows .now)) _ (sym (p .check-box .ensures) ∙ c .before .e .given .1)
+
+enum-told : tie.Need-enum-told
+enum-told c = search needs
+
+in-range-requires : tie.Need-in-range-requires
+in-range-requires c κs = search needs
+
+returns-2 : tie.Need-returns-2
+unfolding distanceChecks
+returns-2 c = found-after _ (ok-box (c .before .before)) (stop (fails (c .before .in-range .ensures) (c .if1 .taken)))
+
+in-range-requires-2 : tie.Need-in-range-requires-2
+in-range-requires-2 c κs = search needs
+
+returns-3 : tie.Need-returns-3
+unfolding distanceChecks
+returns-3 c =
+    let else = c .before .before in
+    found-after _ (ok-box (else .before .before)) (skip (holds (else .before .in-range .ensures) (else .if1 .left))
+    (stop (fails (c .before .in-range2 .ensures) (c .if2 .taken))))
+
+returns-4 : tie.Need-returns-4
+unfolding distanceChecks
+returns-4 c =
+    let else = c .before .before in
+    found-after _ (ok-box (else .before .before)) (skip (holds (else .before .in-range .ensures) (else .if1 .left))
+    (skip (holds (c .before .in-range2 .ensures) (c .if2 .left)) end))
+
+pub check-distance-spec : {M : Type 1} → statement M
+check-distance-spec =
+    tie.close
+    (tie.spec
+    check-box-requires
+    enum-known-e
+    returns
+    enum-told
+    in-range-requires
+    returns-2
+    in-range-requires-2
+    returns-3
+    returns-4)

@@ -1,0 +1,90 @@
+-- `avalanche::square_all` meets its contract: each turn replaces one value by its square. Assumes nothing.
+use mathlib.Core.Path.{_≡_, ap, _∙_}
+use Prim.Native.Nat.{_-_, _≤_}
+use native.Mathlib.Nat.{le-refl, le-trans, le-of-eq}
+use native.Mathlib.Omega.{arith}
+use lib.IntN.{ℤ, pos, _*ℤ_, natAbs}
+use lib.ListN.{length}
+use Rattle.boolean.specs.Functions.{valueAt}
+use Rattle.boolean.proofs.Replaced.{Replaced, replaced-none, replaced-more, replaced-whole}
+use Rattle.boolean.proofs.Products.{product-fits, product-stored}
+use borrow.Author.Needs.{needs}
+use Rattle.avalanche.proofs.square_all.Statement.{statement}
+use Rattle.avalanche.proofs.square_all.Tie as tie
+
+abbrev squared : ℤ → ℤ
+squared v = v *ℤ v
+
+abbrev Inv-loop : tie.InvT-loop
+Inv-loop values₀ k₀ values k = Replaced (pos 0) squared values₀ k values
+
+abbrev μ-loop : tie.MeasureT-loop
+μ-loop values₀ k₀ values k = length values₀ - k
+
+loop-holds : tie.Need-loop-holds Inv-loop μ-loop
+loop-holds c = replaced-none (pos 0) squared (c .args .values .now)
+
+mul-value : tie.Need-mul-value Inv-loop μ-loop
+mul-value c = search needs
+
+slice-copy-out-value : tie.Need-slice-copy-out-value Inv-loop μ-loop
+slice-copy-out-value c = search needs
+
+-- the value that is read is still the one that was there, and small
+abbrev read : tie.After-value Inv-loop μ-loop → ℤ
+read c = let at-loop = c .before .before in valueAt (at-loop .loop .values) (at-loop .loop .k)
+
+kept : (c : tie.After-value Inv-loop μ-loop) →
+    let at-loop = c .before .before in
+    read c ≡ valueAt (at-loop .before .args .values .now) (at-loop .loop .k)
+kept c = let at-loop = c .before .before in at-loop .loop .inv .rest (at-loop .loop .k) (le-refl _)
+
+small : (c : tie.After-value Inv-loop μ-loop) → natAbs (read c) ≤ 256
+small c = let at-loop = c .before .before in le-trans (le-of-eq (ap natAbs (kept c))) (at-loop .before .pre (at-loop .loop .k))
+
+mul-values : tie.Need-mul-values Inv-loop μ-loop
+mul-values c = product-fits (read c) (small c)
+
+mul-t4 : tie.Need-mul-t4 Inv-loop μ-loop
+mul-t4 c = search needs
+
+slice-set-from-values : tie.Need-slice-set-from-values Inv-loop μ-loop
+slice-set-from-values c = search needs
+
+add-k : tie.Need-add-k Inv-loop μ-loop
+add-k c = search needs
+
+loop-less : tie.Need-loop-less Inv-loop μ-loop
+loop-less c = search needs
+
+loop-again : tie.Need-loop-again Inv-loop μ-loop
+loop-again c =
+    let at-loop = c .before .before in
+    replaced-more (pos 0) squared (at-loop .before .args .values .now) (at-loop .loop .k) (at-loop .loop .values) (at-loop .loop .inv)
+    (omega (arith, c .before .loop-test .taken, at-loop .loop .inv .long)) _ (product-stored (read c) (small c) ∙ ap squared (kept c))
+
+same-length : tie.Need-same-length Inv-loop μ-loop
+same-length c = c .before .loop .inv .long
+
+returns : tie.Need-returns Inv-loop μ-loop
+returns c =
+    replaced-whole (pos 0) squared (c .before .before .args .values .now) (c .before .loop .k) (c .before .loop .values) (c .before .loop .inv)
+    (omega (arith, c .loop-test .left, c .before .loop .inv .long))
+
+pub square-all-spec : {M : Type 1} → statement M
+square-all-spec =
+    tie.close
+    (tie.spec
+    Inv-loop
+    μ-loop
+    loop-holds
+    mul-value
+    slice-copy-out-value
+    mul-values
+    mul-t4
+    slice-set-from-values
+    add-k
+    loop-less
+    loop-again
+    same-length
+    returns)

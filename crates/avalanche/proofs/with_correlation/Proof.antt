@@ -1,0 +1,68 @@
+-- `avalanche::with_correlation` meets its contract: the first change of the largest magnitude is the first of the component's best. Assumes nothing.
+use mathlib.Core.Path.{_≡_, ap}
+use Prim.Native.Nat.{ℕ, _/_, _^_, _≤_}
+use native.Mathlib.Omega.{arith}
+use lib.ListN.{length}
+use lib.Pow.{pow-pos}
+use Rattle.avalanche.specs.Calls.{candidate}
+use Rattle.avalanche.proofs.Widest.{values-length, stays, largest-some, replaced}
+use borrow.Author.Needs.{needs}
+use Rattle.avalanche.proofs.with_correlation.Statement.{statement}
+use Rattle.avalanche.proofs.with_correlation.Tie as tie
+
+-- there are as many values as rows
+short : (s : tie.Start) → length (s .args .values .now) ≤ 256
+short s =
+    let a = s .args in
+    omega (arith, values-length (a .n) (a .rows .now) (a .c) (a .j) (s .pre .1), s .pre .0 .size, s .pre .0 .small)
+
+-- the figure is divided by their count, which is 2^n
+share : (c : tie.After-largest-within) →
+    let a = c .before .before .args in
+    c .largest-within .result / length (a .rows .now) ≡ c .largest-within .result / 2 ^ a .n
+share c = ap (λ (k : ℕ). c .largest-within .result / k) (c .before .before .pre .0 .size)
+
+largest-within-requires : tie.Need-largest-within-requires
+largest-within-requires c κs = short (c .before)
+
+cast-figure : tie.Need-cast-figure
+cast-figure c = search needs
+
+div-figure : tie.Need-div-figure
+div-figure c = let s = c .before .before in omega (arith, s .pre .0 .size, pow-pos (s .args .n))
+
+first-within-requires : tie.Need-first-within-requires
+first-within-requires c κs =
+    let scanned = c .before .before in
+    let s = scanned .before .before in
+    let a = s .args in (
+      short s,
+      scanned .largest-within .ensures,
+      largest-some (a .n) (a .rows .now) (a .c) (a .j) (s .pre .1) (scanned .largest-within .ensures) (share scanned) (candidate (a .found)) (c .if1 .taken),
+    )
+
+returns : tie.Need-returns
+returns c =
+    let scanned = c .before .before .before in
+    let s = scanned .before .before in
+    let a = s .args in
+    replaced (a .n) (a .rows .now) (a .c) (a .j) (s .pre .1) (scanned .largest-within .ensures) (share scanned) (candidate (a .found))
+    (c .before .if1 .taken) (c .first-within .ensures)
+
+returns-2 : tie.Need-returns-2
+returns-2 c =
+    let scanned = c .before .before in
+    let s = scanned .before .before in
+    let a = s .args in
+    stays (a .n) (a .rows .now) (a .c) (a .j) (s .pre .1) (scanned .largest-within .ensures) (share scanned) (candidate (a .found)) (c .if1 .left)
+
+pub with-correlation-spec : {M : Type 1} → statement M
+with-correlation-spec =
+    tie.close
+    (tie.spec
+    largest-within-requires
+    cast-figure
+    div-figure
+    first-within-requires
+    returns
+    returns-2)

@@ -1,0 +1,47 @@
+-- Autocorrelation, dynamic distance, and completeness.
+use Prim.Native.Nat.{ℕ, _-_, _^_}
+use mathlib.Core.Bool.{Bool, not}
+use mathlib.Core.List.{List, [], _∷_}
+use lib.Count.{ones}
+use lib.Dec.{eqb, leb}
+use lib.IntN.{pos, _-ℤ_, natAbs}
+use Rattle.boolean.specs.Sums.{listFrom, each, keep, every}
+use Rattle.boolean.specs.Functions.{autocorrelation, changes, component, components, column}
+use Rattle.boolean.specs.Selection.{Candidate, firstLargest}
+
+-- the nonzero input changes, in ascending order: 1, 2, .., 2^n − 1
+unfoldable pub shifts : ℕ → List ℕ
+unfolding listFrom
+shifts n = listFrom 1 (2 ^ n - 1) (λ s. s)
+
+-- those of a list of masks that have at most k ones
+unfoldable pub atMost : ℕ → List ℕ → List ℕ
+unfolding keep
+atMost k masks = keep (λ v. leb (ones v) k) masks
+
+-- a figure for each component of at most i outputs and each change of at most j inputs, first in the components' order, then in that of
+-- the changes
+unfoldable pub measured : ℕ → ℕ → ℕ → ℕ → (ℕ → ℕ → ℕ) → List Candidate
+unfolding each atMost components shifts
+measured n m i j figure =
+    each (atMost i (components m)) (λ c. each (atMost j (shifts n)) (λ s. record { figure = figure c s; witness = c ∷ s ∷ [] } ∷ []))
+
+-- the box's autocorrelation: the first largest |r(s)| over all components and all s from 1
+unfoldable pub boxAutocorrelation : ℕ → ℕ → List ℕ → Candidate
+unfolding firstLargest measured
+boxAutocorrelation n m rows = firstLargest (measured n m m n (λ c s. natAbs (autocorrelation n (component rows c) s)))
+
+-- |2^(n−1) − the count of x where f changes under d|: twice document 001's figure, which is a half at n = 1
+unfoldable pub imbalance : ℕ → (ℕ → ℕ) → ℕ → ℕ
+unfolding changes
+imbalance n f d = natAbs (pos (2 ^ (n - 1)) -ℤ pos (changes n f d))
+
+-- the dynamic distance of order (i, j): the first largest over components of at most i ones and changes of 1 to j ones
+unfoldable pub dynamicDistance : ℕ → ℕ → List ℕ → ℕ → ℕ → Candidate
+unfolding firstLargest measured imbalance
+dynamicDistance n m rows i j = firstLargest (measured n m i j (λ c d. imbalance n (component rows c) d))
+
+-- complete: every input bit changes every column at some x
+unfoldable pub complete : ℕ → ℕ → List ℕ → Bool
+unfolding every listFrom changes column
+complete n m rows = every (λ k. every (λ j. not (eqb (changes n (column rows j) (2 ^ (k - 1))) 0)) (listFrom 1 m (λ j. j))) (listFrom 1 n (λ k. k))

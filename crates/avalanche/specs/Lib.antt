@@ -1,0 +1,2 @@
+pub mod Avalanche
+pub mod Calls

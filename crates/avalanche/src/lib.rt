@@ -1,0 +1,315 @@
+// What changes of the input do to a box: autocorrelation, dynamic distance, completeness.
+use refusals::Checked;
+use refusals::Refusal;
+use refusals::Verdict;
+ghost use mathlib.Core.Path.{_≡_};
+ghost use mathlib.Core.Bool.{not};
+ghost use mathlib.Core.List.{[], _∷_};
+ghost use Prim.Native.Nat.{ℕ, _^_, _≤_, _<_};
+ghost use lib.Dec.{eqb};
+ghost use lib.IntN.{_*ℤ_, natAbs};
+ghost use lib.ListN.{length};
+ghost use Rattle.boolean.specs.Bits.{bit};
+ghost use Rattle.boolean.specs.Sums.{listFrom, listBelow, every};
+ghost use Rattle.boolean.specs.Functions.{valueAt, changes, column, components};
+ghost use Rattle.boolean.specs.Selection.{best, higher, firstLargest, shown};
+ghost use Rattle.refusals.specs.Table.{first, boxChecks, replyAfter, asFigure, verdict, Box};
+ghost use Rattle.walsh.specs.Work.{Spectra};
+ghost use Rattle.linear.specs.Calls.{Swept};
+ghost use Rattle.avalanche.specs.Avalanche.{measured, boxAutocorrelation, dynamicDistance};
+ghost use Rattle.avalanche.specs.Avalanche as spec;
+ghost use Rattle.avalanche.specs.Calls.{distanceChecks, changeReply, candidate, truthTable, correlations, correlated, changesOf, sizeWithin, LargestWithin, FirstWithin, start, TakenIn};
+
+// The best so far.
+pub struct FoundChange {
+    pub figure: u32,
+    pub c: u32,
+    pub s: u32,
+}
+
+// The answer of the autocorrelation and of the dynamic distance.
+pub enum LargestChange {
+    Reached { figure: u32, c: u32, s: u32 },
+    Declined(Refusal),
+}
+
+// The checks of the dynamic distance: those of a box, then the order (i, j).
+fn check_distance(n: u32, m: u32, rows: &[u16], i: u32, j: u32) -> Checked
+    ensures { λ r. ⌜ r ≡ first (distanceChecks n m (now (rows .entry)) i j) ⌝ }
+{
+    if let Checked::Refused(e) = refusals::check_box(n, m, rows) {
+        return Checked::Refused(e);
+    }
+    if !refusals::in_range(1, m, i) {
+        return Checked::Refused(Refusal::Parameter);
+    }
+    if !refusals::in_range(1, n, j) {
+        return Checked::Refused(Refusal::Parameter);
+    }
+    Checked::Accepted
+}
+
+// Each value is replaced by its square.
+fn square_all(values: &mut [i32])
+    requires { ⌜ ((k : ℕ) → natAbs (valueAt (now values) k) ≤ 256) ⌝ }
+    ensures { λ _. ⌜ now (values .exit) ≡ listBelow (length (now (values .entry))) (λ k. valueAt (now (values .entry)) k *ℤ valueAt (now (values .entry)) k) ⌝ }
+{
+    let mut k = 0;
+    while k < values.len() {
+        let value = values[k];
+        values[k] = value * value;
+        k += 1;
+    }
+}
+
+// 2^n times the autocorrelation of component c at every s. The squares of the spectrum are the transform of the autocorrelation, so
+// that their transform gives it back, 2^n times. The truth table stays in the other array.
+fn correlate(
+    fixed: &[i32; 2048],
+    n: u32,
+    m: u32,
+    rows: &[u16],
+    c: u32,
+    table: &mut [u8],
+    values: &mut [i32],
+)
+    requires { ⌜ Swept n m (now rows) (now table) (now values) × Spectra (now fixed) ⌝ }
+    ensures { λ _. ⌜ (now (values .exit) ≡ correlations n (now (rows .entry)) c) × (now (table .exit) ≡ truthTable n (now (rows .entry)) c) ⌝ }
+{
+    linear::component_spectrum(fixed, n, m, rows, c, table, values);
+    square_all(values);
+    walsh::transform(n, values);
+}
+
+// The magnitude of the value at s, or 0 where s has more than j ones.
+fn size_within(value: i32, s: u32, j: u32) -> u32
+    ensures { λ r. ⌜ r ≡ sizeWithin j s value ⌝ }
+{
+    if u32::count_ones(s) <= j {
+        boolean::magnitude(value)
+    } else {
+        0
+    }
+}
+
+// The largest magnitude at an s from 1 with at most j ones. Where to find it is not asked yet: most components do not need it.
+fn largest_within(values: &[i32], j: u32) -> u32
+    requires { ⌜ length (now values) ≤ 256 ⌝ }
+    ensures { λ r. ⌜ LargestWithin (now (values .entry)) j r ⌝ }
+{
+    let end = values.len() as u32;
+    let mut largest: u32 = 0;
+    let mut s: u32 = 1;
+    while s < end {
+        let size = size_within(values[s as usize], s, j);
+        if largest < size {
+            largest = size;
+        }
+        s += 1;
+    }
+    largest
+}
+
+// The first s from 1 with at most j ones that has the largest magnitude, which is not 0.
+fn first_within(values: &[i32], j: u32, largest: u32) -> u32
+    requires { ⌜ (length (now values) ≤ 256) × LargestWithin (now values) j largest × (0 < largest) ⌝ }
+    ensures { λ r. ⌜ FirstWithin (now (values .entry)) j largest r ⌝ }
+{
+    let mut place: u32 = 1;
+    while size_within(values[place as usize], place, j) != largest {
+        place += 1;
+    }
+    place
+}
+
+// The best change so far, with those of component c, whose autocorrelation is given 2^n times. It is divided once, after the scan.
+fn with_correlation(
+    found: FoundChange,
+    n: u32,
+    m: u32,
+    rows: &[u16],
+    j: u32,
+    c: u32,
+    values: &[i32],
+) -> FoundChange
+    requires { ⌜ Box n m (now rows) × (now values ≡ correlations n (now rows) c) ⌝ }
+    ensures { λ r. ⌜ candidate r ≡ best higher (candidate found) (changesOf n j (correlated n (now (rows .entry))) c) ⌝ }
+{
+    let largest = largest_within(values, j);
+    let figure = largest / rows.len() as u32;
+    if found.figure < figure {
+        let s = first_within(values, j, largest);
+        FoundChange { figure, c, s }
+    } else {
+        found
+    }
+}
+
+// The best change so far, with those of component c. A component with more than i ones is passed over, and the arrays stay.
+fn with_component(
+    found: FoundChange,
+    fixed: &[i32; 2048],
+    n: u32,
+    m: u32,
+    rows: &[u16],
+    i: u32,
+    j: u32,
+    c: u32,
+    table: &mut [u8],
+    values: &mut [i32],
+) -> FoundChange
+    requires { ⌜ Swept n m (now rows) (now table) (now values) × Spectra (now fixed) ⌝ }
+    ensures { λ r. ⌜ TakenIn n (now (rows .entry)) i j (c ∷ []) (candidate found) (candidate r) (now (table .entry)) (now (table .exit)) (now (values .entry)) (now (values .exit)) ⌝ }
+{
+    if i < u32::count_ones(c) {
+        return found;
+    }
+    correlate(fixed, n, m, rows, c, table, values);
+    with_correlation(found, n, m, rows, j, c, values)
+}
+
+// Every component in turn, from 1 to 2^m − 1. It starts from the figure 0 with the first candidate's witness.
+fn sweep(
+    fixed: &[i32; 2048],
+    n: u32,
+    m: u32,
+    rows: &[u16],
+    i: u32,
+    j: u32,
+    table: &mut [u8],
+    values: &mut [i32],
+) -> FoundChange
+    requires { ⌜ Swept n m (now rows) (now table) (now values) × Spectra (now fixed) ⌝ }
+    ensures { λ r. ⌜ TakenIn n (now (rows .entry)) i j (components m) start (candidate r) (now (table .entry)) (now (table .exit)) (now (values .entry)) (now (values .exit)) ⌝ }
+{
+    let masks = boolean::power_of_two(m) as u32;
+    let mut found = FoundChange {
+        figure: 0,
+        c: 1,
+        s: 1,
+    };
+    let mut c: u32 = 1;
+    while c < masks {
+        found = with_component(found, fixed, n, m, rows, i, j, c, table, values);
+        c += 1;
+    }
+    found
+}
+
+// The largest |r(s)| over components with at most i ones and s with 1 to j ones, for an accepted box.
+fn largest_correlation(n: u32, m: u32, rows: &[u16], i: u32, j: u32) -> FoundChange
+    requires { ⌜ Box n m (now rows) × (1 ≤ i) × (1 ≤ j) ⌝ }
+    ensures { λ r. ⌜ candidate r ≡ firstLargest (measured n m i j (correlated n (now (rows .entry)))) ⌝ }
+{
+    let fixed = walsh::spectra();
+    let mut table = [0u8; 256];
+    let mut values = [0i32; 256];
+    let size = rows.len();
+    sweep(
+        &fixed,
+        n,
+        m,
+        rows,
+        i,
+        j,
+        &mut table[..size],
+        &mut values[..size],
+    )
+}
+
+// Whether bit j of two rows differs.
+fn bit_differs(a: u16, b: u16, j: u32) -> bool
+    requires { ⌜ (1 ≤ j) × (j ≤ 16) ⌝ }
+    ensures { λ r. ⌜ r ≡ not (eqb (bit j a) (bit j b)) ⌝ }
+{
+    (a >> (j - 1)) % 2 != (b >> (j - 1)) % 2
+}
+
+// Whether column j changes at some input where `flip` is XORed to it.
+fn column_changes(n: u32, m: u32, rows: &[u16], flip: usize, j: u32) -> bool
+    requires { ⌜ Box n m (now rows) × (flip < 2 ^ n) × (1 ≤ j) × (j ≤ m) ⌝ }
+    ensures { λ r. ⌜ r ≡ not (eqb (changes n (column (now (rows .entry)) j) flip) 0) ⌝ }
+{
+    let mut x = 0;
+    while x < rows.len() {
+        if bit_differs(rows[x], rows[x ^ flip], j) {
+            return true;
+        }
+        x += 1;
+    }
+    false
+}
+
+// Whether every column does.
+fn every_column_changes(n: u32, m: u32, rows: &[u16], flip: usize) -> bool
+    requires { ⌜ Box n m (now rows) × (flip < 2 ^ n) ⌝ }
+    ensures { λ r. ⌜ r ≡ every (λ j. not (eqb (changes n (column (now (rows .entry)) j) flip) 0)) (listFrom 1 m (λ j. j)) ⌝ }
+{
+    let mut j: u32 = 1;
+    while j <= m {
+        if !column_changes(n, m, rows, flip, j) {
+            return false;
+        }
+        j += 1;
+    }
+    true
+}
+
+// Whether every input bit changes every column at some input, for an accepted box.
+fn all_complete(n: u32, m: u32, rows: &[u16]) -> bool
+    requires { ⌜ Box n m (now rows) ⌝ }
+    ensures { λ r. ⌜ r ≡ spec.complete n m (now (rows .entry)) ⌝ }
+{
+    let mut k: u32 = 1;
+    while k <= n {
+        if !every_column_changes(n, m, rows, boolean::power_of_two(k - 1)) {
+            return false;
+        }
+        k += 1;
+    }
+    true
+}
+
+// The largest |r(s)| over all components and all s from 1.
+pub fn autocorrelation(n: u32, m: u32, rows: &[u16]) -> LargestChange
+    ensures { λ r. ⌜ changeReply r ≡ replyAfter (first (boxChecks n m (now (rows .entry)))) (shown (boxAutocorrelation n m (now (rows .entry)))) ⌝ }
+{
+    if let Checked::Refused(e) = refusals::check_box(n, m, rows) {
+        return LargestChange::Declined(e);
+    }
+    let found = largest_correlation(n, m, rows, m, n);
+    LargestChange::Reached {
+        figure: found.figure,
+        c: found.c,
+        s: found.s,
+    }
+}
+
+// The dynamic distance of order (i, j), as document 01 doubles it: half of the largest |r(s)|.
+pub fn dynamic_distance(n: u32, m: u32, rows: &[u16], i: u32, j: u32) -> LargestChange
+    ensures { λ r. ⌜ changeReply r ≡ replyAfter (first (distanceChecks n m (now (rows .entry)) i j)) (shown (dynamicDistance n m (now (rows .entry)) i j)) ⌝ }
+{
+    if let Checked::Refused(e) = check_distance(n, m, rows, i, j) {
+        return LargestChange::Declined(e);
+    }
+    let found = largest_correlation(n, m, rows, i, j);
+    LargestChange::Reached {
+        figure: found.figure / 2,
+        c: found.c,
+        s: found.s,
+    }
+}
+
+// Whether every input bit changes every column at some input.
+pub fn is_complete(n: u32, m: u32, rows: &[u16]) -> Verdict
+    ensures { λ r. ⌜ verdict r ≡ replyAfter (first (boxChecks n m (now (rows .entry)))) (asFigure (spec.complete n m (now (rows .entry)))) ⌝ }
+{
+    if let Checked::Refused(e) = refusals::check_box(n, m, rows) {
+        return Verdict::Undecided(e);
+    }
+    if all_complete(n, m, rows) {
+        Verdict::Yes
+    } else {
+        Verdict::No
+    }
+}

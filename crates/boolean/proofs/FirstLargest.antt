@@ -1,0 +1,50 @@
+-- The first largest: from a start of figure 0, where all figures are 0, and after a change of the figures that keeps their order.
+use mathlib.Core.Path.{_≡_, refl, sym, ap, ap₂, _∙_}
+use mathlib.Core.Bool.{Bool}
+use mathlib.Core.List.{List, [], _∷_}
+use Prim.Native.Nat.{ℕ, zero, suc, _<_}
+use native.Mathlib.Omega.{arith}
+use borrow.Author.Tests.{lt-ltb, le-ltb}
+use lib.Dec.{ltb}
+use Rattle.boolean.specs.Sums.{each}
+use Rattle.boolean.specs.Selection.{Candidate, best, higher, firstLargest, First, here, there}
+use Rattle.boolean.proofs.Selection.{best-takes, best-keeps, best-step, firstLargest-first}
+
+-- a loop starts from the figure 0 with the first candidate's witness
+pub firstLargest-start : (b c : Candidate) (cs : List Candidate) → b .figure ≡ 0 → b .witness ≡ c .witness → best higher b (c ∷ cs) ≡ firstLargest (c ∷ cs)
+unfolding firstLargest
+firstLargest-start b c cs z w = go (c .figure) refl
+  where
+    go : (k : ℕ) → c .figure ≡ k → best higher b (c ∷ cs) ≡ best higher c cs
+    go zero e =
+        best-keeps higher b c cs (le-ltb (b .figure) (c .figure) (omega arith))
+        ∙ ap (λ (d : Candidate). best higher d cs) (ap₂ (λ (k : ℕ) (l : List ℕ). record { figure = k; witness = l }) (z ∙ sym e) w)
+    go (suc k) e = best-takes higher b c cs (lt-ltb (b .figure) (c .figure) (omega arith))
+
+-- a largest figure of 0 is the first candidate's
+pub firstLargest-none : (c : Candidate) (cs : List Candidate) → firstLargest (c ∷ cs) .figure ≡ 0 → firstLargest (c ∷ cs) ≡ c
+firstLargest-none c cs z = go (firstLargest-first c cs) z
+  where
+    go : {r : Candidate} → First (λ r d. d .figure < r .figure) r (c ∷ cs) → r .figure ≡ 0 → r ≡ c
+    go here e = refl
+    go (there s f) e = absurd (omega arith)
+
+-- candidates that are changed so that none gains or loses: the best is changed the same way
+pub best-changed : {C D : Type 0} (beats : C → C → Bool) (beats′ : D → D → Bool) (f : C → D) → ((c b : C) → beats′ (f c) (f b) ≡ beats c b)
+    → (b : C) (cs : List C) → best beats′ (f b) (each cs (λ c. f c ∷ [])) ≡ f (best beats b cs)
+unfolding best each
+best-changed beats beats′ f h b [] = refl
+best-changed beats beats′ f h b (c ∷ cs) =
+    best-step beats (λ z. best beats′ (f b) (f c ∷ each cs (λ c. f c ∷ [])) ≡ f z) b c cs
+    (λ e. best-takes beats′ (f b) (f c) (each cs (λ c. f c ∷ [])) (h c b ∙ e) ∙ best-changed beats beats′ f h c cs)
+    (λ e. best-keeps beats′ (f b) (f c) (each cs (λ c. f c ∷ [])) (h c b ∙ e) ∙ best-changed beats beats′ f h b cs)
+
+-- a candidate with another figure
+abbrev pub withFigure : (ℕ → ℕ) → Candidate → Candidate
+withFigure g c = record { figure = g (c .figure); witness = c .witness }
+
+pub firstLargest-changed : (g : ℕ → ℕ) → g 0 ≡ 0 → ((a b : ℕ) → ltb (g a) (g b) ≡ ltb a b)
+    → (cs : List Candidate) → firstLargest (each cs (λ c. withFigure g c ∷ [])) ≡ withFigure g (firstLargest cs)
+unfolding firstLargest each
+firstLargest-changed g z h [] = ap (λ (k : ℕ). record { figure = k; witness = [] }) (sym z)
+firstLargest-changed g z h (c ∷ cs) = best-changed higher higher (withFigure g) (λ a b. h (b .figure) (a .figure)) c cs

@@ -1,0 +1,53 @@
+-- `boxfile::check_file` meets its contract: a file of 2 bytes or more has its n and m. Assumes nothing.
+use mathlib.Core.Path.{sym, ap₂, _∙_}
+use Prim.Native.Nat.{ℕ}
+use borrow.Author.Tests.{le-leb, lt-leb}
+use lib.ListN.{length}
+use Rattle.refusals.specs.Table.{first}
+use Rattle.refusals.specs.declared.Refusal.the-variants.{FileLength}
+use Rattle.refusals.proofs.Checks.{found, stop, first-passed}
+use Rattle.boxfile.specs.File.{readChecks, fileChecks}
+use borrow.Author.Needs.{needs}
+use Rattle.boxfile.proofs.check_file.Statement.{statement}
+use Rattle.boxfile.proofs.check_file.Tie as tie
+
+returns : tie.Need-returns
+unfolding fileChecks
+returns c = found (stop (lt-leb _ _ (c .if1 .taken)))
+
+shared-slice-read-wide : tie.Need-shared-slice-read-wide
+shared-slice-read-wide c = search needs
+
+wide-requires : tie.Need-wide-requires
+wide-requires c κs = search needs
+
+shared-slice-read-wide-2 : tie.Need-shared-slice-read-wide-2
+shared-slice-read-wide-2 c = search needs
+
+wide-requires-2 : tie.Need-wide-requires-2
+wide-requires-2 c κs = search needs
+
+check-read-requires : tie.Need-check-read-requires
+check-read-requires c κs = search needs
+
+returns-2 : tie.Need-returns-2
+unfolding fileChecks
+returns-2 c =
+    let second = c .before in
+    let other = second .before .before in
+    let else = other .before .before in
+    let a = else .before .before .args in
+    c .check-read .ensures ∙ ap₂ (λ (n m : ℕ). first (readChecks (a .file .now) n m (a .room))) (other .wide .ensures .0) (second .wide2 .ensures .0)
+    ∙ sym (first-passed FileLength _ _ (le-leb 2 (length (a .file .now)) (else .if1 .left)))
+
+pub check-file-spec : {M : Type 1} → statement M
+check-file-spec =
+    tie.close
+    (tie.spec
+    returns
+    shared-slice-read-wide
+    wide-requires
+    shared-slice-read-wide-2
+    wide-requires-2
+    check-read-requires
+    returns-2)

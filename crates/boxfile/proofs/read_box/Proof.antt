@@ -1,0 +1,101 @@
+-- `boxfile::read_box` meets its contract: what the checks found says which case it is, in the reply and in the array. Assumes nothing.
+use mathlib.Core.Path.{_≡_, sym, ap, ap₂, _∙_, subst}
+use mathlib.Core.List.{List, [], _∷_}
+use Prim.Native.Nat.{ℕ, _+_, _*_, _^_, _≤_}
+use native.Mathlib.Omega.{arith}
+use borrow.Author.Tests.{leb-true, eqb-true}
+use lib.ListN.{length}
+use Rattle.boolean.specs.Functions.{at}
+use Rattle.refusals.specs.Table.{first, figures}
+use Rattle.refusals.specs.declared.Checked.the-variants.{Accepted}
+use Rattle.refusals.proofs.Checks.{passed, reply-refused, reply-accepted, content-refused, content-accepted}
+use Rattle.boxfile.specs.File.{rowsOf, readChecks, fileChecks}
+use borrow.Author.Needs.{needs}
+use Rattle.boxfile.proofs.read_box.Statement.{statement}
+use Rattle.boxfile.proofs.read_box.Tie as tie
+
+check-file-requires : tie.Need-check-file-requires
+check-file-requires c κs = search needs
+
+enum-known-e : tie.Need-enum-known-e
+enum-known-e c = search needs
+
+returns : tie.Need-returns
+returns c =
+    let p = c .before .before .before in
+    let h = sym (p .check-file .ensures) ∙ c .before .e .given .1 in
+    (reply-refused h _, content-refused h _ _)
+
+enum-told : tie.Need-enum-told
+enum-told c = search needs
+
+accepted : (c : tie.After-enum-told) →
+    let a = c .before .before .before .before .before .args in
+    first (fileChecks (a .file .now) (length (a .rows .now))) ≡ Accepted
+accepted c = sym (c .before .before .check-file .ensures) ∙ c .enum-told .given .1
+
+-- what the checks of an accepted file say
+record Whole (file rows : List ℕ) : Type 0 where
+  two : 2 ≤ length file
+  size : length file ≡ 2 + 2 * 2 ^ at file 0
+  room : length rows ≡ 2 ^ at file 0
+
+whole : (file rows : List ℕ) → first (fileChecks file (length rows)) ≡ Accepted → Whole file rows
+unfolding fileChecks readChecks
+whole file rows h =
+    let p = passed (fileChecks file (length rows)) h in
+    record { two = leb-true 2 (length file) (p .0); size = eqb-true _ _ (p .1 .1 .1 .0); room = eqb-true _ _ (p .1 .1 .1 .1 .1 .0) }
+
+known : (c : tie.After-enum-told) →
+    let a = c .before .before .before .before .before .args in
+    Whole (a .file .now) (a .rows .now)
+known c = let a = c .before .before .before .before .before .args in whole (a .file .now) (a .rows .now) (accepted c)
+
+shared-slice-read-wide : tie.Need-shared-slice-read-wide
+shared-slice-read-wide c = omega (arith, known (c .before) .two)
+
+wide-requires : tie.Need-wide-requires
+wide-requires c κs = search needs
+
+write-rows-requires : tie.Need-write-rows-requires
+write-rows-requires c κs =
+    let w = c .before in
+    let told = w .before .before in
+    let a = told .before .before .before .before .before .args in
+    subst (λ (n : ℕ). (length (a .rows .now) ≡ 2 ^ n) × (length (a .file .now) ≡ 2 + 2 * 2 ^ n)) (sym (w .wide .ensures .0)) (known told .room, known told .size)
+
+shared-slice-read-wide-2 : tie.Need-shared-slice-read-wide-2
+shared-slice-read-wide-2 c = omega (arith, known (c .before .before .before .before .before .before .before) .two)
+
+wide-requires-2 : tie.Need-wide-requires-2
+wide-requires-2 c κs = search needs
+
+same-length : tie.Need-same-length
+same-length c = search needs
+
+returns-2 : tie.Need-returns-2
+returns-2 c =
+    let rows = c .before .before .before .before in
+    let w = rows .before .before in
+    let told = w .before .before in
+    let a = told .before .before .before .before .before .args in
+    let h = accepted told in (
+      ap₂ (λ (n m : ℕ). figures (n ∷ m ∷ [])) (w .wide .ensures .0) (c .wide2 .ensures .0) ∙ reply-accepted h _,
+      rows .write-rows .ensures ∙ ap (rowsOf (a .file .now)) (w .wide .ensures .0) ∙ content-accepted h _ _,
+    )
+
+pub read-box-spec : {M : Type 1} → statement M
+read-box-spec =
+    tie.close
+    (tie.spec
+    check-file-requires
+    enum-known-e
+    returns
+    enum-told
+    shared-slice-read-wide
+    wide-requires
+    write-rows-requires
+    shared-slice-read-wide-2
+    wide-requires-2
+    same-length
+    returns-2)

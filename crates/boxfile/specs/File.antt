@@ -1,0 +1,41 @@
+-- A box file: n, m in a byte each, then the rows, two bytes each, low byte first.
+use Prim.Native.Nat.{ℕ, _+_, _*_, _^_}
+use mathlib.Core.List.{List, [], _∷_}
+use lib.Dec.{leb, eqb}
+use lib.ListN.{length}
+use Rattle.boolean.specs.Sums.{listBelow}
+use Rattle.boolean.specs.Functions.{at}
+use Rattle.refusals.specs.Table.{Check, _unless_, inRange, allBelow, Reply, figures, refusal, number}
+use Rattle.refusals.specs.declared.Refusal.the-variants.{FileLength, InputWidth, OutputWidth, Value, WrittenLength}
+use Rattle.boxfile.specs.declared.BoxFile.{BoxFile}
+use Rattle.boxfile.specs.declared.BoxFile.the-variants.{Read, Declined}
+
+-- row x, from its two bytes
+unfoldable pub rowAt : List ℕ → ℕ → ℕ
+rowAt file x = at file (2 * x + 2) + 256 * at file (2 * x + 3)
+
+-- the rows of a box of n inputs
+unfoldable pub rowsOf : List ℕ → ℕ → List ℕ
+unfolding listBelow rowAt
+rowsOf file n = listBelow (2 ^ n) (λ x. rowAt file x)
+
+-- the checks once n and m have been read; the rows go to an array of that room
+unfoldable pub readChecks : List ℕ → ℕ → ℕ → ℕ → List Check
+unfolding rowsOf
+readChecks file n m room =
+    (InputWidth unless inRange 1 8 n)
+    ∷ (OutputWidth unless inRange 1 16 m)
+    ∷ (FileLength unless eqb (length file) (2 + 2 * 2 ^ n))
+    ∷ (Value unless allBelow (2 ^ m) (rowsOf file n))
+    ∷ (WrittenLength unless eqb room (2 ^ n))
+    ∷ []
+
+-- the checks of a file: under 2 bytes there is no n and no m
+unfoldable pub fileChecks : List ℕ → ℕ → List Check
+unfolding readChecks
+fileChecks file room = (FileLength unless leb 2 (length file)) ∷ readChecks file (at file 0) (at file 1) room
+
+-- what the answer says: n and m, or the number of the refusal
+abbrev pub boxFile : BoxFile → Reply
+boxFile (Read n m) = figures (n ∷ m ∷ [])
+boxFile (Declined e) = refusal (number e)

@@ -1,0 +1,109 @@
+// Reads a box file.
+use refusals::Checked;
+use refusals::Refusal;
+ghost use mathlib.Core.Path.{_≡_};
+ghost use mathlib.Core.List.{[], _∷_};
+ghost use Prim.Native.Nat.{ℕ, _+_, _*_, _^_, _<_, _≤_};
+ghost use lib.ListN.{length};
+ghost use Rattle.boolean.specs.Functions.{at};
+ghost use Rattle.refusals.specs.Table.{first, replyAfter, contentAfter, allBelow};
+ghost use Rattle.boxfile.specs.File.{rowAt, rowsOf, readChecks, fileChecks, boxFile};
+
+// The answer of reading a file: the widths of its box.
+pub enum BoxFile {
+    Read { n: u32, m: u32 },
+    Declined(Refusal),
+}
+
+// A byte as a number.
+fn wide(x: u8) -> u32
+    ensures { λ r. ⌜ (r ≡ x) × (r < 256) ⌝ }
+{
+    x as u32
+}
+
+// Row x of the file.
+fn row_at(file: &[u8], x: usize) -> u16
+    requires { ⌜ 2 * x + 3 < length (now file) ⌝ }
+    ensures { λ r. ⌜ r ≡ rowAt (now (file .entry)) x ⌝ }
+{
+    let low = wide(file[2 * x + 2]);
+    let high = wide(file[2 * x + 3]);
+    (low + 256 * high) as u16
+}
+
+// Whether every row of a file of n inputs is below the limit.
+fn rows_below(file: &[u8], n: u32, size: usize, limit: usize) -> bool
+    requires { ⌜ (size ≡ 2 ^ n) × (length (now file) ≡ 2 + 2 * size) ⌝ }
+    ensures { λ r. ⌜ r ≡ allBelow limit (rowsOf (now (file .entry)) n) ⌝ }
+{
+    let mut x = 0;
+    while x < size {
+        if limit <= row_at(file, x) as usize {
+            return false;
+        }
+        x += 1;
+    }
+    true
+}
+
+// The rows of the file, written to an array that is as long.
+fn write_rows(file: &[u8], n: u32, rows: &mut [u16])
+    requires { ⌜ (length (now rows) ≡ 2 ^ n) × (length (now file) ≡ 2 + 2 * 2 ^ n) ⌝ }
+    ensures { λ _. ⌜ now (rows .exit) ≡ rowsOf (now (file .entry)) n ⌝ }
+{
+    let mut x = 0;
+    while x < rows.len() {
+        rows[x] = row_at(file, x);
+        x += 1;
+    }
+}
+
+// The checks that follow once n and m have been read.
+fn check_read(file: &[u8], n: u32, m: u32, room: usize) -> Checked
+    ensures { λ r. ⌜ r ≡ first (readChecks (now (file .entry)) n m room) ⌝ }
+{
+    if !refusals::in_range(1, 8, n) {
+        return Checked::Refused(Refusal::InputWidth);
+    }
+    if !refusals::in_range(1, 16, m) {
+        return Checked::Refused(Refusal::OutputWidth);
+    }
+    let size = boolean::power_of_two(n);
+    if file.len() != 2 + 2 * size {
+        return Checked::Refused(Refusal::FileLength);
+    }
+    if !rows_below(file, n, size, boolean::power_of_two(m)) {
+        return Checked::Refused(Refusal::Value);
+    }
+    if room != size {
+        return Checked::Refused(Refusal::WrittenLength);
+    }
+    Checked::Accepted
+}
+
+// The checks of a file.
+fn check_file(file: &[u8], room: usize) -> Checked
+    ensures { λ r. ⌜ r ≡ first (fileChecks (now (file .entry)) room) ⌝ }
+{
+    if file.len() < 2 {
+        return Checked::Refused(Refusal::FileLength);
+    }
+    check_read(file, wide(file[0]), wide(file[1]), room)
+}
+
+// Reads a box from the bytes of its file: the widths are the answer, and the rows go to the lent array.
+pub fn read_box(file: &[u8], rows: &mut [u16]) -> BoxFile
+    ensures reply { λ r. ⌜ boxFile r ≡ replyAfter (first (fileChecks (now (file .entry)) (length (now (rows .entry))))) (at (now (file .entry)) 0 ∷ at (now (file .entry)) 1 ∷ []) ⌝ }
+    ensures content { λ r. ⌜ now (rows .exit) ≡ contentAfter (first (fileChecks (now (file .entry)) (length (now (rows .entry))))) (rowsOf (now (file .entry)) (at (now (file .entry)) 0)) (now (rows .entry)) ⌝ }
+{
+    if let Checked::Refused(e) = check_file(file, rows.len()) {
+        return BoxFile::Declined(e);
+    }
+    let n = wide(file[0]);
+    write_rows(file, n, rows);
+    BoxFile::Read {
+        n,
+        m: wide(file[1]),
+    }
+}

@@ -1,0 +1,102 @@
+-- `differential::check_row` meets its contract: the lines of a box's checks, then the input difference and the written length. Assumes nothing.
+use mathlib.Core.List.{[]}
+use mathlib.Core.Path.{_≡_, _∙_, sym, ap}
+use Prim.Native.Nat.{ℕ, _-_, _^_}
+use native.Mathlib.Omega.{arith}
+use borrow.Author.Needs.{needs}
+use lib.Pow.{pow-pos}
+use Rattle.refusals.specs.Table.{first, inRange, boxChecks, Box}
+use Rattle.refusals.specs.declared.Checked.the-variants.{Accepted}
+use Rattle.refusals.proofs.Checks.{fails, holds, differs, equals, found-before, found-after, skip, stop, end, box}
+use Rattle.differential.specs.Calls.{rowChecks}
+use Rattle.differential.proofs.check_row.Statement.{statement}
+use Rattle.differential.proofs.check_row.Tie as tie
+
+-- the lines of the box's checks, where they were passed
+ok-box : (c : tie.After-enum-told) →
+    let a = c .before .before .before .before .args in
+    first (boxChecks (a .n) (a .m) (a .rows .now)) ≡ Accepted
+ok-box c = sym (c .before .before .check-box .ensures) ∙ c .enum-told .given .1
+
+the-box : (c : tie.After-enum-told) →
+    let a = c .before .before .before .before .args in
+    Box (a .n) (a .m) (a .rows .now)
+the-box c =
+    let a = c .before .before .before .before .args in
+    box (a .n) (a .m) (a .rows .now) [] (ok-box c)
+
+-- the input difference's test, by the power that was computed
+difference-test : (c : tie.After-in-range) →
+    let p = c .before in
+    let a = p .before .before .before .before .before .args in
+    c .in-range .result ≡ inRange 1 (2 ^ a .n - 1) (a .a)
+difference-test c =
+    let p = c .before in
+    let a = p .before .before .before .before .before .args in
+    c .in-range .ensures ∙ ap (λ (k : ℕ). inRange 1 (k - 1) (a .a)) (p .power-of-two .ensures .0)
+
+check-box-requires : tie.Need-check-box-requires
+check-box-requires c κs = search needs
+
+enum-known-e : tie.Need-enum-known-e
+enum-known-e c = search needs
+
+returns : tie.Need-returns
+unfolding rowChecks
+returns c =
+    let p = c .before .before .before in
+    let a = p .before .before .args in
+    found-before (boxChecks (a .n) (a .m) (a .rows .now)) _ (sym (p .check-box .ensures) ∙ c .before .e .given .1)
+
+enum-told : tie.Need-enum-told
+enum-told c = search needs
+
+power-of-two-requires : tie.Need-power-of-two-requires
+power-of-two-requires c κs = let b = the-box c in omega (arith, b .n-high, b .m-high)
+
+cast-inputs : tie.Need-cast-inputs
+cast-inputs c = search needs
+
+sub-in-range : tie.Need-sub-in-range
+sub-in-range c = omega (arith, c .power-of-two .ensures .0, pow-pos (c .before .before .before .before .before .args .n))
+
+in-range-requires : tie.Need-in-range-requires
+in-range-requires c κs = search needs
+
+returns-2 : tie.Need-returns-2
+unfolding rowChecks
+returns-2 c = found-after _ (ok-box (c .before .before .before)) (stop (fails (difference-test (c .before)) (c .if1 .taken)))
+
+power-of-two-requires-2 : tie.Need-power-of-two-requires-2
+power-of-two-requires-2 c κs = let b = the-box (c .before .before .before) in omega (arith, b .n-high, b .m-high)
+
+returns-3 : tie.Need-returns-3
+unfolding rowChecks
+returns-3 c =
+    let else = c .before .before in
+    found-after _ (ok-box (else .before .before .before)) (skip (holds (difference-test (else .before)) (else .if1 .left))
+    (stop (differs (c .before .power-of-two2 .ensures .0) (c .if2 .taken))))
+
+returns-4 : tie.Need-returns-4
+unfolding rowChecks
+returns-4 c =
+    let else = c .before .before in
+    found-after _ (ok-box (else .before .before .before)) (skip (holds (difference-test (else .before)) (else .if1 .left))
+    (skip (equals (c .before .power-of-two2 .ensures .0) (c .if2 .left)) end))
+
+pub check-row-spec : {M : Type 1} → statement M
+check-row-spec =
+    tie.close
+    (tie.spec
+    check-box-requires
+    enum-known-e
+    returns
+    enum-told
+    power-of-two-requires
+    cast-inputs
+    sub-in-range
+    in-range-requires
+    returns-2
+    power-of-two-requires-2
+    returns-3
+    returns-4)

@@ -1,0 +1,51 @@
+-- `differential::write_row` meets its contract: the counts of the differences are the row. Assumes nothing.
+use mathlib.Core.Path.{sym, _∙_}
+use borrow.Author.Needs.{needs}
+use Rattle.differential.proofs.Sweeps.{box-inside}
+use Rattle.differential.proofs.Tallies.{cleared-length, tally-ready, row-is}
+use Rattle.differential.proofs.write_row.Statement.{statement}
+use Rattle.differential.proofs.write_row.Tie as tie
+
+write-differences-requires : tie.Need-write-differences-requires
+write-differences-requires c κs =
+    let pre = c .before .before .before .before .pre in
+    (box-inside (pre .0 .box) (pre .1), pre .0 .size ∙ sym (pre .0 .box .size))
+
+clear-requires : tie.Need-clear-requires
+clear-requires c κs = search needs
+
+count-differences-requires : tie.Need-count-differences-requires
+count-differences-requires c κs =
+    let cleared = c .before .before .before .before in
+    let written = cleared .before .before .before .before in
+    let start = written .before .before .before .before .before in
+    tally-ready (start .pre .0 .box) (start .args .a) (written .write-differences .ensures) (start .pre .2) (cleared .clear .ensures)
+
+same-length : tie.Need-same-length
+same-length c = search needs
+
+same-length-2 : tie.Need-same-length-2
+same-length-2 c = search needs
+
+returns : tie.Need-returns
+returns c =
+    let counted = c .before .before in
+    let cleared = counted .before .before .before .before .before in
+    let written = cleared .before .before .before .before in
+    let start = written .before .before .before .before .before in
+    let box = start .pre .0 .box in
+    let values = written .write-differences .ensures in (
+      row-is box (start .args .a) (cleared-length box (start .args .a) values (start .pre .2) (cleared .clear .ensures)) values (counted .count-differences .ensures),
+      values,
+    )
+
+pub write-row-spec : {M : Type 1} → statement M
+write-row-spec =
+    tie.close
+    (tie.spec
+    write-differences-requires
+    clear-requires
+    count-differences-requires
+    same-length
+    same-length-2
+    returns)

@@ -1,0 +1,2 @@
+pub mod XorTable
+pub mod Calls

@@ -1,0 +1,57 @@
+-- The XOR table, the field's difference distribution table.
+use Prim.Native.Nat.{ℕ, _+_, _-_, _*_, _^_, _<_}
+use mathlib.Core.Path.{_≡_}
+use mathlib.Core.Logic.{_↔_}
+use mathlib.Core.List.{List, [], _∷_, map, List·Memᴰ}
+use lib.Bits.{bitXor}
+use lib.Dec.{eqb}
+use lib.ListN.{length, getD, take, drop}
+use Rattle.boolean.specs.Sums.{countBelow, listFrom, listBelow, each, keep}
+use Rattle.boolean.specs.Functions.{at}
+use Rattle.boolean.specs.Selection.{Candidate, firstLargest}
+
+-- S(x) XOR S(x XOR a), the output difference at x under the input difference a
+unfoldable pub difference : List ℕ → ℕ → ℕ → ℕ
+difference rows a x = bitXor (at rows x) (at rows (bitXor x a))
+
+-- a cell of the table: the count of x with S(x) XOR S(x XOR a) = β
+unfoldable pub cell : ℕ → List ℕ → ℕ → ℕ → ℕ
+unfolding countBelow difference
+cell n rows a β = countBelow (2 ^ n) (λ x. eqb (difference rows a x) β)
+
+-- one row of the table: its 2^m counts
+unfoldable pub xorRow : ℕ → ℕ → List ℕ → ℕ → List ℕ
+unfolding listBelow cell
+xorRow n m rows a = listBelow (2 ^ m) (λ β. cell n rows a β)
+
+-- the cells of one row, in ascending β
+unfoldable pub cellsOf : ℕ → ℕ → List ℕ → ℕ → List Candidate
+unfolding listBelow cell
+cellsOf n m rows a = listBelow (2 ^ m) (λ β. record { figure = cell n rows a β; witness = a ∷ β ∷ [] })
+
+-- all cells, in ascending a from 1 to 2^n − 1, then β
+unfoldable pub cells : ℕ → ℕ → List ℕ → List Candidate
+unfolding each listFrom cellsOf
+cells n m rows = each (listFrom 1 (2 ^ n - 1) (λ a. a)) (λ a. cellsOf n m rows a)
+
+-- the first largest cell, the field's differential uniformity
+unfoldable pub largestCell : ℕ → ℕ → List ℕ → Candidate
+unfolding firstLargest cells
+largestCell n m rows = firstLargest (cells n m rows)
+
+-- a cell in the list of cells: a × 65,536 + β
+abbrev pub coded : Candidate → ℕ
+coded c = getD (c .witness) 0 0 * 65536 + getD (c .witness) 1 0
+
+-- the cells that reach the largest count
+unfoldable pub largestCells : ℕ → ℕ → List ℕ → List ℕ
+unfolding keep largestCell cells
+largestCells n m rows = map coded (keep (λ c. eqb (c .figure) (largestCell n m rows .figure)) (cells n m rows))
+
+-- What the list holds afterwards. Its first entries, as many as there are such cells, are these cells, each once, in an order that is left
+-- open; the entries past them stay.
+pub record Holds (wanted old new : List ℕ) : Type 0 where
+  pub long : length new ≡ length old
+  pub these : (v : ℕ) → List·Memᴰ v (take (length wanted) new) ↔ List·Memᴰ v wanted
+  pub once : (i j : ℕ) → i < j → j < length wanted → at new i ≡ at new j → ⊥
+  pub past : drop (length wanted) new ≡ drop (length wanted) old

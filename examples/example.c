@@ -1,0 +1,38 @@
+/* Two figures of the box 3 1 4 0 2 5 6 7, and a refusal.
+ *
+ * With the library built, from this directory:
+ *
+ *     gcc example.c -I../include -L../target/staticlib -lsatmegwo -o example && ./example
+ */
+#include <stdint.h>
+#include <stdio.h>
+#include "satmegwo.h"
+
+int main(void)
+{
+    const uint16_t rows[8] = {3, 1, 4, 0, 2, 5, 6, 7};
+    uint32_t figures[4];
+    uint32_t refusal;
+
+    refusal = satmegwo_nonlinearity(3, 3, rows, 8, figures, 4);
+    if (refusal != 0) {
+        printf("refused %u\n", (unsigned)refusal);
+        return 1;
+    }
+    printf("nonlinearity %u: combination %u against w = %u, b = %u\n",
+           (unsigned)figures[0], (unsigned)figures[1], (unsigned)figures[2], (unsigned)figures[3]);
+
+    /* Three figures are written here, so three elements are lent. */
+    refusal = satmegwo_largest_cell(3, 3, rows, 8, figures, 3);
+    if (refusal != 0) {
+        printf("refused %u\n", (unsigned)refusal);
+        return 1;
+    }
+    printf("largest XOR cell %u: a = %u, beta = %u\n",
+           (unsigned)figures[0], (unsigned)figures[1], (unsigned)figures[2]);
+
+    /* With two outputs the first row that is not below 4 stops the call. */
+    refusal = satmegwo_nonlinearity(3, 2, rows, 8, figures, 4);
+    printf("with m = 2: refused %u, a row is not below 2^m\n", (unsigned)refusal);
+    return 0;
+}

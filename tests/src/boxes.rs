@@ -1,0 +1,169 @@
+//! Boxes to test with: random ones, and ones in which an analyser is likely to slip.
+use crate::model;
+use crate::random::Random;
+
+/// How many kinds of boxes there are; `of_kind` counts around them.
+pub const KINDS: u32 = 12;
+
+/// A box of the given kind. Where a kind does not exist at these widths a near one is made.
+pub fn of_kind(kind: u32, n: u32, m: u32, random: &mut Random) -> Vec<u16> {
+    match kind % KINDS {
+        0 => random_rows(n, m, random),
+        1 => constant(n, m, random),
+        2 => affine_columns(n, m, random),
+        3 => identity(n, m),
+        4 => bent_columns(n, m, random),
+        5 => permuted(n, m, random),
+        6 => two_values(n, m, random),
+        7 => two_equal_rows(n, m, random),
+        8 => quadratic(n, m, random),
+        9 => deaf_to_one_bit(n, m, random),
+        10 => one_affine_combination(n, m, random),
+        _ => few_ones(n, m, random),
+    }
+}
+
+fn mask(m: u32) -> u16 {
+    ((1u32 << m) - 1) as u16
+}
+
+pub fn random_rows(n: u32, m: u32, random: &mut Random) -> Vec<u16> {
+    (0..1 << n).map(|_| random.draw() as u16 & mask(m)).collect()
+}
+
+pub fn random_table(n: u32, random: &mut Random) -> Vec<u8> {
+    (0..1 << n).map(|_| random.below(2) as u8).collect()
+}
+
+/// A permutation of 0 to 2^h - 1.
+pub fn random_permutation(h: u32, random: &mut Random) -> Vec<u8> {
+    let mut entries: Vec<u8> = (0..=(1u32 << h) - 1).map(|x| x as u8).collect();
+    random.shuffle(&mut entries);
+    entries
+}
+
+/// Every input gives the same row; now and then this row is 0 or the largest one.
+fn constant(n: u32, m: u32, random: &mut Random) -> Vec<u16> {
+    let other = random_rows(1, m, random)[0];
+    vec![random.pick(&[0, mask(m), other]); 1 << n]
+}
+
+/// Puts truth tables together: the first is column 1.
+fn from_columns(n: u32, columns: &[Vec<u8>]) -> Vec<u16> {
+    let mut rows = vec![0; 1 << n];
+    for (j, column) in columns.iter().enumerate() {
+        for (row, &bit) in rows.iter_mut().zip(column) {
+            *row |= u16::from(bit) << j;
+        }
+    }
+    rows
+}
+
+fn affine(n: u32, random: &mut Random) -> Vec<u8> {
+    let (w, b) = (random.below(1 << n), random.below(2) as u8);
+    (0..1 << n).map(|x| model::parity(w & x) ^ b).collect()
+}
+
+fn affine_columns(n: u32, m: u32, random: &mut Random) -> Vec<u16> {
+    let columns: Vec<Vec<u8>> = (0..m).map(|_| affine(n, random)).collect();
+    from_columns(n, &columns)
+}
+
+fn identity(n: u32, m: u32) -> Vec<u16> {
+    (0..1u32 << n).map(|x| x as u16 & mask(m)).collect()
+}
+
+/// A bent function, or for odd n one on all inputs but the highest.
+fn bent(n: u32, random: &mut Random) -> Vec<u8> {
+    let even = n & !1;
+    if even == 0 {
+        return random_table(n, random);
+    }
+    let permutation = random_permutation(even / 2, random);
+    let table = random_table(even / 2, random);
+    let bent = model::bent_function(even, &permutation, &table, 1 << even).expect("nothing to refuse");
+    bent.iter().copied().cycle().take(1 << n).collect()
+}
+
+fn bent_columns(n: u32, m: u32, random: &mut Random) -> Vec<u16> {
+    let columns: Vec<Vec<u8>> = (0..m).map(|_| bent(n, random)).collect();
+    from_columns(n, &columns)
+}
+
+/// With m = n a bijective box.
+fn permuted(n: u32, m: u32, random: &mut Random) -> Vec<u16> {
+    let mut rows = identity(n, m);
+    random.shuffle(&mut rows);
+    rows
+}
+
+/// Only two rows occur, so most figures are reached in many places.
+fn two_values(n: u32, m: u32, random: &mut Random) -> Vec<u16> {
+    let values = random_rows(1, m, random);
+    (0..1 << n).map(|_| random.pick(&values)).collect()
+}
+
+/// A permutation in which one row was copied over another.
+fn two_equal_rows(n: u32, m: u32, random: &mut Random) -> Vec<u16> {
+    let mut rows = permuted(n, m, random);
+    let (from, to) = (random.below(1 << n), random.below(1 << n));
+    rows[to as usize] = rows[from as usize];
+    rows
+}
+
+/// Columns of degree 2 at most: products of two affine functions.
+fn quadratic(n: u32, m: u32, random: &mut Random) -> Vec<u16> {
+    let mut product = || -> Vec<u8> {
+        let (f, g) = (affine(n, random), affine(n, random));
+        f.iter().zip(&g).map(|(a, b)| a & b).collect()
+    };
+    let columns: Vec<Vec<u8>> = (0..m).map(|_| product()).collect();
+    from_columns(n, &columns)
+}
+
+/// One input bit changes nothing in one column.
+fn deaf_to_one_bit(n: u32, m: u32, random: &mut Random) -> Vec<u16> {
+    let mut rows = random_rows(n, m, random);
+    let (input, column) = (1usize << random.below(n), 1u16 << random.below(m));
+    for x in (0..rows.len()).filter(|x| x & input != 0) {
+        rows[x] = rows[x] & !column | rows[x ^ input] & column;
+    }
+    rows
+}
+
+/// The highest column makes the sum of all columns affine: the witness stands at the end.
+fn one_affine_combination(n: u32, m: u32, random: &mut Random) -> Vec<u16> {
+    let sum = affine(n, random);
+    let mut rows = random_rows(n, m, random);
+    for (row, &wanted) in rows.iter_mut().zip(&sum) {
+        let parity = model::parity(u32::from(*row));
+        *row ^= u16::from(parity ^ wanted) << (m - 1);
+    }
+    rows
+}
+
+/// All rows but a few are 0, and the last one is as large as can be.
+fn few_ones(n: u32, m: u32, random: &mut Random) -> Vec<u16> {
+    let mut rows = vec![0; 1 << n];
+    rows[random.below(1 << n) as usize] = 1 << random.below(m);
+    rows[(1 << n) - 1] = mask(m);
+    rows
+}
+
+#[cfg(test)]
+mod tests {
+    use super::*;
+
+    #[test]
+    fn every_kind_is_a_box_at_every_width() {
+        let mut random = Random::new(3);
+        for n in 1..=8 {
+            for m in 1..=16 {
+                for kind in 0..KINDS {
+                    let rows = of_kind(kind, n, m, &mut random);
+                    assert!(model::degree(n, m, &rows, 1).is_ok(), "kind {kind}, {n} by {m}: {rows:?}");
+                }
+            }
+        }
+    }
+}

@@ -1,0 +1,52 @@
+//! The second program beside the library. See the usage text below.
+mod bounds;
+mod calls;
+mod compare;
+mod damage;
+mod files;
+mod lent;
+mod library;
+mod sheets;
+
+use std::path::Path;
+use std::process::ExitCode;
+
+const USAGE: &str = "usage:
+  second compare [SEED] [COUNT]
+      every call of the library against the model; COUNT damaged argument sets for each call
+  second sheets PROGRAM DIR [SEED] [COUNT]
+      the box sheet PROGRAM against the model, on COUNT files made from SEED and on DIR/*.box
+  second files DIR
+      writes the published boxes and their sheets to DIR";
+
+fn main() -> ExitCode {
+    let arguments: Vec<String> = std::env::args().skip(1).collect();
+    let words: Vec<&str> = arguments.iter().map(String::as_str).collect();
+    let outcome = match words[..] {
+        ["compare", ref rest @ ..] if rest.len() <= 2 => {
+            numbers(rest, 1, compare::DEFAULT_COUNT).map(|(seed, count)| compare::run(seed, count))
+        }
+        ["sheets", program, directory, ref rest @ ..] if rest.len() <= 2 => {
+            numbers(rest, 1, sheets::DEFAULT_COUNT).and_then(|(seed, count)| sheets::run(program, Path::new(directory), seed, count))
+        }
+        ["files", directory] => files::write(Path::new(directory)),
+        _ => Err(USAGE.to_string()),
+    };
+    match outcome {
+        Ok(true) => ExitCode::SUCCESS,
+        Ok(false) => ExitCode::from(1),
+        Err(message) => {
+            eprintln!("{message}");
+            ExitCode::from(2)
+        }
+    }
+}
+
+/// The optional seed and count at the end of the command line.
+fn numbers(words: &[&str], seed: u64, count: u64) -> Result<(u64, u64), String> {
+    let number = |place: usize, default: u64| match words.get(place) {
+        Some(word) => word.parse().map_err(|_| format!("not a number: {word}\n{USAGE}")),
+        None => Ok(default),
+    };
+    Ok((number(0, seed)?, number(1, count)?))
+}

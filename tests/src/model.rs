@@ -1,0 +1,561 @@
+//! The second program: every call of document 01, from its definition.
+//!
+//! Each call first looks for a refusal, down the table of document 01, and then counts
+//! inputs and adds up plus and minus ones as the definition says. A lent array shows up
+//! here only as its length; what the call would write to it is the value returned.
+use crate::fast;
+
+/// The refusals' numbers.
+pub const INPUT_WIDTH: u32 = 1;
+pub const OUTPUT_WIDTH: u32 = 2;
+pub const READ_LENGTH: u32 = 3;
+pub const READ_VALUE: u32 = 4;
+pub const NOT_A_PERMUTATION: u32 = 5;
+pub const PARAMETER: u32 = 6;
+pub const WRITTEN_LENGTH: u32 = 7;
+pub const NO_FUNCTION: u32 = 8;
+pub const LIST_TOO_SHORT: u32 = 9;
+pub const FILE_LENGTH: u32 = 10;
+
+/// A result, or the number of the refusal.
+pub type Answer<T> = Result<T, u32>;
+
+// ---------------------------------------------------------------------------
+// Checks. Each gives its refusal or nothing.
+// ---------------------------------------------------------------------------
+
+fn refuse_when(condition: bool, number: u32) -> Answer<()> {
+    if condition {
+        Err(number)
+    } else {
+        Ok(())
+    }
+}
+
+fn check_inputs(n: u32, most: u32) -> Answer<()> {
+    refuse_when(n < 1 || n > most, INPUT_WIDTH)
+}
+
+fn check_outputs(m: u32) -> Answer<()> {
+    refuse_when(!(1..=16).contains(&m), OUTPUT_WIDTH)
+}
+
+fn check_read(length: usize, right: usize) -> Answer<()> {
+    refuse_when(length != right, READ_LENGTH)
+}
+
+fn check_rows(m: u32, rows: &[u16]) -> Answer<()> {
+    refuse_when(rows.iter().any(|&row| u32::from(row) >= 1 << m), READ_VALUE)
+}
+
+fn check_truth_values(table: &[u8]) -> Answer<()> {
+    refuse_when(table.iter().any(|&value| value > 1), READ_VALUE)
+}
+
+fn check_parameter(value: u32, low: u32, high: u32) -> Answer<()> {
+    refuse_when(value < low || value > high, PARAMETER)
+}
+
+fn check_written(length: usize, right: usize) -> Answer<()> {
+    refuse_when(length != right, WRITTEN_LENGTH)
+}
+
+/// Refusals 1 to 4 of a box.
+fn check_box(n: u32, m: u32, rows: &[u16]) -> Answer<()> {
+    check_inputs(n, 8)?;
+    check_outputs(m)?;
+    check_read(rows.len(), 1 << n)?;
+    check_rows(m, rows)
+}
+
+/// Refusals 1, 3 and 4 of a truth table with at most `most` inputs.
+fn check_table(n: u32, most: u32, table: &[u8]) -> Answer<()> {
+    check_inputs(n, most)?;
+    check_read(table.len(), 1 << n)?;
+    check_truth_values(table)
+}
+
+// ---------------------------------------------------------------------------
+// Definitions. Their arguments have been checked.
+// ---------------------------------------------------------------------------
+
+/// The parity of the ones in a number: 0 or 1.
+pub fn parity(number: u32) -> u8 {
+    (number.count_ones() & 1) as u8
+}
+
+/// The truth table of combination c.
+pub fn combination(rows: &[u16], c: u32) -> Vec<u8> {
+    rows.iter().map(|&row| parity(u32::from(row) & c)).collect()
+}
+
+/// The truth table of x -> w·x.
+fn linear(n: u32, w: u32) -> Vec<u8> {
+    (0..1 << n).map(|x| parity(w & x)).collect()
+}
+
+fn spectrum_by_definition(n: u32, f: &[u8]) -> Vec<i32> {
+    let value = |w| -> i32 {
+        let line = linear(n, w);
+        f.iter().zip(&line).map(|(a, b)| if a == b { 1 } else { -1 }).sum()
+    };
+    (0..1 << n).map(value).collect()
+}
+
+/// In how many inputs f differs from the affine function `line` XOR b.
+fn count_of_differing(f: &[u8], line: &[u8], b: u32) -> u32 {
+    f.iter().zip(line).map(|(&v, &l)| u32::from(v != l ^ b as u8)).sum()
+}
+
+/// The least count with its first witness: d, c, w, b.
+pub fn nonlinearity_by_definition(n: u32, m: u32, rows: &[u16]) -> [u32; 4] {
+    let lines: Vec<Vec<u8>> = (0..1 << n).map(|w| linear(n, w)).collect();
+    let mut best = [u32::MAX, 0, 0, 0];
+    for c in 1..1u32 << m {
+        let f = combination(rows, c);
+        for w in 0..1u32 << n {
+            for b in 0..2 {
+                let differing = count_of_differing(&f, &lines[w as usize], b);
+                if differing < best[0] {
+                    best = [differing, c, w, b];
+                }
+            }
+        }
+    }
+    best
+}
+
+/// One row of the XOR table: for each β the count of x with S(x) XOR S(x XOR a) = β.
+fn xor_row_by_definition(m: u32, rows: &[u16], a: u32) -> Vec<u16> {
+    let mut counts = vec![0; 1 << m];
+    for x in 0..rows.len() {
+        counts[usize::from(rows[x] ^ rows[x ^ a as usize])] += 1;
+    }
+    counts
+}
+
+/// The largest count with its first witness: count, a, β.
+pub fn largest_cell_by_definition(n: u32, m: u32, rows: &[u16]) -> [u32; 3] {
+    let mut best = [0, 0, 0];
+    for a in 1..1u32 << n {
+        for (beta, &count) in xor_row_by_definition(m, rows, a).iter().enumerate() {
+            if u32::from(count) > best[0] {
+                best = [u32::from(count), a, beta as u32];
+            }
+        }
+    }
+    best
+}
+
+/// All cells that reach the largest count, each as a * 65536 + β, ascending.
+pub fn largest_cells_by_definition(n: u32, m: u32, rows: &[u16]) -> Vec<u32> {
+    let largest = largest_cell_by_definition(n, m, rows)[0];
+    let mut cells = Vec::new();
+    for a in 1..1u32 << n {
+        for (beta, &count) in xor_row_by_definition(m, rows, a).iter().enumerate() {
+            if u32::from(count) == largest {
+                cells.push(a * 65536 + beta as u32);
+            }
+        }
+    }
+    cells
+}
+
+/// r(s): plus one where f(x) = f(x XOR s), minus one elsewhere, over all x.
+fn correlation(f: &[u8], s: u32) -> i32 {
+    (0..f.len()).map(|x| if f[x] == f[x ^ s as usize] { 1 } else { -1 }).sum()
+}
+
+/// The largest |r(s)| with its first witness: figure, c, s.
+pub fn autocorrelation_by_definition(n: u32, m: u32, rows: &[u16]) -> [u32; 3] {
+    let mut best: Option<[u32; 3]> = None;
+    for c in 1..1u32 << m {
+        let f = combination(rows, c);
+        for s in 1..1u32 << n {
+            let figure = correlation(&f, s).unsigned_abs();
+            if best.is_none_or(|b| figure > b[0]) {
+                best = Some([figure, c, s]);
+            }
+        }
+    }
+    best.expect("c = 1 and s = 1 always exist")
+}
+
+/// In how many inputs f changes when the bits of d are flipped.
+fn count_of_changes(f: &[u8], d: u32) -> u32 {
+    (0..f.len()).map(|x| u32::from(f[x] != f[x ^ d as usize])).sum()
+}
+
+/// The dynamic distance of order (i, j), not halved, with its first witness: figure, c, d.
+pub fn dynamic_distance_by_definition(n: u32, m: u32, rows: &[u16], i: u32, j: u32) -> [u32; 3] {
+    let mut best: Option<[u32; 3]> = None;
+    let half = 1u32 << (n - 1);
+    for c in (1..1u32 << m).filter(|c| c.count_ones() <= i) {
+        let f = combination(rows, c);
+        for d in (1..1u32 << n).filter(|d| d.count_ones() <= j) {
+            let figure = half.abs_diff(count_of_changes(&f, d));
+            if best.is_none_or(|b| figure > b[0]) {
+                best = Some([figure, c, d]);
+            }
+        }
+    }
+    best.expect("c = 1 and d = 1 always exist")
+}
+
+/// The coefficient at u is the XOR of f(x) over all x whose ones lie within u.
+fn normal_form_by_definition(f: &[u8]) -> Vec<u8> {
+    let coefficient = |u: usize| (0..f.len()).filter(|x| x & !u == 0).fold(0, |sum, x| sum ^ f[x]);
+    (0..f.len()).map(coefficient).collect()
+}
+
+fn degree_of_column(f: &[u8]) -> u32 {
+    let coefficients = normal_form_by_definition(f);
+    let present = (0..f.len()).filter(|&u| coefficients[u] == 1);
+    present.map(|u| u.count_ones()).max().unwrap_or(0)
+}
+
+pub fn degree_by_definition(m: u32, rows: &[u16]) -> u32 {
+    let columns = (1..=m).map(|j| combination(rows, 1 << (j - 1)));
+    columns.map(|f| degree_of_column(&f)).max().unwrap_or(0)
+}
+
+pub fn complete_by_definition(n: u32, m: u32, rows: &[u16]) -> bool {
+    (1..=m).all(|j| {
+        let f = combination(rows, 1 << (j - 1));
+        (1..=n).all(|k| count_of_changes(&f, 1 << (k - 1)) > 0)
+    })
+}
+
+pub fn bijective_by_definition(n: u32, m: u32, rows: &[u16]) -> bool {
+    let no_two_equal = (0..rows.len()).all(|x| !rows[x + 1..].contains(&rows[x]));
+    n == m && no_two_equal
+}
+
+/// Whether counting by definition over all combinations takes a bearable time.
+/// For wider boxes the model takes the figure from `fast`, which the unit tests
+/// compare with the definitions at every width within this bound.
+fn bearable(n: u32, m: u32) -> bool {
+    m + 2 * n <= 24
+}
+
+// ---------------------------------------------------------------------------
+// The calls.
+// ---------------------------------------------------------------------------
+
+pub fn spectrum(n: u32, table: &[u8], out_len: usize) -> Answer<Vec<i32>> {
+    check_table(n, 8, table)?;
+    check_written(out_len, 1 << n)?;
+    Ok(spectrum_by_definition(n, table))
+}
+
+/// The only function that can have the values is found by adding them up with the signs of
+/// w·x, which gives 2^n or -2^n at each x; whether it does have them is then looked at.
+pub fn inverse_spectrum(n: u32, values: &[i32], table_len: usize) -> Answer<Vec<u8>> {
+    check_inputs(n, 8)?;
+    check_read(values.len(), 1 << n)?;
+    check_written(table_len, 1 << n)?;
+    let signed_sum = |x: u32| -> i64 {
+        let signed = |(w, &v): (usize, &i32)| if parity(w as u32 & x) == 0 { i64::from(v) } else { -i64::from(v) };
+        values.iter().enumerate().map(signed).sum()
+    };
+    let candidate: Vec<u8> = (0..1 << n).map(|x| u8::from(signed_sum(x) < 0)).collect();
+    refuse_when(spectrum_by_definition(n, &candidate) != values, NO_FUNCTION)?;
+    Ok(candidate)
+}
+
+pub fn component_spectrum(n: u32, m: u32, rows: &[u16], c: u32, out_len: usize) -> Answer<Vec<i32>> {
+    check_box(n, m, rows)?;
+    check_parameter(c, 1, (1 << m) - 1)?;
+    check_written(out_len, 1 << n)?;
+    Ok(spectrum_by_definition(n, &combination(rows, c)))
+}
+
+/// Figures: d, c, w, b.
+pub fn nonlinearity(n: u32, m: u32, rows: &[u16], figures_len: usize) -> Answer<[u32; 4]> {
+    check_box(n, m, rows)?;
+    check_written(figures_len, 4)?;
+    Ok(if bearable(n, m) {
+        nonlinearity_by_definition(n, m, rows)
+    } else {
+        fast::nonlinearity(n, m, rows)
+    })
+}
+
+pub fn add_to_column(n: u32, m: u32, rows: &[u16], j: u32, w: u32, b: u32, out_len: usize) -> Answer<Vec<u16>> {
+    check_box(n, m, rows)?;
+    check_parameter(j, 1, m)?;
+    check_parameter(w, 0, (1 << n) - 1)?;
+    check_parameter(b, 0, 1)?;
+    check_written(out_len, 1 << n)?;
+    let added = |x: u32| u16::from(parity(w & x) ^ b as u8) << (j - 1);
+    Ok((0..1 << n).map(|x| rows[x as usize] ^ added(x)).collect())
+}
+
+pub fn xor_row(n: u32, m: u32, rows: &[u16], a: u32, counts_len: usize) -> Answer<Vec<u16>> {
+    check_box(n, m, rows)?;
+    check_parameter(a, 1, (1 << n) - 1)?;
+    check_written(counts_len, 1 << m)?;
+    Ok(xor_row_by_definition(m, rows, a))
+}
+
+/// Figures: count, a, β.
+pub fn largest_cell(n: u32, m: u32, rows: &[u16], figures_len: usize) -> Answer<[u32; 3]> {
+    check_box(n, m, rows)?;
+    check_written(figures_len, 3)?;
+    Ok(largest_cell_by_definition(n, m, rows))
+}
+
+/// The cells in ascending order; their number is the figure.
+pub fn largest_cells(n: u32, m: u32, rows: &[u16], list_len: usize, figures_len: usize) -> Answer<Vec<u32>> {
+    check_box(n, m, rows)?;
+    check_written(figures_len, 1)?;
+    let cells = largest_cells_by_definition(n, m, rows);
+    refuse_when(list_len < cells.len(), LIST_TOO_SHORT)?;
+    Ok(cells)
+}
+
+/// Figures: figure, c, s.
+pub fn autocorrelation(n: u32, m: u32, rows: &[u16], figures_len: usize) -> Answer<[u32; 3]> {
+    check_box(n, m, rows)?;
+    check_written(figures_len, 3)?;
+    Ok(if bearable(n, m) {
+        autocorrelation_by_definition(n, m, rows)
+    } else {
+        fast::autocorrelation(n, m, rows)
+    })
+}
+
+/// Figures: the doubled figure, c, d.
+pub fn dynamic_distance(n: u32, m: u32, rows: &[u16], i: u32, j: u32, figures_len: usize) -> Answer<[u32; 3]> {
+    check_box(n, m, rows)?;
+    check_parameter(i, 1, m)?;
+    check_parameter(j, 1, n)?;
+    check_written(figures_len, 3)?;
+    Ok(if bearable(n, m) {
+        dynamic_distance_by_definition(n, m, rows, i, j)
+    } else {
+        fast::dynamic_distance(n, m, rows, i, j)
+    })
+}
+
+pub fn normal_form(n: u32, table: &[u8], out_len: usize) -> Answer<Vec<u8>> {
+    check_table(n, 8, table)?;
+    check_written(out_len, 1 << n)?;
+    Ok(normal_form_by_definition(table))
+}
+
+pub fn degree(n: u32, m: u32, rows: &[u16], figures_len: usize) -> Answer<[u32; 1]> {
+    check_box(n, m, rows)?;
+    check_written(figures_len, 1)?;
+    Ok([degree_by_definition(m, rows)])
+}
+
+/// Figure: 1 for yes, 0 for no.
+pub fn complete(n: u32, m: u32, rows: &[u16], figures_len: usize) -> Answer<[u32; 1]> {
+    check_box(n, m, rows)?;
+    check_written(figures_len, 1)?;
+    Ok([u32::from(complete_by_definition(n, m, rows))])
+}
+
+/// Figure: 1 for yes, 0 for no.
+pub fn bijective(n: u32, m: u32, rows: &[u16], figures_len: usize) -> Answer<[u32; 1]> {
+    check_box(n, m, rows)?;
+    check_written(figures_len, 1)?;
+    Ok([u32::from(bijective_by_definition(n, m, rows))])
+}
+
+pub fn enlarge_column(n: u32, table: &[u8], k: u32, a: u32, out_len: usize) -> Answer<Vec<u8>> {
+    check_table(n, 7, table)?;
+    check_parameter(k, 1, n)?;
+    check_parameter(a, 0, 1)?;
+    check_written(out_len, 2 << n)?;
+    let upper = (0..table.len()).map(|x| table[x ^ (1 << (k - 1))] ^ a as u8);
+    Ok(table.iter().copied().chain(upper).collect())
+}
+
+pub fn enlarge_box(n: u32, rows: &[u16], table: &[u8], k: u32, out_len: usize) -> Answer<Vec<u16>> {
+    check_inputs(n, 7)?;
+    check_read(rows.len(), 1 << n)?;
+    check_read(table.len(), 1 << n)?;
+    check_rows(n, rows)?;
+    check_truth_values(table)?;
+    check_parameter(k, 1, n)?;
+    check_written(out_len, 2 << n)?;
+    let top_bit = |value: u8| u16::from(value) << n;
+    let lower = (0..rows.len()).map(|x| rows[x] | top_bit(table[x]));
+    let flipped = (0..rows.len()).map(|x| x ^ (1 << (k - 1)));
+    let upper = flipped.map(|x| rows[x] | top_bit(table[x] ^ 1));
+    Ok(lower.chain(upper).collect())
+}
+
+fn is_permutation(entries: &[u8]) -> bool {
+    (0..entries.len()).all(|value| entries.iter().any(|&entry| usize::from(entry) == value))
+}
+
+pub fn bent_function(n: u32, permutation: &[u8], table: &[u8], out_len: usize) -> Answer<Vec<u8>> {
+    refuse_when(![2, 4, 6, 8].contains(&n), INPUT_WIDTH)?;
+    let h = n / 2;
+    check_read(permutation.len(), 1 << h)?;
+    check_read(table.len(), 1 << h)?;
+    check_truth_values(table)?;
+    refuse_when(!is_permutation(permutation), NOT_A_PERMUTATION)?;
+    check_written(out_len, 1 << n)?;
+    let mut out = Vec::new();
+    for x in 0..1usize << h {
+        for y in 0..1u32 << h {
+            out.push(parity(u32::from(permutation[x]) & y) ^ table[x]);
+        }
+    }
+    Ok(out)
+}
+
+/// A box as it was read from a file.
+#[derive(Clone, Debug, PartialEq)]
+pub struct FileBox {
+    pub n: u32,
+    pub m: u32,
+    pub rows: Vec<u16>,
+}
+
+/// Everything about the file itself, before any array is lent.
+pub fn parse_file(file: &[u8]) -> Answer<FileBox> {
+    refuse_when(file.len() < 2, FILE_LENGTH)?;
+    let (n, m) = (u32::from(file[0]), u32::from(file[1]));
+    check_inputs(n, 8)?;
+    check_outputs(m)?;
+    refuse_when(file.len() != 2 + 2 * (1 << n), FILE_LENGTH)?;
+    let rows: Vec<u16> = file[2..].chunks(2).map(|two| u16::from_le_bytes([two[0], two[1]])).collect();
+    check_rows(m, &rows)?;
+    Ok(FileBox { n, m, rows })
+}
+
+/// Figures: n, m.
+pub fn read_box(file: &[u8], rows_len: usize, figures_len: usize) -> Answer<FileBox> {
+    let read = parse_file(file)?;
+    check_written(rows_len, 1 << read.n)?;
+    check_written(figures_len, 2)?;
+    Ok(read)
+}
+
+/// The file that holds a box.
+pub fn file_of(n: u32, m: u32, rows: &[u16]) -> Vec<u8> {
+    let mut file = vec![n as u8, m as u8];
+    file.extend(rows.iter().flat_map(|row| row.to_le_bytes()));
+    file
+}
+
+#[cfg(test)]
+mod tests {
+    use super::*;
+
+    const F: [u16; 8] = [3, 1, 4, 0, 2, 5, 6, 7];
+
+    #[test]
+    fn case_1_the_identity_of_one_bit() {
+        assert_eq!(nonlinearity(1, 1, &[0, 1], 4), Ok([0, 1, 1, 0]));
+        assert_eq!(dynamic_distance(1, 1, &[0, 1], 1, 1, 3).unwrap()[0], 1);
+        assert_eq!(degree(1, 1, &[0, 1], 1), Ok([1]));
+    }
+
+    #[test]
+    fn case_2_a_constant() {
+        assert_eq!(nonlinearity(1, 1, &[0, 0], 4), Ok([0, 1, 0, 0]));
+        assert_eq!(degree(1, 1, &[0, 0], 1), Ok([0]));
+    }
+
+    #[test]
+    fn case_3_the_product_of_two_bits() {
+        assert_eq!(spectrum(2, &[0, 0, 0, 1], 4), Ok(vec![2, 2, 2, -2]));
+        assert_eq!(component_spectrum(2, 1, &[0, 0, 0, 1], 1, 4), Ok(vec![2, 2, 2, -2]));
+        assert_eq!(nonlinearity(2, 1, &[0, 0, 0, 1], 4), Ok([1, 1, 0, 0]));
+        assert_eq!(dynamic_distance(2, 1, &[0, 0, 0, 1], 1, 2, 3).unwrap()[0], 0);
+    }
+
+    #[test]
+    fn cases_4_to_6_the_way_back() {
+        assert_eq!(inverse_spectrum(2, &[2, 2, 2, -2], 4), Ok(vec![0, 0, 0, 1]));
+        assert_eq!(inverse_spectrum(2, &[2, 2, 2, 2], 4), Err(8));
+        assert_eq!(inverse_spectrum(1, &[0, 0], 2), Err(8));
+    }
+
+    #[test]
+    fn case_7_the_identity_of_two_bits() {
+        let rows = [0, 1, 2, 3];
+        assert_eq!(nonlinearity(2, 2, &rows, 4), Ok([0, 1, 1, 0]));
+        assert_eq!(largest_cell(2, 2, &rows, 3), Ok([4, 1, 1]));
+        assert_eq!(autocorrelation(2, 2, &rows, 3), Ok([4, 1, 1]));
+    }
+
+    #[test]
+    fn case_8_one_column_enlarged() {
+        let f = [1, 1, 0, 0, 0, 1, 0, 1];
+        let wide = enlarge_column(3, &f, 1, 1, 16).unwrap();
+        assert_eq!(wide[..8], f);
+        assert_eq!(wide[8..], [0, 0, 1, 1, 0, 1, 0, 1]);
+    }
+
+    #[test]
+    fn case_9_a_box_enlarged() {
+        let wide = enlarge_box(3, &F, &[1, 0, 0, 0, 1, 1, 0, 1], 1, 16).unwrap();
+        assert_eq!(wide, [11, 1, 4, 0, 10, 13, 6, 15, 9, 3, 8, 12, 5, 2, 7, 14]);
+        assert_eq!(nonlinearity(4, 4, &wide, 4), Ok([0, 7, 15, 0]));
+        assert_eq!(bijective(4, 4, &wide, 1), Ok([1]));
+        assert_eq!(dynamic_distance(4, 4, &wide, 1, 1, 3).unwrap()[0], 0);
+    }
+
+    #[test]
+    fn case_10_a_bent_function() {
+        let f = bent_function(4, &[0, 1, 2, 3], &[0; 4], 16).unwrap();
+        assert_eq!(f, [0, 0, 0, 0, 0, 1, 0, 1, 0, 0, 1, 1, 0, 1, 1, 0]);
+        let rows: Vec<u16> = f.iter().map(|&v| u16::from(v)).collect();
+        assert_eq!(nonlinearity(4, 1, &rows, 4).unwrap()[0], 6);
+        assert!(spectrum(4, &f, 16).unwrap().iter().all(|v| v.abs() == 4));
+    }
+
+    #[test]
+    fn the_bounds_document_01_names() {
+        assert_eq!(nonlinearity(0, 1, &[0], 4), Err(1));
+        assert_eq!(nonlinearity(9, 1, &[0; 512], 4), Err(1));
+        assert!(enlarge_column(7, &[0; 128], 7, 0, 256).is_ok());
+        assert_eq!(enlarge_column(8, &[0; 256], 7, 0, 512), Err(1));
+        assert_eq!(degree(1, 17, &[0, 0], 1), Err(2));
+        assert!(degree(1, 3, &[0, 7], 1).is_ok());
+        assert_eq!(degree(1, 3, &[0, 8], 1), Err(4));
+        assert!(degree(1, 16, &[0, 65535], 1).is_ok());
+        assert!(enlarge_box(3, &F, &[0; 8], 3, 16).is_ok());
+        assert_eq!(enlarge_box(3, &F, &[0; 8], 4, 16), Err(6));
+        assert_eq!(dynamic_distance(1, 1, &[0, 1], 2, 1, 3), Err(6));
+    }
+
+    #[test]
+    fn the_order_of_checks() {
+        assert_eq!(bent_function(2, &[5, 5], &[0, 2], 4), Err(4));
+        assert_eq!(bent_function(2, &[5, 0], &[0, 1], 9), Err(5));
+        assert_eq!(enlarge_box(2, &[9, 9, 9, 9], &[0; 3], 1, 8), Err(3));
+        assert_eq!(inverse_spectrum(1, &[0, 0], 3), Err(7));
+        assert_eq!(largest_cells(1, 1, &[0, 0], 0, 2), Err(7));
+        assert_eq!(largest_cells(1, 1, &[0, 0], 0, 1), Err(9));
+        assert_eq!(read_box(&[9], 2, 2), Err(10));
+        assert_eq!(read_box(&[9, 0], 2, 2), Err(1));
+        assert_eq!(read_box(&[8, 0], 2, 2), Err(2));
+        assert_eq!(read_box(&[1, 1, 2, 0, 0], 2, 2), Err(10));
+        assert_eq!(read_box(&[1, 1, 2, 0, 0, 0], 1, 2), Err(4));
+        assert_eq!(read_box(&[1, 1, 1, 0, 0, 0], 1, 2), Err(7));
+        assert_eq!(read_box(&[1, 1, 1, 0, 0, 0], 2, 1), Err(7));
+    }
+
+    #[test]
+    fn sums_beyond_32_bits_do_not_pass_for_a_spectrum() {
+        assert_eq!(inverse_spectrum(1, &[2, 0], 2), Ok(vec![0, 0]));
+        assert_eq!(inverse_spectrum(1, &[2 + i32::MIN, i32::MIN], 2), Err(8));
+    }
+
+    #[test]
+    fn the_normal_form_goes_back_by_the_same_rule() {
+        let f = [1, 0, 0, 1, 1, 1, 0, 1];
+        let coefficients = normal_form(3, &f, 8).unwrap();
+        assert_eq!(normal_form(3, &coefficients, 8), Ok(f.to_vec()));
+        assert_eq!(normal_form(2, &[0, 0, 0, 1], 4), Ok(vec![0, 0, 0, 1]));
+        assert_eq!(normal_form(2, &[1, 1, 1, 0], 4), Ok(vec![1, 0, 0, 1]));
+    }
+}
