@@ -1,0 +1,167 @@
+-- Document 01's proved cases, in a single theorem over a table of them, computed over the definitions that the contracts cite.
+use Prim.Native.Nat.{ℕ, _^_}
+use mathlib.Core.Bool.{Bool, true, false, _&&_}
+use mathlib.Core.List.{List, [], _∷_}
+use lib.Count.{ones}
+use lib.Dec.{T, eqb}
+use lib.IntN.{ℤ, pos, negsuc}
+use lib.ListN.{length, drop}
+use Rattle.boolean.specs.Bits.{parity, dot, affine, bit, within}
+use Rattle.boolean.specs.Sums.{sumBelow, one-if, countBelow, xorBelow, listFrom, listBelow, each, every, keep, largestBelow, distinct}
+use Rattle.boolean.specs.Functions.{at, valueAt, agreement, walsh, spectrum, distance, autocorrelation, changes, coefficient, degree, column, component, components, sign, transform, signBit, inverse, sameValues, isSpectrum}
+use Rattle.boolean.specs.Selection.{best, firstLeast, firstLargest, shown}
+use Rattle.refusals.specs.Table.{Reply, figures, refusal, first, boxChecks, replyAfter, contentAfter}
+use Rattle.walsh.specs.Calls.{spectrumChecks, inverseLengths, functionCheck, inverseChecks}
+use Rattle.linear.specs.Nonlinearity.{pairsOf, pairs, nonlinearity, nonlinearityReply}
+use Rattle.differential.specs.XorTable.{difference, cell, cellsOf, cells, largestCell}
+use Rattle.avalanche.specs.Avalanche.{shifts, atMost, measured, boxAutocorrelation, imbalance, dynamicDistance}
+use Rattle.avalanche.specs.Calls.{distanceChecks}
+use Rattle.algebraic.specs.Algebraic.{boxDegree}
+use Rattle.constructions.specs.Enlargement.{enlarged, enlargedTable, enlargedRows}
+use Rattle.constructions.specs.BentForm.{bentForm, bentTable, isPermutation}
+use Rattle.constructions.specs.Calls.{columnChecks, enlargeChecks, bentChecks}
+
+-- what a call says: its reply, or the final content of an array that it was lent
+pub data Outcome : Type 0 where
+  says : Reply → Outcome
+  holds : List ℕ → Outcome
+  holdsSigned : List ℤ → Outcome
+
+infix 4 _is_
+-- a line of the table: what is asked, and what the document prints
+pub data Case : Type 0 where
+  _is_ : Outcome → Outcome → Case
+
+abbrev pub sameList : List ℕ → List ℕ → Bool
+sameList [] [] = true
+sameList [] (y ∷ ys) = false
+sameList (x ∷ xs) [] = false
+sameList (x ∷ xs) (y ∷ ys) = eqb x y && sameList xs ys
+
+abbrev pub sameReply : Reply → Reply → Bool
+sameReply (figures a) (figures b) = sameList a b
+sameReply (figures a) (refusal n) = false
+sameReply (refusal m) (figures b) = false
+sameReply (refusal m) (refusal n) = eqb m n
+
+abbrev pub same : Outcome → Outcome → Bool
+same (says a) (says b) = sameReply a b
+same (says a) (holds b) = false
+same (says a) (holdsSigned b) = false
+same (holds a) (says b) = false
+same (holds a) (holds b) = sameList a b
+same (holds a) (holdsSigned b) = false
+same (holdsSigned a) (says b) = false
+same (holdsSigned a) (holds b) = false
+same (holdsSigned a) (holdsSigned b) = sameValues a b
+
+abbrev pub right : List Case → Bool
+right [] = true
+right ((a is b) ∷ cs) = same a b && right cs
+
+-- the replies and contents of the calls, as their contracts have them
+abbrev pub nonlinearityOf : ℕ → ℕ → List ℕ → Outcome
+nonlinearityOf n m rows = says (nonlinearityReply n m rows)
+
+abbrev pub distanceOf : ℕ → ℕ → List ℕ → ℕ → ℕ → Outcome
+distanceOf n m rows i j = says (replyAfter (first (distanceChecks n m rows i j)) (dynamicDistance n m rows i j .figure ∷ []))
+
+abbrev pub degreeOf : ℕ → ℕ → List ℕ → Outcome
+degreeOf n m rows = says (replyAfter (first (boxChecks n m rows)) (boxDegree n m rows ∷ []))
+
+abbrev pub cellOf : ℕ → ℕ → List ℕ → Outcome
+cellOf n m rows = says (replyAfter (first (boxChecks n m rows)) (shown (largestCell n m rows)))
+
+abbrev pub autocorrelationOf : ℕ → ℕ → List ℕ → Outcome
+autocorrelationOf n m rows = says (replyAfter (first (boxChecks n m rows)) (shown (boxAutocorrelation n m rows)))
+
+abbrev pub spectrumOf : ℕ → List ℕ → List ℤ → Outcome
+spectrumOf n table old = holdsSigned (contentAfter (first (spectrumChecks n table (length old))) (spectrum n (at table)) old)
+
+abbrev pub inverseReply : ℕ → List ℤ → List ℕ → Outcome
+inverseReply n values old = says (replyAfter (first (inverseChecks n values (length old))) [])
+
+abbrev pub inverseOf : ℕ → List ℤ → List ℕ → Outcome
+inverseOf n values old = holds (contentAfter (first (inverseChecks n values (length old))) (listBelow (2 ^ n) (λ x. inverse n (valueAt values) x)) old)
+
+abbrev pub columnOf : ℕ → List ℕ → ℕ → ℕ → List ℕ → List ℕ
+columnOf n table k a old = contentAfter (first (columnChecks n table k a (length old))) (enlargedTable n table k a) old
+
+abbrev pub columnReply : ℕ → List ℕ → ℕ → ℕ → List ℕ → Outcome
+columnReply n table k a old = says (replyAfter (first (columnChecks n table k a (length old))) [])
+
+abbrev pub boxOf : ℕ → List ℕ → List ℕ → ℕ → List ℕ → List ℕ
+boxOf n rows table k old = contentAfter (first (enlargeChecks n rows table k (length old))) (enlargedRows n rows table k) old
+
+abbrev pub bentOf : ℕ → List ℕ → List ℕ → List ℕ → List ℕ
+bentOf n permutation table old = contentAfter (first (bentChecks n permutation table (length old))) (bentTable n permutation table) old
+
+-- what stands in an array before a call
+abbrev pub sixteen : List ℕ
+sixteen = 9 ∷ 9 ∷ 9 ∷ 9 ∷ 9 ∷ 9 ∷ 9 ∷ 9 ∷ 9 ∷ 9 ∷ 9 ∷ 9 ∷ 9 ∷ 9 ∷ 9 ∷ 9 ∷ []
+
+-- the boxes and functions of cases 8, 9 and 10
+abbrev pub case8 : List ℕ
+case8 = 1 ∷ 1 ∷ 0 ∷ 0 ∷ 0 ∷ 1 ∷ 0 ∷ 1 ∷ []
+
+abbrev pub case9 : List ℕ
+case9 = boxOf 3 (3 ∷ 1 ∷ 4 ∷ 0 ∷ 2 ∷ 5 ∷ 6 ∷ 7 ∷ []) (1 ∷ 0 ∷ 0 ∷ 0 ∷ 1 ∷ 1 ∷ 0 ∷ 1 ∷ []) 1 sixteen
+
+abbrev pub case10 : List ℕ
+case10 = bentOf 4 (0 ∷ 1 ∷ 2 ∷ 3 ∷ []) (0 ∷ 0 ∷ 0 ∷ 0 ∷ []) sixteen
+
+abbrev pub cases : List Case
+cases =
+    -- 1
+    (nonlinearityOf 1 1 (0 ∷ 1 ∷ []) is says (figures (0 ∷ 1 ∷ 1 ∷ 0 ∷ [])))
+    ∷ (distanceOf 1 1 (0 ∷ 1 ∷ []) 1 1 is says (figures (1 ∷ [])))
+    ∷ (degreeOf 1 1 (0 ∷ 1 ∷ []) is says (figures (1 ∷ [])))
+    -- 2
+    ∷ (nonlinearityOf 1 1 (0 ∷ 0 ∷ []) is says (figures (0 ∷ 1 ∷ 0 ∷ 0 ∷ [])))
+    ∷ (degreeOf 1 1 (0 ∷ 0 ∷ []) is says (figures (0 ∷ [])))
+    -- 3
+    ∷ (spectrumOf 2 (0 ∷ 0 ∷ 0 ∷ 1 ∷ []) (pos 0 ∷ pos 0 ∷ pos 0 ∷ pos 0 ∷ []) is holdsSigned (pos 2 ∷ pos 2 ∷ pos 2 ∷ negsuc 1 ∷ []))
+    ∷ (nonlinearityOf 2 1 (0 ∷ 0 ∷ 0 ∷ 1 ∷ []) is says (figures (1 ∷ 1 ∷ 0 ∷ 0 ∷ [])))
+    ∷ (distanceOf 2 1 (0 ∷ 0 ∷ 0 ∷ 1 ∷ []) 1 2 is says (figures (0 ∷ [])))
+    -- 4
+    ∷ (inverseOf 2 (pos 2 ∷ pos 2 ∷ pos 2 ∷ negsuc 1 ∷ []) (9 ∷ 9 ∷ 9 ∷ 9 ∷ []) is holds (0 ∷ 0 ∷ 0 ∷ 1 ∷ []))
+    -- 5
+    ∷ (inverseReply 2 (pos 2 ∷ pos 2 ∷ pos 2 ∷ pos 2 ∷ []) (9 ∷ 9 ∷ 9 ∷ 9 ∷ []) is says (refusal 8))
+    ∷ (inverseOf 2 (pos 2 ∷ pos 2 ∷ pos 2 ∷ pos 2 ∷ []) (9 ∷ 9 ∷ 9 ∷ 9 ∷ []) is holds (9 ∷ 9 ∷ 9 ∷ 9 ∷ []))
+    -- 6
+    ∷ (inverseReply 1 (pos 0 ∷ pos 0 ∷ []) (9 ∷ 9 ∷ []) is says (refusal 8))
+    -- 7
+    ∷ (nonlinearityOf 2 2 (0 ∷ 1 ∷ 2 ∷ 3 ∷ []) is says (figures (0 ∷ 1 ∷ 1 ∷ 0 ∷ [])))
+    ∷ (cellOf 2 2 (0 ∷ 1 ∷ 2 ∷ 3 ∷ []) is says (figures (4 ∷ 1 ∷ 1 ∷ [])))
+    ∷ (autocorrelationOf 2 2 (0 ∷ 1 ∷ 2 ∷ 3 ∷ []) is says (figures (4 ∷ 1 ∷ 1 ∷ [])))
+    -- 8: the upper half
+    ∷ (holds (drop 8 (columnOf 3 case8 1 1 sixteen)) is holds (0 ∷ 0 ∷ 1 ∷ 1 ∷ 0 ∷ 1 ∷ 0 ∷ 1 ∷ []))
+    -- 9
+    ∷ (holds case9 is holds (11 ∷ 1 ∷ 4 ∷ 0 ∷ 10 ∷ 13 ∷ 6 ∷ 15 ∷ 9 ∷ 3 ∷ 8 ∷ 12 ∷ 5 ∷ 2 ∷ 7 ∷ 14 ∷ []))
+    ∷ (nonlinearityOf 4 4 (11 ∷ 1 ∷ 4 ∷ 0 ∷ 10 ∷ 13 ∷ 6 ∷ 15 ∷ 9 ∷ 3 ∷ 8 ∷ 12 ∷ 5 ∷ 2 ∷ 7 ∷ 14 ∷ []) is says (figures (0 ∷ 7 ∷ 15 ∷ 0 ∷ [])))
+    -- 10
+    ∷ (holds case10 is holds (0 ∷ 0 ∷ 0 ∷ 0 ∷ 0 ∷ 1 ∷ 0 ∷ 1 ∷ 0 ∷ 0 ∷ 1 ∷ 1 ∷ 0 ∷ 1 ∷ 1 ∷ 0 ∷ []))
+    ∷ (nonlinearityOf 4 1 (0 ∷ 0 ∷ 0 ∷ 0 ∷ 0 ∷ 1 ∷ 0 ∷ 1 ∷ 0 ∷ 0 ∷ 1 ∷ 1 ∷ 0 ∷ 1 ∷ 1 ∷ 0 ∷ []) is says (figures (6 ∷ 1 ∷ 0 ∷ 0 ∷ [])))
+    ∷ []
+
+-- each bound from both sides
+abbrev pub bounds : List Case
+bounds =
+    (nonlinearityOf 0 1 (0 ∷ []) is says (refusal 1))
+    ∷ (nonlinearityOf 9 17 [] is says (refusal 1))
+    ∷ (nonlinearityOf 8 17 [] is says (refusal 2))
+    ∷ (nonlinearityOf 8 16 [] is says (refusal 3))
+    ∷ (nonlinearityOf 1 3 (7 ∷ 7 ∷ []) is says (figures (0 ∷ 1 ∷ 0 ∷ 1 ∷ [])))
+    ∷ (nonlinearityOf 1 3 (7 ∷ 8 ∷ []) is says (refusal 4))
+    ∷ (distanceOf 1 1 (0 ∷ 1 ∷ []) 2 1 is says (refusal 6))
+    ∷ (columnReply 8 [] 1 0 [] is says (refusal 1))
+    ∷ (columnReply 7 [] 1 0 [] is says (refusal 3))
+    ∷ (columnReply 3 case8 3 1 sixteen is says (figures []))
+    ∷ (columnReply 3 case8 4 1 sixteen is says (refusal 6))
+    ∷ (columnReply 3 case8 3 2 sixteen is says (refusal 6))
+    ∷ (columnReply 3 case8 3 1 case8 is says (refusal 7))
+    ∷ []
+
+pub worked : T (right cases && right bounds)
+unfolding parity dot affine bit within ones sumBelow one-if countBelow xorBelow listFrom listBelow each every keep largestBelow distinct agreement walsh spectrum distance autocorrelation changes coefficient degree column component components sign transform signBit inverse isSpectrum best firstLeast firstLargest first spectrumChecks inverseLengths functionCheck inverseChecks pairsOf pairs nonlinearity difference cell cellsOf cells largestCell shifts atMost measured boxAutocorrelation imbalance dynamicDistance distanceChecks boxDegree enlarged enlargedTable enlargedRows bentForm bentTable isPermutation columnChecks enlargeChecks bentChecks
+worked = tt

@@ -1,0 +1,245 @@
+-- The Maiorana-McFarland form is bent, so its nonlinearity is 2^(n − 1) − 2^(n / 2 − 1); and no function is bent at odd n.
+use mathlib.Core.Path.{_≡_, sym, ap, ap₂, _∙_, subst}
+use mathlib.Core.Logic.{_⊎_}
+use mathlib.Core.Bool.{true}
+use mathlib.Core.List.{List}
+use Prim.Native.Nat.{ℕ, zero, suc, _+_, _*_, _-_, _/_, _%_, _^_, _<_, _≤_, zero-le}
+use native.Mathlib.Nat.{le-of-eq, le-refl, le-suc, le-trans, mod-add-mod, mod-lt, mul-le-mul, mul-one, mul-zero, suc-mul, two-pow-succ, zero-mul}
+use native.Mathlib.Omega.{arith}
+use native.Mathlib.Decide.{ℕ-discrete}
+use borrow.Author.Tests.{ltb-true}
+use lib.Arith.{lt-one}
+use lib.Bits.{bitAnd, bitXor, xor-lt}
+use lib.Count.{ones}
+use lib.Dec.{eqb, eqb→eq, ltb}
+use lib.IntN.{ℤ, pos, _+ℤ_, _*ℤ_, negℤ, natAbs, +ℤ-invr}
+use lib.ListN.{length}
+use lib.Pow.{high, low, pow-add, pow-pos, shr-lt, split}
+use Rattle.boolean.specs.Bits.{parity, dot}
+use Rattle.boolean.specs.Functions.{Bent, Boolean, at, component, sameValue, sign, square, transform, walsh}
+use Rattle.boolean.specs.Sums.{distinct, sumBelow}
+use Rattle.boolean.proofs.Bent.{bent-of-squares}
+use Rattle.boolean.proofs.Cases.{all2, all5, same-value}
+use Rattle.boolean.proofs.Columns.{component-column}
+use Rattle.boolean.proofs.Counts.{even-is-square, pow-square}
+use Rattle.boolean.proofs.Distinct.{distinct-at}
+use Rattle.boolean.proofs.Dots.{dot-bit, dot-block, dot-xor}
+use Rattle.boolean.proofs.Every.{both, every-at}
+use Rattle.boolean.proofs.Lists.{getD-listBelow}
+use Rattle.boolean.proofs.Sizes.{abs-add, sum-bound, transform-bound}
+use Rattle.boolean.proofs.Sums.{sum-cong, sum-split}
+use Rattle.boolean.proofs.Transform.{half-cases, transform-high, transform-low}
+use Rattle.boolean.proofs.Walsh.{walsh-cong, walsh-transform}
+use Rattle.boolean.proofs.Xor.{xor-cancel}
+use Rattle.refusals.specs.Table.{allBelow}
+use Rattle.linear.specs.Nonlinearity.{nonlinearity}
+use Rattle.linear.proofs.Theorems.{covering, tight}
+use Rattle.constructions.specs.BentForm.{bentForm, bentTable, isPermutation}
+use Rattle.constructions.proofs.Avalanche.{table-column}
+
+-- ---- sums
+-- over a × b numbers, block by block
+pub sum-blocks : (a b : ℕ) (F : ℕ → ℤ) → sumBelow (a * b) F ≡ sumBelow a (λ x. sumBelow b (λ y. F (x * b + y)))
+unfolding sumBelow
+sum-blocks zero b F = ap (λ (z : ℕ). sumBelow z F) (zero-mul b)
+sum-blocks (suc a) b F =
+    ap (λ (z : ℕ). sumBelow z F) (suc-mul a b) ∙ sum-split (a * b) b F ∙ ap (λ (z : ℤ). z +ℤ sumBelow b (λ y. F (a * b + y))) (sum-blocks a b F)
+
+-- where at most one term is not 0, the sum is no larger than the terms
+pub single-bound : (k M v : ℕ) (key : ℕ → ℕ) (F : ℕ → ℤ)
+    → ((x : ℕ) → x < k → natAbs (F x) ≤ M)
+    → ((x : ℕ) → x < k → (key x ≡ v → ⊥) → natAbs (F x) ≤ 0)
+    → ((x y : ℕ) → x < y → y < k → key x ≡ key y → ⊥)
+    → natAbs (sumBelow k F) ≤ M
+unfolding sumBelow
+single-bound zero M v key F b z d = zero-le
+single-bound (suc k) M v key F b z d =
+    pick (single-bound k M v key F (λ x l. b x (le-trans l (le-suc k))) (λ x l. z x (le-trans l (le-suc k))) (λ x y l m. d x y l (le-trans m (le-suc k)))) (ℕ-discrete (key k) v)
+  where
+    pick : natAbs (sumBelow k F) ≤ M → Dec (key k ≡ v) → natAbs (sumBelow k F +ℤ F k) ≤ M
+    pick rec (yes q) =
+        let none = sum-bound k 0 F (λ x l. z x (le-trans l (le-suc k)) (λ p. d x k l (le-refl (suc k)) (p ∙ sym q))) in
+        omega (arith, none, mul-zero k, abs-add (sumBelow k F) (F k), b k (le-refl (suc k)))
+    pick rec (no q) = omega (arith, rec, abs-add (sumBelow k F) (F k), z k (le-refl (suc k)) q)
+
+-- the signs of w·x cancel over all x, unless w is 0
+pub signs-cancel : (n : ℕ) (c : ℤ) (w : ℕ) → w < 2 ^ n → (w ≡ 0 → ⊥) → transform n (λ x. c) w ≡ pos 0
+signs-cancel zero c w l g = absurd (g (lt-one l))
+signs-cancel (suc n) c w l g = half-cases n (λ w. (w ≡ 0 → ⊥) → transform (suc n) (λ x. c) w ≡ pos 0)
+    (λ w l g. transform-low n (λ x. c) w l ∙ ap (λ (z : ℤ). z +ℤ z) (signs-cancel n c w l g))
+    (λ w l g. transform-high n (λ x. c) w l ∙ +ℤ-invr (transform n (λ x. c) w)) w l g
+
+-- a sign has size 1
+sign-small : (b : ℕ) → natAbs (sign b) ≤ 1
+unfolding sign
+sign-small zero = le-refl 1
+sign-small (suc b) = le-refl 1
+
+-- ---- the inner product of two numbers of two parts
+bits-add : (a b : ℕ) → a < 2 → b < 2 → (a + b) % 2 ≡ bitXor a b
+bits-add a b ha hb = eqb→eq ((a + b) % 2) (bitXor a b) (all2 (λ a b. eqb ((a + b) % 2) (bitXor a b)) tt a b ha hb)
+
+-- the XOR of the inner products of the parts
+pub dot-parts : (h u x v y : ℕ) → v < 2 ^ h → y < 2 ^ h → dot (u * 2 ^ h + v) (x * 2 ^ h + y) ≡ bitXor (dot u x) (dot v y)
+unfolding dot parity
+dot-parts h u x v y hv hy = dot-block h u x v y hv hy ∙ sym (mod-add-mod (ones (bitAnd u x)) 2 (dot v y)) ∙ bits-add (dot u x) (dot v y) (dot-bit u x) (dot-bit v y)
+
+-- the signs of four bits, two and two, grouped another way
+signs-regroup : (A B P G : ℕ) → A < 2 → B < 2 → P < 2 → G < 2 → sign (bitXor A B) *ℤ sign (bitXor P G) ≡ sign (bitXor P B) *ℤ sign (bitXor A G)
+unfolding sign
+signs-regroup A B P G hA hB hP hG = same-value (sign (bitXor A B) *ℤ sign (bitXor P G)) (sign (bitXor P B) *ℤ sign (bitXor A G))
+    (all5 (λ A B P G z. sameValue (sign (bitXor A B) *ℤ sign (bitXor P G)) (sign (bitXor P B) *ℤ sign (bitXor A G))) tt A B P G 0 hA hB hP hG (omega arith))
+
+-- ---- the form
+module _ (h : ℕ) (permutation table : List ℕ) where
+  -- its value at input x × 2^h + y
+  pub bent-form-at : (x y : ℕ) → y < 2 ^ h → bentForm h permutation table (x * 2 ^ h + y) ≡ bitXor (dot (at permutation x) y) (at table x)
+  unfolding bentForm
+  bent-form-at x y l = ap₂ (λ (q r : ℕ). bitXor (dot (at permutation q) r) (at table q)) (high x h l) (low x h l)
+
+  -- the table's entries
+  pub at-bent-table : (z : ℕ) → z < 2 ^ (h + h) → at (bentTable (h + h) permutation table) z ≡ bentForm h permutation table z
+  unfolding bentTable
+  at-bent-table z l =
+      let half : (h + h) / 2 ≡ h = omega arith in
+      getD-listBelow (2 ^ (h + h)) (λ z. bentForm ((h + h) / 2) permutation table z) z 0 l ∙ ap (λ (i : ℕ). bentForm i permutation table z) half
+
+  module _ (size : length permutation ≡ 2 ^ h) (p : isPermutation (2 ^ h) permutation ≡ true) (bits : Boolean h (at table)) where
+    -- what the test of a permutation says
+    tests : (allBelow (2 ^ h) permutation ≡ true) × (distinct permutation ≡ true)
+    unfolding isPermutation
+    tests = both (allBelow (2 ^ h) permutation) (distinct permutation) p
+
+    -- its entries are below 2^h
+    entry-lt : (x : ℕ) → x < 2 ^ h → at permutation x < 2 ^ h
+    entry-lt x l = ltb-true (at permutation x) (2 ^ h) (every-at (λ v. ltb v (2 ^ h)) 0 permutation (tests .0) x (omega arith))
+
+    -- and no two are equal
+    entries-differ : (x y : ℕ) → x < y → y < 2 ^ h → at permutation x ≡ at permutation y → ⊥
+    entries-differ x y l m = distinct-at permutation (tests .1) x y l (omega arith)
+
+    -- the upper half of an input's bits is below 2^h
+    outer : (z : ℕ) → z < 2 ^ (h + h) → z / 2 ^ h < 2 ^ h
+    outer z l = shr-lt h h l
+
+    -- its values are bits
+    pub bent-form-boolean : Boolean (h + h) (bentForm h permutation table)
+    unfolding bentForm
+    bent-form-boolean z l = xor-lt 1 (dot (at permutation (z / 2 ^ h)) (z % 2 ^ h)) (at table (z / 2 ^ h)) (dot-bit (at permutation (z / 2 ^ h)) (z % 2 ^ h)) (bits (z / 2 ^ h) (outer z l))
+
+    -- so are the table's entries
+    pub bent-table-boolean : Boolean (h + h) (at (bentTable (h + h) permutation table))
+    bent-table-boolean z l = subst (λ (v : ℕ). v < 2) (sym (at-bent-table z l)) (bent-form-boolean z l)
+
+    -- the part of a spectrum value that one x gives
+    part : (u v x : ℕ) → ℤ
+    part u v x = transform h (λ y. sign (bitXor (dot u x) (at table x))) (bitXor (at permutation x) v)
+
+    -- the terms of one x make its part
+    block : (u v : ℕ) → v < 2 ^ h → (x : ℕ) → x < 2 ^ h
+        → sumBelow (2 ^ h) (λ y. sign (dot (u * 2 ^ h + v) (x * 2 ^ h + y)) *ℤ sign (bentForm h permutation table (x * 2 ^ h + y))) ≡ part u v x
+    unfolding part transform
+    block u v hv x l = sum-cong (2 ^ h) _ _ (λ y m.
+        ap₂ (λ (a b : ℕ). sign a *ℤ sign b) (dot-parts h u x v y hv m) (bent-form-at x y m)
+        ∙ signs-regroup (dot u x) (dot v y) (dot (at permutation x) y) (at table x) (dot-bit u x) (dot-bit v y) (dot-bit (at permutation x) y) (bits x l)
+        ∙ ap (λ (b : ℕ). sign b *ℤ sign (bitXor (dot u x) (at table x))) (sym (dot-xor (at permutation x) v y)))
+
+    -- a spectrum value is the sum of the parts
+    in-parts : (u v : ℕ) → v < 2 ^ h → walsh (h + h) (bentForm h permutation table) (u * 2 ^ h + v) ≡ sumBelow (2 ^ h) (λ x. part u v x)
+    unfolding transform
+    in-parts u v hv =
+        let F : ℕ → ℤ = λ z. sign (dot (u * 2 ^ h + v) z) *ℤ sign (bentForm h permutation table z) in
+        walsh-transform (h + h) (bentForm h permutation table) (u * 2 ^ h + v) bent-form-boolean
+        ∙ ap (λ (k : ℕ). sumBelow k F) (pow-add 2 h h) ∙ sum-blocks (2 ^ h) (2 ^ h) F ∙ sum-cong (2 ^ h) _ _ (λ x l. block u v hv x l)
+
+    -- only the x at which the permutation gives v has a part that is not 0, so the sum is at most 2^h in size
+    parts-small : (u v : ℕ) → v < 2 ^ h → natAbs (sumBelow (2 ^ h) (λ x. part u v x)) ≤ 2 ^ h
+    unfolding part
+    parts-small u v hv = single-bound (2 ^ h) (2 ^ h) v (at permutation) (λ x. part u v x)
+        (λ x l. le-trans (transform-bound h 1 (λ y. sign (bitXor (dot u x) (at table x))) (bitXor (at permutation x) v) (λ y m. sign-small (bitXor (dot u x) (at table x)))) (le-of-eq (mul-one (2 ^ h))))
+        (λ x l g. le-of-eq (ap natAbs (signs-cancel h (sign (bitXor (dot u x) (at table x))) (bitXor (at permutation x) v) (xor-lt h (at permutation x) v (entry-lt x l) hv)
+        (λ q. g (sym (xor-cancel (at permutation x) v) ∙ ap (λ (z : ℕ). bitXor z v) q)))))
+        entries-differ
+
+    -- so is every spectrum value
+    walsh-small : (w : ℕ) → natAbs (walsh (h + h) (bentForm h permutation table) w) ≤ 2 ^ h
+    walsh-small w =
+        let l : w % 2 ^ h < 2 ^ h = mod-lt w (pow-pos h) in
+        subst (λ (z : ℤ). natAbs z ≤ 2 ^ h) (sym (in-parts (w / 2 ^ h) (w % 2 ^ h) l) ∙ ap (walsh (h + h) (bentForm h permutation table)) (split w h))
+        (parts-small (w / 2 ^ h) (w % 2 ^ h) l)
+
+    -- the form is bent
+    pub bent-table-bent : Bent (h + h) (at (bentTable (h + h) permutation table))
+    unfolding square
+    bent-table-bent = bent-of-squares (h + h) (at (bentTable (h + h) permutation table)) bent-table-boolean (λ w l.
+        let s : natAbs (walsh (h + h) (at (bentTable (h + h) permutation table)) w) ≤ 2 ^ h =
+        subst (λ (z : ℤ). natAbs z ≤ 2 ^ h) (sym (walsh-cong (h + h) _ _ w at-bent-table)) (walsh-small w) in
+        le-trans (mul-le-mul s s) (le-of-eq (even-is-square h)))
+
+    -- every value of its spectrum is 2^h or −2^h
+    pub bent-table-flat : (w : ℕ) → w < 2 ^ (h + h)
+        → (walsh (h + h) (at (bentTable (h + h) permutation table)) w ≡ pos (2 ^ h)) ⊎ (walsh (h + h) (at (bentTable (h + h) permutation table)) w ≡ negℤ (pos (2 ^ h)))
+    bent-table-flat w l =
+        let same : bent-table-bent .half ≡ h = omega (arith, bent-table-bent .even) in
+        subst (λ (i : ℕ). (walsh (h + h) (at (bentTable (h + h) permutation table)) w ≡ pos (2 ^ i)) ⊎ (walsh (h + h) (at (bentTable (h + h) permutation table)) w ≡ negℤ (pos (2 ^ i))))
+        same (bent-table-bent .flat w l)
+
+-- ---- the nonlinearity of a bent table
+component-one : (table : List ℕ) (x : ℕ) → at table x < 2 → at table x ≡ component table 1 x
+component-one table x b = sym (component-column table 1 x ∙ table-column table x b)
+
+module _ (h : ℕ) (table : List ℕ) (lo : 1 ≤ h) (bits : Boolean (h + h) (at table)) (b : Bent (h + h) (at table)) where
+  -- its one component is bent
+  component-bent : Bent (h + h) (component table 1)
+  component-bent = record {
+    half = b .half;
+    even = b .even;
+    flat = λ w l.
+        subst (λ (z : ℤ). (z ≡ pos (2 ^ b .half)) ⊎ (z ≡ negℤ (pos (2 ^ b .half))))
+        (walsh-cong (h + h) (at table) (component table 1) w (λ x m. component-one table x (bits x m))) (b .flat w l);
+  }
+
+  -- its nonlinearity is 2^(n − 1) − 2^(n / 2 − 1)
+  pub bent-nonlinearity : nonlinearity (h + h) 1 table .figure ≡ 2 ^ (h + h - 1) - 2 ^ (h - 1)
+  bent-nonlinearity =
+      let met = tight (h + h) 1 table (le-refl 1) .1
+      (λ c l m. let one : 1 ≡ c = omega arith in subst (λ (c : ℕ). Bent (h + h) (component table c)) one component-bent) in
+      let t = pow-square (h + h) (2 ^ (h + h) - 2 * nonlinearity (h + h) 1 table .figure) met in
+      let same : t .0 ≡ h = omega (arith, t .1) in
+      let left : 2 ^ (h + h) - 2 * nonlinearity (h + h) 1 table .figure ≡ 2 ^ h = t .2 ∙ ap (λ (i : ℕ). 2 ^ i) same in
+      let whole : h + h ≡ suc (h + h - 1) = omega arith in
+      let part : h ≡ suc (h - 1) = omega arith in
+      let twice-whole : 2 ^ (h + h) ≡ 2 ^ (h + h - 1) + 2 ^ (h + h - 1) = ap (λ (i : ℕ). 2 ^ i) whole ∙ two-pow-succ (h + h - 1) in
+      let twice-part : 2 ^ h ≡ 2 ^ (h - 1) + 2 ^ (h - 1) = ap (λ (i : ℕ). 2 ^ i) part ∙ two-pow-succ (h - 1) in
+      omega (arith, covering (h + h) 1 table (le-refl 1) .0)
+
+-- so of the form
+pub bent-table-nonlinearity : (h : ℕ) (permutation table : List ℕ) → length permutation ≡ 2 ^ h → isPermutation (2 ^ h) permutation ≡ true → Boolean h (at table) → 1 ≤ h
+    → nonlinearity (h + h) 1 (bentTable (h + h) permutation table) .figure ≡ 2 ^ (h + h - 1) - 2 ^ (h - 1)
+bent-table-nonlinearity h permutation table size p bits lo =
+    bent-nonlinearity h (bentTable (h + h) permutation table) lo (bent-table-boolean h permutation table size p bits) (bent-table-bent h permutation table size p bits)
+
+-- the same by n, as the call takes it
+module _ (n : ℕ) (permutation table : List ℕ) (even : n % 2 ≡ 0) (size : length permutation ≡ 2 ^ (n / 2)) (p : isPermutation (2 ^ (n / 2)) permutation ≡ true) (bits : Boolean (n / 2) (at table)) where
+  -- an even n is twice its half
+  halves : n / 2 + n / 2 ≡ n
+  halves = omega arith
+
+  -- the form is bent
+  pub even-table-bent : Bent n (at (bentTable n permutation table))
+  even-table-bent = subst (λ (i : ℕ). Bent i (at (bentTable i permutation table))) halves (bent-table-bent (n / 2) permutation table size p bits)
+
+  -- and its nonlinearity is that of a bent function
+  pub even-table-nonlinearity : 2 ≤ n → nonlinearity n 1 (bentTable n permutation table) .figure ≡ 2 ^ (n - 1) - 2 ^ (n / 2 - 1)
+  even-table-nonlinearity lo =
+      subst (λ (i : ℕ). nonlinearity i 1 (bentTable i permutation table) .figure ≡ 2 ^ (i - 1) - 2 ^ (n / 2 - 1)) halves
+      (bent-table-nonlinearity (n / 2) permutation table size p bits (omega arith))
+
+-- ---- odd n
+-- no function is bent
+pub odd-not-bent : (n : ℕ) (f : ℕ → ℕ) → n % 2 ≡ 1 → Bent n f → ⊥
+odd-not-bent n f o b = omega (arith, b .even)
+
+-- and the spectrum of each has a value whose square is over 2^n
+pub odd-not-flat : (n : ℕ) (f : ℕ → ℕ) → n % 2 ≡ 1 → Boolean n f → ((w : ℕ) → w < 2 ^ n → square (walsh n f w) ≤ 2 ^ n) → ⊥
+odd-not-flat n f o bits s = odd-not-bent n f o (bent-of-squares n f bits s)

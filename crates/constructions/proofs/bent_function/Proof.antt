@@ -1,0 +1,57 @@
+-- `constructions::bent_function` meets its contract: what the checks found says which case it is, in the answer and in the array. Assumes nothing.
+use mathlib.Core.Path.{_≡_, sym, _∙_}
+use mathlib.Core.List.{[]}
+use borrow.Author.Needs.{needs}
+use lib.ListN.{length}
+use Rattle.refusals.specs.Table.{first}
+use Rattle.refusals.specs.declared.Checked.the-variants.{Accepted}
+use Rattle.refusals.proofs.Checks.{reply-refused, reply-accepted, content-refused, content-accepted}
+use Rattle.constructions.specs.Calls.{bentChecks}
+use Rattle.constructions.proofs.Accepted.{bent-accepts}
+use Rattle.constructions.proofs.bent_function.Statement.{statement}
+use Rattle.constructions.proofs.bent_function.Tie as tie
+
+check-bent-requires : tie.Need-check-bent-requires
+check-bent-requires c κs = search needs
+
+enum-known-e : tie.Need-enum-known-e
+enum-known-e c = search needs
+
+returns : tie.Need-returns
+returns c =
+    let h = sym (c .before .before .before .check-bent .ensures) ∙ c .before .e .given .1 in
+    (reply-refused h [], content-refused h _ _)
+
+enum-told : tie.Need-enum-told
+enum-told c = search needs
+
+-- past the `if` the checks found nothing
+accepted : (c : tie.After-enum-told) →
+    let a = c .before .before .before .before .before .before .args in
+    first (bentChecks (a .n) (a .permutation .now) (a .table .now) (length (a .out .now))) ≡ Accepted
+accepted c = sym (c .before .before .check-bent .ensures) ∙ c .enum-told .given .1
+
+write-bent-requires : tie.Need-write-bent-requires
+write-bent-requires c κs =
+    let a = c .before .before .before .before .before .before .before .args in
+    bent-accepts (a .n) (a .permutation .now) (a .table .now) (length (a .out .now)) (accepted (c .before))
+
+same-length : tie.Need-same-length
+same-length c = search needs
+
+returns-2 : tie.Need-returns-2
+returns-2 c =
+    let h = accepted (c .before .before .before .before) in
+    (reply-accepted h [], c .before .before .write-bent .ensures ∙ content-accepted h _ _)
+
+pub bent-function-spec : {M : Type 1} → statement M
+bent-function-spec =
+    tie.close
+    (tie.spec
+    check-bent-requires
+    enum-known-e
+    returns
+    enum-told
+    write-bent-requires
+    same-length
+    returns-2)

@@ -1,0 +1,45 @@
+-- `constructions::column_at` meets its contract: the value at the source, to which the upper half adds the constant. Assumes nothing.
+use Prim.Native.Nat.{ℕ}
+use mathlib.Core.Path.{ap, _∙_}
+use native.Mathlib.Omega.{arith}
+use borrow.Author.Needs.{needs}
+use lib.Bits.{bitXor}
+use Rattle.boolean.specs.Functions.{at}
+use Rattle.constructions.proofs.Enlarging.{enlarged-lower, enlarged-upper}
+use Rattle.constructions.proofs.column_at.Statement.{statement}
+use Rattle.constructions.proofs.column_at.Tie as tie
+
+source-requires : tie.Need-source-requires
+source-requires c κs = search needs
+
+shared-slice-read-value : tie.Need-shared-slice-read-value
+shared-slice-read-value c = search needs
+
+power-of-two-requires : tie.Need-power-of-two-requires
+power-of-two-requires c κs = search needs
+
+returns : tie.Need-returns
+returns c =
+    let p = c .before .before .before in
+    let a = p .before .before .args in
+    ap (at (a .table .now)) (p .source .ensures .0) ∙ enlarged-lower (a .n) (a .k) (a .x) (at (a .table .now)) (a .a) (omega arith)
+
+cast-result : tie.Need-cast-result
+cast-result c = search needs
+
+returns-2 : tie.Need-returns-2
+returns-2 c =
+    let p = c .before .before .before in
+    let a = p .before .before .args in
+    ap (λ (s : ℕ). bitXor (at (a .table .now) s) (a .a)) (p .source .ensures .0) ∙ enlarged-upper (a .n) (a .k) (a .x) (at (a .table .now)) (a .a) (omega arith)
+
+pub column-at-spec : {M : Type 1} → statement M
+column-at-spec =
+    tie.close
+    (tie.spec
+    source-requires
+    shared-slice-read-value
+    power-of-two-requires
+    returns
+    cast-result
+    returns-2)

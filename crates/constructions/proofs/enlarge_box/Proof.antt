@@ -1,0 +1,57 @@
+-- `constructions::enlarge_box` meets its contract: what the checks found says which case it is, in the answer and in the array. Assumes nothing.
+use mathlib.Core.Path.{_≡_, sym, _∙_}
+use mathlib.Core.List.{[]}
+use borrow.Author.Needs.{needs}
+use lib.ListN.{length}
+use Rattle.refusals.specs.Table.{first}
+use Rattle.refusals.specs.declared.Checked.the-variants.{Accepted}
+use Rattle.refusals.proofs.Checks.{reply-refused, reply-accepted, content-refused, content-accepted}
+use Rattle.constructions.specs.Calls.{enlargeChecks}
+use Rattle.constructions.proofs.Accepted.{box-accepts}
+use Rattle.constructions.proofs.enlarge_box.Statement.{statement}
+use Rattle.constructions.proofs.enlarge_box.Tie as tie
+
+check-enlarge-requires : tie.Need-check-enlarge-requires
+check-enlarge-requires c κs = search needs
+
+enum-known-e : tie.Need-enum-known-e
+enum-known-e c = search needs
+
+returns : tie.Need-returns
+returns c =
+    let h = sym (c .before .before .before .check-enlarge .ensures) ∙ c .before .e .given .1 in
+    (reply-refused h [], content-refused h _ _)
+
+enum-told : tie.Need-enum-told
+enum-told c = search needs
+
+-- past the `if` the checks found nothing
+accepted : (c : tie.After-enum-told) →
+    let a = c .before .before .before .before .before .before .args in
+    first (enlargeChecks (a .n) (a .rows .now) (a .table .now) (a .k) (length (a .out .now))) ≡ Accepted
+accepted c = sym (c .before .before .check-enlarge .ensures) ∙ c .enum-told .given .1
+
+write-box-requires : tie.Need-write-box-requires
+write-box-requires c κs =
+    let a = c .before .before .before .before .before .before .before .args in
+    box-accepts (a .n) (a .rows .now) (a .table .now) (a .k) (length (a .out .now)) (accepted (c .before))
+
+same-length : tie.Need-same-length
+same-length c = search needs
+
+returns-2 : tie.Need-returns-2
+returns-2 c =
+    let h = accepted (c .before .before .before .before) in
+    (reply-accepted h [], c .before .before .write-box .ensures ∙ content-accepted h _ _)
+
+pub enlarge-box-spec : {M : Type 1} → statement M
+enlarge-box-spec =
+    tie.close
+    (tie.spec
+    check-enlarge-requires
+    enum-known-e
+    returns
+    enum-told
+    write-box-requires
+    same-length
+    returns-2)

@@ -1,0 +1,53 @@
+-- `constructions::none_equal` meets its contract: from the index on, the entries have the answer that all of them have. Assumes nothing.
+use mathlib.Core.Path.{ap}
+use mathlib.Core.Bool.{not}
+use Prim.Native.Nat.{_-_}
+use native.Mathlib.Omega.{arith}
+use borrow.Author.Needs.{needs}
+use borrow.Author.Tests.{eq-eqb, ne-eqb}
+use lib.ListN.{length}
+use Rattle.boolean.proofs.Every.{Rest, rest-all, rest-next, rest-fails, rest-none}
+use Rattle.boolean.proofs.Distinct.{unlike}
+use Rattle.constructions.proofs.none_equal.Statement.{statement}
+use Rattle.constructions.proofs.none_equal.Tie as tie
+
+abbrev Inv-loop : tie.InvT-loop
+Inv-loop entries entry y₀ y = Rest (unlike entry) 0 entries y
+
+abbrev μ-loop : tie.MeasureT-loop
+μ-loop entries entry y₀ y = length entries - y
+
+loop-holds : tie.Need-loop-holds Inv-loop μ-loop
+loop-holds c = rest-all _ _ _
+
+shared-slice-read-if1 : tie.Need-shared-slice-read-if1 Inv-loop μ-loop
+shared-slice-read-if1 c = search needs
+
+returns : tie.Need-returns Inv-loop μ-loop
+returns c = rest-fails _ _ (c .before .before .before .loop .inv) (omega arith) (ap not (eq-eqb _ _ (c .if1 .taken)))
+
+add-y : tie.Need-add-y Inv-loop μ-loop
+add-y c = search needs
+
+loop-less : tie.Need-loop-less Inv-loop μ-loop
+loop-less c = search needs
+
+loop-again : tie.Need-loop-again Inv-loop μ-loop
+loop-again c = rest-next _ _ (c .before .before .before .loop .inv) (omega arith) (ap not (ne-eqb _ _ (c .if1 .left)))
+
+returns-2 : tie.Need-returns-2 Inv-loop μ-loop
+returns-2 c = rest-none _ _ (c .before .loop .inv) (omega arith)
+
+pub none-equal-spec : {M : Type 1} → statement M
+none-equal-spec =
+    tie.close
+    (tie.spec
+    Inv-loop
+    μ-loop
+    loop-holds
+    shared-slice-read-if1
+    returns
+    add-y
+    loop-less
+    loop-again
+    returns-2)

@@ -1,0 +1,59 @@
+-- `constructions::write_box` meets its contract: after x turns the first x entries are the rows of the enlarged box. Assumes nothing.
+use Prim.Native.Nat.{suc, _+_, _-_, _*_, _^_}
+use Rattle.boolean.specs.Functions.{at}
+use Rattle.constructions.specs.Enlargement.{enlarged, enlargedRows}
+use native.Mathlib.Omega.{arith}
+use borrow.Author.Needs.{needs}
+use Rattle.boolean.proofs.Filled.{Filled, filled-none, filled-more, filled-whole}
+use Rattle.constructions.proofs.write_box.Statement.{statement}
+use Rattle.constructions.proofs.write_box.Tie as tie
+
+abbrev Inv-loop : tie.InvT-loop
+Inv-loop n rows table k out₀ x₀ out x = Filled 0 (λ y. enlarged n (at rows) k 0 y + enlarged n (at table) k 1 y * 2 ^ n) (2 ^ suc n) x out
+
+abbrev μ-loop : tie.MeasureT-loop
+μ-loop n rows table k out₀ x₀ out x = 2 ^ suc n - x
+
+loop-holds : tie.Need-loop-holds Inv-loop μ-loop
+loop-holds c = filled-none _ _ _ _ (omega arith)
+
+box-row-requires : tie.Need-box-row-requires Inv-loop μ-loop
+box-row-requires c κs = (c .before .before .before .before .before .pre .0, omega (arith, c .before .loop .inv .long))
+
+mul-out : tie.Need-mul-out Inv-loop μ-loop
+mul-out c = search needs
+
+slice-write-out : tie.Need-slice-write-out Inv-loop μ-loop
+slice-write-out c = omega (arith, c .before .before .loop .inv .long)
+
+add-x : tie.Need-add-x Inv-loop μ-loop
+add-x c = search needs
+
+loop-less : tie.Need-loop-less Inv-loop μ-loop
+loop-less c = omega (arith, c .before .before .loop .inv .long)
+
+loop-again : tie.Need-loop-again Inv-loop μ-loop
+loop-again c = filled-more _ _ _ _ _ (c .before .before .loop .inv) (omega (arith, c .before .before .loop .inv .long)) _ (c .box-row .ensures)
+
+same-length : tie.Need-same-length Inv-loop μ-loop
+same-length c = omega (arith, c .before .loop .inv .long)
+
+returns : tie.Need-returns Inv-loop μ-loop
+unfolding enlargedRows
+returns c = filled-whole _ _ _ _ _ (c .before .loop .inv) (omega (arith, c .before .loop .inv .long))
+
+pub write-box-spec : {M : Type 1} → statement M
+write-box-spec =
+    tie.close
+    (tie.spec
+    Inv-loop
+    μ-loop
+    loop-holds
+    box-row-requires
+    mul-out
+    slice-write-out
+    add-x
+    loop-less
+    loop-again
+    same-length
+    returns)

@@ -1,0 +1,3 @@
+pub mod Enlargement
+pub mod BentForm
+pub mod Calls
