@@ -16,12 +16,11 @@ use Rattle.boolean.proofs.Degrees.{length-normal-form, at-normal-form, normal-f
 use Rattle.boolean.proofs.Every.{both}
 use Rattle.boolean.proofs.Largest.{largest-le, le-largest, largest-reached}
 use Rattle.boolean.proofs.NormalForm.{coefficient-boolean}
-use Rattle.refusals.specs.Table.{first, Table}
+use Rattle.refusals.specs.Table.{tableCallChecks, first, Table}
 use Rattle.refusals.specs.declared.Checked.the-variants.{Accepted}
 use Rattle.refusals.proofs.Checks.{found-after, skip, end, table-accepted}
 use Rattle.boolean.specs.Sums.{distinct}
 use Rattle.algebraic.specs.Algebraic.{boxDegree, bijective}
-use Rattle.algebraic.specs.Calls.{normalChecks}
 use Rattle.boolean.proofs.Distinct.{distinct-at, distinct-of}
 use Rattle.algebraic.proofs.Bijections.{bijective-equal}
 
@@ -40,8 +39,8 @@ module _ (n : ℕ) (table : List ℕ) (t : Table n table) where
   form-is-table = record { n-low = t .n-low; n-high = t .n-high; size = length-normal-form n (at table); bits = λ u. bit u (decLt u (2 ^ n)) }
 
   -- so the second call is accepted, where the written array has room for it
-  pub form-accepted : (room : ℕ) → room ≡ 2 ^ n → first (normalChecks n (normalForm n (at table)) room) ≡ Accepted
-  unfolding normalChecks
+  pub form-accepted : (room : ℕ) → room ≡ 2 ^ n → first (tableCallChecks n (normalForm n (at table)) room) ≡ Accepted
+  unfolding tableCallChecks
   form-accepted room e = sym (found-after _ (table-accepted n (normalForm n (at table)) form-is-table) (skip (eq-eqb room (2 ^ n) e) end))
 
 -- ---- the degree of a box

@@ -2,25 +2,28 @@
 use Prim.Native.Nat.{ℕ, _+_, _^_, _≤_, _<_}
 use mathlib.Core.Path.{_≡_}
 use mathlib.Core.Bool.{cond}
-use mathlib.Core.List.{List, [], _∷_, _++_}
+use mathlib.Core.List.{List, [], _∷_}
 use lib.Bits.{bitXor}
 use lib.Count.{ones}
 use lib.Dec.{eqb}
 use lib.ListN.{length}
 use Rattle.boolean.specs.Functions.{at}
-use Rattle.refusals.specs.Table.{Check, _unless_, tableChecks, Reply, figures, refusal, number}
-use Rattle.refusals.specs.declared.Refusal.the-variants.{WrittenLength}
+use Rattle.refusals.specs.Table.{first, boxChecks, Reply, figures, refusal, number, replyAfter, asFigure}
+use Rattle.algebraic.specs.Algebraic.{boxDegree, bijective}
 use Rattle.algebraic.specs.declared.DegreeFound.{DegreeFound}
 use Rattle.algebraic.specs.declared.DegreeFound.the-variants.{Reached, Declined}
-
--- the normal form: a truth table's checks, then the written array
-unfoldable pub normalChecks : ℕ → List ℕ → ℕ → List Check
-normalChecks n table room = tableChecks n table ++ ((WrittenLength unless eqb room (2 ^ n)) ∷ [])
 
 -- what the degree's answer says: the degree, or the number of the refusal
 abbrev pub degreeReply : DegreeFound → Reply
 degreeReply (Reached degree) = figures (degree ∷ [])
 degreeReply (Declined e) = refusal (number e)
+
+-- what the calls on a box reply: their figure, or the number of the refusal
+abbrev pub boxDegreeReply : ℕ → ℕ → List ℕ → Reply
+boxDegreeReply n m rows = replyAfter (first (boxChecks n m rows)) (boxDegree n m rows ∷ [])
+
+abbrev pub bijectiveReply : ℕ → ℕ → List ℕ → Reply
+bijectiveReply n m rows = replyAfter (first (boxChecks n m rows)) (asFigure (bijective n m rows))
 
 -- What the functions behind the calls ask and leave.
 

@@ -5,35 +5,22 @@ use refusals::Verdict;
 use refusals::Written;
 ghost use mathlib.Core.Path.{_≡_};
 ghost use mathlib.Core.Bool.{not};
-ghost use mathlib.Core.List.{[], _∷_};
+ghost use mathlib.Core.List.{[]};
 ghost use Prim.Native.Nat.{_+_, _^_, _≤_, max};
 ghost use lib.Dec.{eqb};
 ghost use lib.ListN.{length};
 ghost use Rattle.boolean.specs.Sums.{largestBelow, every};
 ghost use Rattle.boolean.specs.Functions.{at, column, normalForm};
 ghost use Rattle.boolean.specs.Functions as functions;
-ghost use Rattle.refusals.specs.Table.{first, boxChecks, replyAfter, contentAfter, written, asFigure, verdict};
+ghost use Rattle.refusals.specs.Table.{tableCallChecks, first, replyAfter, contentAfter, written, verdict};
 ghost use Rattle.boolean.specs.Sums.{distinct};
-ghost use Rattle.algebraic.specs.Algebraic.{boxDegree, bijective};
-ghost use Rattle.algebraic.specs.Calls.{normalChecks, degreeReply, onesWhere, Added, Working};
+ghost use Rattle.algebraic.specs.Algebraic.{boxDegree};
+ghost use Rattle.algebraic.specs.Calls.{degreeReply, boxDegreeReply, bijectiveReply, onesWhere, Added, Working};
 
 // The answer of the degree.
 pub enum DegreeFound {
     Reached { degree: u32 },
     Declined(Refusal),
-}
-
-// The checks of the normal form call.
-fn check_normal(n: u32, table: &[u8], room: usize) -> Checked
-    ensures { λ r. ⌜ r ≡ first (normalChecks n (now (table .entry)) room) ⌝ }
-{
-    if let Checked::Refused(e) = refusals::check_table(n, table) {
-        return Checked::Refused(e);
-    }
-    if room != boolean::power_of_two(n) {
-        return Checked::Refused(Refusal::WrittenLength);
-    }
-    Checked::Accepted
 }
 
 // The truth table, copied to the array that the transform works in.
@@ -76,10 +63,10 @@ fn moebius(n: u32, values: &mut [u8])
 
 // The normal form of a truth table. The same call goes back, coefficients being read as truth values.
 pub fn normal_form(n: u32, table: &[u8], out: &mut [u8]) -> Written
-    ensures reply { λ r. ⌜ written r ≡ replyAfter (first (normalChecks n (now (table .entry)) (length (now (out .entry))))) [] ⌝ }
-    ensures content { λ r. ⌜ now (out .exit) ≡ contentAfter (first (normalChecks n (now (table .entry)) (length (now (out .entry))))) (normalForm n (at (now (table .entry)))) (now (out .entry)) ⌝ }
+    ensures reply { λ r. ⌜ written r ≡ replyAfter (first (tableCallChecks n (now (table .entry)) (length (now (out .entry))))) [] ⌝ }
+    ensures content { λ r. ⌜ now (out .exit) ≡ contentAfter (first (tableCallChecks n (now (table .entry)) (length (now (out .entry))))) (normalForm n (at (now (table .entry)))) (now (out .entry)) ⌝ }
 {
-    if let Checked::Refused(e) = check_normal(n, table, out.len()) {
+    if let Checked::Refused(e) = refusals::check_table_call(n, table, out.len()) {
         return Written::Declined(e);
     }
     copy(table, out);
@@ -147,7 +134,7 @@ fn largest_degree(n: u32, m: u32, rows: &[u16], table: &mut [u8]) -> u32
 
 // The degree of a box: the largest among its columns.
 pub fn degree(n: u32, m: u32, rows: &[u16]) -> DegreeFound
-    ensures { λ r. ⌜ degreeReply r ≡ replyAfter (first (boxChecks n m (now (rows .entry)))) (boxDegree n m (now (rows .entry)) ∷ []) ⌝ }
+    ensures { λ r. ⌜ degreeReply r ≡ boxDegreeReply n m (now (rows .entry)) ⌝ }
 {
     if let Checked::Refused(e) = refusals::check_box(n, m, rows) {
         return DegreeFound::Declined(e);
@@ -190,7 +177,7 @@ fn all_distinct(rows: &[u16]) -> bool
 
 // Whether n = m and no two rows are equal.
 pub fn is_bijective(n: u32, m: u32, rows: &[u16]) -> Verdict
-    ensures { λ r. ⌜ verdict r ≡ replyAfter (first (boxChecks n m (now (rows .entry)))) (asFigure (bijective n m (now (rows .entry)))) ⌝ }
+    ensures { λ r. ⌜ verdict r ≡ bijectiveReply n m (now (rows .entry)) ⌝ }
 {
     if let Checked::Refused(e) = refusals::check_box(n, m, rows) {
         return Verdict::Undecided(e);

@@ -2,12 +2,12 @@
 use mathlib.Core.Path.{_≡_, sym, ap, _∙_, subst}
 use mathlib.Core.Bool.{Bool, cond}
 use mathlib.Core.List.{List}
-use Prim.Native.Nat.{ℕ, _+_, _<_, _≤_}
-use native.Mathlib.Nat.{le-refl, le-of-eq}
+use Prim.Native.Nat.{ℕ, _+_, _^_, _<_, _≤_}
+use native.Mathlib.Nat.{le-refl, le-trans, le-of-eq}
 use native.Mathlib.Omega.{arith}
 use native.Mathlib.Decide.{decLt, ℕ-discrete}
 use borrow.Author.Tests.{le-leb, lt-leb}
-use lib.Count.{ones}
+use lib.Count.{ones, ones-le}
 use lib.IntN.{ℤ, natAbs}
 use lib.ListN.{length}
 use Rattle.boolean.specs.Functions.{valueAt}
@@ -71,6 +71,18 @@ module _ {values : List ℤ} {j s largest : ℕ} (d : Scanned values j s largest
   -- all of them
   pub scanned-all : length values ≤ s → LargestWithin values j largest
   scanned-all h = record { bounds = λ t w. d .bounds t (omega (arith, w .high)) w; reached = d .reached }
+
+-- ---- no change of n inputs has more than n ones
+pub size-anywhere : {end : ℕ} (s : ℕ) (value : ℤ) → end ≤ 256 → s < end → natAbs value ≡ sizeWithin 8 s value
+size-anywhere s value few h = sym (size-within 8 s value (ones-le 8 s (omega arith)))
+
+pub largest-anywhere : {values : List ℤ} {n j largest : ℕ} → n ≤ 8 → length values ≡ 2 ^ n → n ≤ j → LargestWithin values 8 largest
+    → LargestWithin values j largest
+largest-anywhere {values} {n} {j} {largest} few long h d =
+    record { bounds = λ s w. d .bounds s (limited 8 few w); reached = λ p. let t = d .reached p in (t .0, limited j h (t .1), t .2) }
+  where
+    limited : {i s : ℕ} (k : ℕ) → n ≤ k → Within i (length values) s → Within k (length values) s
+    limited {s = s} k le w = record { low = w .low; high = w .high; few = le-trans (ones-le n s (omega (arith, w .high))) le }
 
 -- ---- none before s has the size, and one from s on does
 pub record Seeking (values : List ℤ) (j size s : ℕ) : Type 0 where

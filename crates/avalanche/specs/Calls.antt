@@ -9,10 +9,10 @@ use lib.IntN.{ℤ, pos, _*ℤ_, natAbs}
 use lib.ListN.{length}
 use Rattle.boolean.specs.Sums.{listBelow, each}
 use Rattle.boolean.specs.Functions.{valueAt, autocorrelation, component}
-use Rattle.boolean.specs.Selection.{Candidate, best, higher}
-use Rattle.refusals.specs.Table.{Check, _unless_, inRange, boxChecks, Reply, figures, refusal, number}
+use Rattle.boolean.specs.Selection.{Candidate, best, higher, shown}
+use Rattle.refusals.specs.Table.{Check, _unless_, first, inRange, boxChecks, Reply, figures, refusal, number, replyAfter, asFigure}
 use Rattle.refusals.specs.declared.Refusal.the-variants.{Parameter}
-use Rattle.avalanche.specs.Avalanche.{shifts, atMost}
+use Rattle.avalanche.specs.Avalanche.{shifts, atMost, boxAutocorrelation, dynamicDistance, complete}
 use Rattle.avalanche.specs.declared.FoundChange.{FoundChange}
 use Rattle.avalanche.specs.declared.LargestChange.{LargestChange}
 use Rattle.avalanche.specs.declared.LargestChange.the-variants.{Reached, Declined}
@@ -29,6 +29,16 @@ distanceChecks n m rows i j =
 abbrev pub changeReply : LargestChange → Reply
 changeReply (Reached figure c s) = figures (figure ∷ c ∷ s ∷ [])
 changeReply (Declined e) = refusal (number e)
+
+-- what the calls reply: the figure and its witness, yes or no, or the number of the refusal
+abbrev pub autocorrelationReply : ℕ → ℕ → List ℕ → Reply
+autocorrelationReply n m rows = replyAfter (first (boxChecks n m rows)) (shown (boxAutocorrelation n m rows))
+
+abbrev pub distanceReply : ℕ → ℕ → List ℕ → ℕ → ℕ → Reply
+distanceReply n m rows i j = replyAfter (first (distanceChecks n m rows i j)) (shown (dynamicDistance n m rows i j))
+
+abbrev pub completeReply : ℕ → ℕ → List ℕ → Reply
+completeReply n m rows = replyAfter (first (boxChecks n m rows)) (asFigure (complete n m rows))
 
 -- the best so far, as a candidate
 abbrev pub candidate : FoundChange → Candidate
@@ -85,8 +95,7 @@ unfoldable pub lastOf : {A : Type 0} → (ℕ → A) → A → List ℕ → A
 lastOf rule old [] = old
 lastOf rule old (c ∷ cs) = lastOf rule (rule c) cs
 
--- some components in turn, those with more than i ones passed over: the best change then, and the two arrays
-pub record TakenIn (n : ℕ) (rows : List ℕ) (i j : ℕ) (cs : List ℕ) (found new : Candidate) (table table′ : List ℕ) (values values′ : List ℤ) : Type 0 where
+-- some components in turn, those with more than i ones passed over: the best change then, and what the array of values holds
+pub record TakenIn (n : ℕ) (rows : List ℕ) (i j : ℕ) (cs : List ℕ) (found new : Candidate) (values values′ : List ℤ) : Type 0 where
   pub taken : new ≡ best higher found (each (atMost i cs) (changesOf n j (correlated n rows)))
-  pub table-is : table′ ≡ lastOf (truthTable n rows) table (atMost i cs)
   pub values-are : values′ ≡ lastOf (correlations n rows) values (atMost i cs)

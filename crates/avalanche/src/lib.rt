@@ -5,20 +5,20 @@ use refusals::Verdict;
 ghost use mathlib.Core.Path.{_≡_};
 ghost use mathlib.Core.Bool.{not};
 ghost use mathlib.Core.List.{[], _∷_};
-ghost use Prim.Native.Nat.{ℕ, _^_, _≤_, _<_};
+ghost use Prim.Native.Nat.{ℕ, _*_, _^_, _≤_, _<_};
 ghost use lib.Dec.{eqb};
 ghost use lib.IntN.{_*ℤ_, natAbs};
 ghost use lib.ListN.{length};
 ghost use Rattle.boolean.specs.Bits.{bit};
 ghost use Rattle.boolean.specs.Sums.{listFrom, listBelow, every};
 ghost use Rattle.boolean.specs.Functions.{valueAt, changes, column, components};
-ghost use Rattle.boolean.specs.Selection.{best, higher, firstLargest, shown};
-ghost use Rattle.refusals.specs.Table.{first, boxChecks, replyAfter, asFigure, verdict, Box};
+ghost use Rattle.boolean.specs.Selection.{best, higher, firstLargest};
+ghost use Rattle.refusals.specs.Table.{first, verdict, Box};
 ghost use Rattle.walsh.specs.Work.{Spectra};
-ghost use Rattle.linear.specs.Calls.{Swept};
-ghost use Rattle.avalanche.specs.Avalanche.{measured, boxAutocorrelation, dynamicDistance};
+ghost use Rattle.linear.specs.Calls.{Swept, Stepping};
+ghost use Rattle.avalanche.specs.Avalanche.{measured};
 ghost use Rattle.avalanche.specs.Avalanche as spec;
-ghost use Rattle.avalanche.specs.Calls.{distanceChecks, changeReply, candidate, truthTable, correlations, correlated, changesOf, sizeWithin, LargestWithin, FirstWithin, start, TakenIn};
+ghost use Rattle.avalanche.specs.Calls.{distanceChecks, changeReply, autocorrelationReply, distanceReply, completeReply, candidate, truthTable, correlations, correlated, changesOf, sizeWithin, LargestWithin, FirstWithin, start, TakenIn};
 
 // The best so far.
 pub struct FoundChange {
@@ -62,21 +62,21 @@ fn square_all(values: &mut [i32])
     }
 }
 
-// 2^n times the autocorrelation of component c at every s. The squares of the spectrum are the transform of the autocorrelation, so
-// that their transform gives it back, 2^n times. The truth table stays in the other array.
+// 2^n times the autocorrelation of component c at every s, from its truth table. The squares of the spectrum are the transform of the
+// autocorrelation, so that their transform gives it back, 2^n times.
 fn correlate(
     fixed: &[i32; 2048],
     n: u32,
     m: u32,
     rows: &[u16],
     c: u32,
-    table: &mut [u8],
+    table: &[u8],
     values: &mut [i32],
 )
-    requires { ⌜ Swept n m (now rows) (now table) (now values) × Spectra (now fixed) ⌝ }
-    ensures { λ _. ⌜ (now (values .exit) ≡ correlations n (now (rows .entry)) c) × (now (table .exit) ≡ truthTable n (now (rows .entry)) c) ⌝ }
+    requires { ⌜ Swept n m (now rows) (now table) (now values) × Spectra (now fixed) × (now table ≡ truthTable n (now rows) c) ⌝ }
+    ensures { λ _. ⌜ now (values .exit) ≡ correlations n (now (rows .entry)) c ⌝ }
 {
-    linear::component_spectrum(fixed, n, m, rows, c, table, values);
+    walsh::descend(fixed, n, table, values);
     square_all(values);
     walsh::transform(n, values);
 }
@@ -92,8 +92,8 @@ fn size_within(value: i32, s: u32, j: u32) -> u32
     }
 }
 
-// The largest magnitude at an s from 1 with at most j ones. Where to find it is not asked yet: most components do not need it.
-fn largest_within(values: &[i32], j: u32) -> u32
+// The largest magnitude at an s from 1 with at most j ones, each s counted.
+fn largest_limited(values: &[i32], j: u32) -> u32
     requires { ⌜ length (now values) ≤ 256 ⌝ }
     ensures { λ r. ⌜ LargestWithin (now (values .entry)) j r ⌝ }
 {
@@ -108,6 +108,35 @@ fn largest_within(values: &[i32], j: u32) -> u32
         s += 1;
     }
     largest
+}
+
+// The largest magnitude at an s from 1. None of them has more than 8 ones, so that none is counted, which is quicker.
+fn largest_from_one(values: &[i32]) -> u32
+    requires { ⌜ length (now values) ≤ 256 ⌝ }
+    ensures { λ r. ⌜ LargestWithin (now (values .entry)) 8 r ⌝ }
+{
+    let mut largest: u32 = 0;
+    let mut s = 1;
+    while s < values.len() {
+        let size = boolean::magnitude(values[s]);
+        if largest < size {
+            largest = size;
+        }
+        s += 1;
+    }
+    largest
+}
+
+// The largest magnitude at an s from 1 with at most j ones. Where to find it is not asked yet: most components do not need it.
+fn largest_within(n: u32, values: &[i32], j: u32) -> u32
+    requires { ⌜ (n ≤ 8) × (length (now values) ≡ 2 ^ n) ⌝ }
+    ensures { λ r. ⌜ LargestWithin (now (values .entry)) j r ⌝ }
+{
+    if n <= j {
+        largest_from_one(values)
+    } else {
+        largest_limited(values, j)
+    }
 }
 
 // The first s from 1 with at most j ones that has the largest magnitude, which is not 0.
@@ -135,7 +164,7 @@ fn with_correlation(
     requires { ⌜ Box n m (now rows) × (now values ≡ correlations n (now rows) c) ⌝ }
     ensures { λ r. ⌜ candidate r ≡ best higher (candidate found) (changesOf n j (correlated n (now (rows .entry))) c) ⌝ }
 {
-    let largest = largest_within(values, j);
+    let largest = largest_within(n, values, j);
     let figure = largest / rows.len() as u32;
     if found.figure < figure {
         let s = first_within(values, j, largest);
@@ -145,7 +174,8 @@ fn with_correlation(
     }
 }
 
-// The best change so far, with those of component c. A component with more than i ones is passed over, and the arrays stay.
+// The best change so far, with those of component c, whose truth table is made from that of component c − 1. A component with more than i
+// ones is then passed over.
 fn with_component(
     found: FoundChange,
     fixed: &[i32; 2048],
@@ -154,13 +184,15 @@ fn with_component(
     rows: &[u16],
     i: u32,
     j: u32,
+    steps: &[u8],
     c: u32,
     table: &mut [u8],
     values: &mut [i32],
 ) -> FoundChange
-    requires { ⌜ Swept n m (now rows) (now table) (now values) × Spectra (now fixed) ⌝ }
-    ensures { λ r. ⌜ TakenIn n (now (rows .entry)) i j (c ∷ []) (candidate found) (candidate r) (now (table .entry)) (now (table .exit)) (now (values .entry)) (now (values .exit)) ⌝ }
+    requires { ⌜ Swept n m (now rows) (now table) (now values) × Spectra (now fixed) × Stepping m (now rows) (now steps) c (now table) ⌝ }
+    ensures { λ r. ⌜ TakenIn n (now (rows .entry)) i j (c ∷ []) (candidate found) (candidate r) (now (values .entry)) (now (values .exit)) × (now (table .exit) ≡ truthTable n (now (rows .entry)) c) ⌝ }
 {
+    linear::next_component(m, rows, steps, c, table);
     if i < u32::count_ones(c) {
         return found;
     }
@@ -168,7 +200,7 @@ fn with_component(
     with_correlation(found, n, m, rows, j, c, values)
 }
 
-// Every component in turn, from 1 to 2^m − 1. It starts from the figure 0 with the first candidate's witness.
+// Every component in turn, from 1 to 2^m − 1, each from the one before. It starts from the figure 0 with the first candidate's witness.
 fn sweep(
     fixed: &[i32; 2048],
     n: u32,
@@ -176,12 +208,15 @@ fn sweep(
     rows: &[u16],
     i: u32,
     j: u32,
+    steps: &mut [u8],
     table: &mut [u8],
     values: &mut [i32],
 ) -> FoundChange
-    requires { ⌜ Swept n m (now rows) (now table) (now values) × Spectra (now fixed) ⌝ }
-    ensures { λ r. ⌜ TakenIn n (now (rows .entry)) i j (components m) start (candidate r) (now (table .entry)) (now (table .exit)) (now (values .entry)) (now (values .exit)) ⌝ }
+    requires { ⌜ Swept n m (now rows) (now table) (now values) × Spectra (now fixed) × (length (now steps) ≡ m * length (now rows)) ⌝ }
+    ensures { λ r. ⌜ TakenIn n (now (rows .entry)) i j (components m) start (candidate r) (now (values .entry)) (now (values .exit)) ⌝ }
 {
+    linear::write_steps(m, rows, steps);
+    linear::write_component(rows, 0, table);
     let masks = boolean::power_of_two(m) as u32;
     let mut found = FoundChange {
         figure: 0,
@@ -190,7 +225,7 @@ fn sweep(
     };
     let mut c: u32 = 1;
     while c < masks {
-        found = with_component(found, fixed, n, m, rows, i, j, c, table, values);
+        found = with_component(found, fixed, n, m, rows, i, j, steps, c, table, values);
         c += 1;
     }
     found
@@ -202,9 +237,11 @@ fn largest_correlation(n: u32, m: u32, rows: &[u16], i: u32, j: u32) -> FoundCha
     ensures { λ r. ⌜ candidate r ≡ firstLargest (measured n m i j (correlated n (now (rows .entry)))) ⌝ }
 {
     let fixed = walsh::spectra();
+    let mut steps = [0u8; 4096];
     let mut table = [0u8; 256];
     let mut values = [0i32; 256];
     let size = rows.len();
+    let total = m as usize * size;
     sweep(
         &fixed,
         n,
@@ -212,6 +249,7 @@ fn largest_correlation(n: u32, m: u32, rows: &[u16], i: u32, j: u32) -> FoundCha
         rows,
         i,
         j,
+        &mut steps[..total],
         &mut table[..size],
         &mut values[..size],
     )
@@ -272,7 +310,7 @@ fn all_complete(n: u32, m: u32, rows: &[u16]) -> bool
 
 // The largest |r(s)| over all components and all s from 1.
 pub fn autocorrelation(n: u32, m: u32, rows: &[u16]) -> LargestChange
-    ensures { λ r. ⌜ changeReply r ≡ replyAfter (first (boxChecks n m (now (rows .entry)))) (shown (boxAutocorrelation n m (now (rows .entry)))) ⌝ }
+    ensures { λ r. ⌜ changeReply r ≡ autocorrelationReply n m (now (rows .entry)) ⌝ }
 {
     if let Checked::Refused(e) = refusals::check_box(n, m, rows) {
         return LargestChange::Declined(e);
@@ -287,7 +325,7 @@ pub fn autocorrelation(n: u32, m: u32, rows: &[u16]) -> LargestChange
 
 // The dynamic distance of order (i, j), as document 01 doubles it: half of the largest |r(s)|.
 pub fn dynamic_distance(n: u32, m: u32, rows: &[u16], i: u32, j: u32) -> LargestChange
-    ensures { λ r. ⌜ changeReply r ≡ replyAfter (first (distanceChecks n m (now (rows .entry)) i j)) (shown (dynamicDistance n m (now (rows .entry)) i j)) ⌝ }
+    ensures { λ r. ⌜ changeReply r ≡ distanceReply n m (now (rows .entry)) i j ⌝ }
 {
     if let Checked::Refused(e) = check_distance(n, m, rows, i, j) {
         return LargestChange::Declined(e);
@@ -302,7 +340,7 @@ pub fn dynamic_distance(n: u32, m: u32, rows: &[u16], i: u32, j: u32) -> Largest
 
 // Whether every input bit changes every column at some input.
 pub fn is_complete(n: u32, m: u32, rows: &[u16]) -> Verdict
-    ensures { λ r. ⌜ verdict r ≡ replyAfter (first (boxChecks n m (now (rows .entry)))) (asFigure (spec.complete n m (now (rows .entry)))) ⌝ }
+    ensures { λ r. ⌜ verdict r ≡ completeReply n m (now (rows .entry)) ⌝ }
 {
     if let Checked::Refused(e) = refusals::check_box(n, m, rows) {
         return Verdict::Undecided(e);

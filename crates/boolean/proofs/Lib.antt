@@ -33,3 +33,4 @@ pub mod Bent
 pub mod Correlation
 pub mod NormalForm
 pub mod Degrees
+pub mod Shifts

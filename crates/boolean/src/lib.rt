@@ -1,6 +1,6 @@
 // Boolean functions: the inner product and powers of two. The definitions are in specs/, their laws in proofs/.
 ghost use mathlib.Core.Path.{_≡_};
-ghost use Prim.Native.Nat.{ℕ, _^_, _≤_, _<_};
+ghost use Prim.Native.Nat.{_^_, _≤_, _<_};
 ghost use lib.IntN.{natAbs};
 ghost use Rattle.boolean.specs.Bits as bits;
 ghost use Rattle.boolean.specs.Functions.{signBit};

@@ -3,7 +3,7 @@ use refusals::Checked;
 use refusals::Refusal;
 ghost use mathlib.Core.Path.{_≡_};
 ghost use mathlib.Core.List.{[], _∷_};
-ghost use Prim.Native.Nat.{ℕ, _+_, _*_, _^_, _<_, _≤_};
+ghost use Prim.Native.Nat.{_+_, _*_, _^_, _<_};
 ghost use lib.ListN.{length};
 ghost use Rattle.boolean.specs.Functions.{at};
 ghost use Rattle.refusals.specs.Table.{first, replyAfter, contentAfter, allBelow};
@@ -83,7 +83,7 @@ fn check_read(file: &[u8], n: u32, m: u32, room: usize) -> Checked
 }
 
 // The checks of a file.
-fn check_file(file: &[u8], room: usize) -> Checked
+pub fn check_file(file: &[u8], room: usize) -> Checked
     ensures { λ r. ⌜ r ≡ first (fileChecks (now (file .entry)) room) ⌝ }
 {
     if file.len() < 2 {

@@ -9,14 +9,16 @@ use lib.ListN.{length, drop}
 use Rattle.boolean.specs.Bits.{parity, dot, affine, bit, within}
 use Rattle.boolean.specs.Sums.{sumBelow, one-if, countBelow, xorBelow, listFrom, listBelow, each, every, keep, largestBelow, distinct}
 use Rattle.boolean.specs.Functions.{at, valueAt, agreement, walsh, spectrum, distance, autocorrelation, changes, coefficient, degree, column, component, components, sign, transform, signBit, inverse, sameValues, isSpectrum}
-use Rattle.boolean.specs.Selection.{best, firstLeast, firstLargest, shown}
-use Rattle.refusals.specs.Table.{Reply, figures, refusal, first, boxChecks, replyAfter, contentAfter}
-use Rattle.walsh.specs.Calls.{spectrumChecks, inverseLengths, functionCheck, inverseChecks}
+use Rattle.boolean.specs.Selection.{best, firstLeast, firstLargest}
+use Rattle.refusals.specs.Table.{tableCallChecks, Reply, figures, refusal, first, replyAfter, contentAfter}
+use Rattle.walsh.specs.Calls.{inverseLengths, functionCheck, inverseChecks}
 use Rattle.linear.specs.Nonlinearity.{pairsOf, pairs, nonlinearity, nonlinearityReply}
 use Rattle.differential.specs.XorTable.{difference, cell, cellsOf, cells, largestCell}
+use Rattle.differential.specs.Calls.{xorReply}
 use Rattle.avalanche.specs.Avalanche.{shifts, atMost, measured, boxAutocorrelation, imbalance, dynamicDistance}
-use Rattle.avalanche.specs.Calls.{distanceChecks}
+use Rattle.avalanche.specs.Calls.{distanceChecks, autocorrelationReply}
 use Rattle.algebraic.specs.Algebraic.{boxDegree}
+use Rattle.algebraic.specs.Calls.{boxDegreeReply}
 use Rattle.constructions.specs.Enlargement.{enlarged, enlargedTable, enlargedRows}
 use Rattle.constructions.specs.BentForm.{bentForm, bentTable, isPermutation}
 use Rattle.constructions.specs.Calls.{columnChecks, enlargeChecks, bentChecks}
@@ -67,16 +69,16 @@ abbrev pub distanceOf : ℕ → ℕ → List ℕ → ℕ → ℕ → Outcome
 distanceOf n m rows i j = says (replyAfter (first (distanceChecks n m rows i j)) (dynamicDistance n m rows i j .figure ∷ []))
 
 abbrev pub degreeOf : ℕ → ℕ → List ℕ → Outcome
-degreeOf n m rows = says (replyAfter (first (boxChecks n m rows)) (boxDegree n m rows ∷ []))
+degreeOf n m rows = says (boxDegreeReply n m rows)
 
 abbrev pub cellOf : ℕ → ℕ → List ℕ → Outcome
-cellOf n m rows = says (replyAfter (first (boxChecks n m rows)) (shown (largestCell n m rows)))
+cellOf n m rows = says (xorReply n m rows)
 
 abbrev pub autocorrelationOf : ℕ → ℕ → List ℕ → Outcome
-autocorrelationOf n m rows = says (replyAfter (first (boxChecks n m rows)) (shown (boxAutocorrelation n m rows)))
+autocorrelationOf n m rows = says (autocorrelationReply n m rows)
 
 abbrev pub spectrumOf : ℕ → List ℕ → List ℤ → Outcome
-spectrumOf n table old = holdsSigned (contentAfter (first (spectrumChecks n table (length old))) (spectrum n (at table)) old)
+spectrumOf n table old = holdsSigned (contentAfter (first (tableCallChecks n table (length old))) (spectrum n (at table)) old)
 
 abbrev pub inverseReply : ℕ → List ℤ → List ℕ → Outcome
 inverseReply n values old = says (replyAfter (first (inverseChecks n values (length old))) [])
@@ -163,5 +165,5 @@ bounds =
     ∷ []
 
 pub worked : T (right cases && right bounds)
-unfolding parity dot affine bit within ones sumBelow one-if countBelow xorBelow listFrom listBelow each every keep largestBelow distinct agreement walsh spectrum distance autocorrelation changes coefficient degree column component components sign transform signBit inverse isSpectrum best firstLeast firstLargest first spectrumChecks inverseLengths functionCheck inverseChecks pairsOf pairs nonlinearity difference cell cellsOf cells largestCell shifts atMost measured boxAutocorrelation imbalance dynamicDistance distanceChecks boxDegree enlarged enlargedTable enlargedRows bentForm bentTable isPermutation columnChecks enlargeChecks bentChecks
+unfolding parity dot affine bit within ones sumBelow one-if countBelow xorBelow listFrom listBelow each every keep largestBelow distinct agreement walsh spectrum distance autocorrelation changes coefficient degree column component components sign transform signBit inverse isSpectrum best firstLeast firstLargest first tableCallChecks inverseLengths functionCheck inverseChecks pairsOf pairs nonlinearity difference cell cellsOf cells largestCell shifts atMost measured boxAutocorrelation imbalance dynamicDistance distanceChecks boxDegree enlarged enlargedTable enlargedRows bentForm bentTable isPermutation columnChecks enlargeChecks bentChecks
 worked = tt

@@ -4,7 +4,7 @@ use refusals::Refusal;
 use refusals::Written;
 ghost use mathlib.Core.Path.{_≡_};
 ghost use mathlib.Core.List.{[]};
-ghost use Prim.Native.Nat.{ℕ, _^_, _≤_, _<_};
+ghost use Prim.Native.Nat.{_^_, _≤_, _<_};
 ghost use lib.ListN.{length};
 ghost use Rattle.refusals.specs.Table.{first, replyAfter, contentAfter, written};
 ghost use Rattle.columns.specs.Addition.{addedRow, addedRows, additionChecks};

@@ -1,12 +1,11 @@
 -- Enlargement keeps the strict avalanche criterion: of one column, for either constant, and of a whole box.
 use mathlib.Core.Path.{_≡_, sym, ap, ap₂, _∙_, subst}
-use mathlib.Core.Bool.{Bool, not}
+use mathlib.Core.Bool.{not}
 use mathlib.Core.List.{List}
-use Prim.Native.Nat.{ℕ, zero, suc, _+_, _-_, _%_, _^_, _<_, _≤_}
-use native.Mathlib.Nat.{add-comm, add-zero, div-one, le-refl, mod-eq-of-lt, two-pow-succ}
+use Prim.Native.Nat.{ℕ, suc, _+_, _-_, _%_, _^_, _<_, _≤_}
+use native.Mathlib.Nat.{add-zero, div-one, le-refl, mod-eq-of-lt, two-pow-succ}
 use native.Mathlib.Omega.{arith}
 use native.Mathlib.Decide.{decLe, decLt}
-use lib.Arith.{lt-one}
 use lib.Bits.{bitXor, xor-comm, xor-lt, xor-zero-r}
 use lib.Dec.{eqb}
 use lib.ListN.{length, List·getD-eq-default}
@@ -19,27 +18,14 @@ use Rattle.boolean.proofs.Columns.{column-lt}
 use Rattle.boolean.proofs.Correlation.{changes-cong}
 use Rattle.boolean.proofs.Counts.{count-cong, count-halves, count-not}
 use Rattle.boolean.proofs.Dots.{bit-cases}
-use Rattle.boolean.proofs.Transform.{half-cases, xor-01, xor-10, xor-11}
+use Rattle.boolean.proofs.Transform.{xor-01, xor-10, xor-11}
 use Rattle.boolean.proofs.Xor.{xor-assoc}
 use Rattle.refusals.specs.Table.{Box, Table}
+use Rattle.boolean.proofs.Shifts.{count-shift}
 use Rattle.avalanche.specs.Avalanche.{dynamicDistance}
 use Rattle.avalanche.proofs.Theorems.{strict-avalanche}
 use Rattle.constructions.specs.Enlargement.{enlarged, enlargedTable, enlargedRows}
 use Rattle.constructions.proofs.Halves.{input-bit-lt, enlarged-lower, enlarged-upper, enlarged-lt, length-enlarged-table, at-enlarged-table, length-enlarged-rows, enlarged-rows-lt, enlarged-column, enlarged-top-column}
-
--- a count over all numbers of n bits does not change where each is XORed with the same number
-pub count-shift : (n e : ℕ) → e < 2 ^ n → (p : ℕ → Bool) → countBelow (2 ^ n) (λ x. p (bitXor x e)) ≡ countBelow (2 ^ n) p
-count-shift zero e h p = count-cong (2 ^ 0) _ _ (λ x l. ap p (ap (bitXor x) (lt-one h) ∙ xor-zero-r x))
-count-shift (suc n) e h p = half-cases n (λ e. (p : ℕ → Bool) → countBelow (2 ^ suc n) (λ x. p (bitXor x e)) ≡ countBelow (2 ^ suc n) p)
-    (λ e l p.
-    count-halves n (λ x. p (bitXor x e))
-    ∙ ap₂ (λ (i j : ℕ). i + j) (count-shift n e l p) (count-cong (2 ^ n) _ _ (λ x m. ap p (xor-10 n x e m l)) ∙ count-shift n e l (λ x. p (2 ^ n + x)))
-    ∙ sym (count-halves n p))
-    (λ e l p.
-    count-halves n (λ x. p (bitXor x (2 ^ n + e)))
-    ∙ ap₂ (λ (i j : ℕ). i + j) (count-cong (2 ^ n) _ _ (λ x m. ap p (xor-01 n x e m l)) ∙ count-shift n e l (λ x. p (2 ^ n + x)))
-    (count-cong (2 ^ n) _ _ (λ x m. ap p (xor-11 n x e m l)) ∙ count-shift n e l p)
-    ∙ add-comm (countBelow (2 ^ n) (λ x. p (2 ^ n + x))) (countBelow (2 ^ n) p) ∙ sym (count-halves n p)) e h p
 
 -- two numbers are XORed to a third in either order
 xor-swap : (x d e : ℕ) → bitXor (bitXor x d) e ≡ bitXor (bitXor x e) d

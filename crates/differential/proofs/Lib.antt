@@ -1,7 +1,9 @@
 pub mod Cells
+pub mod Pairs
 pub mod RowBest
 pub mod Sweeps
 pub mod Tallies
+pub mod LargestCounts
 pub mod ListLoops
 pub mod ListMembers
 pub mod Theorems

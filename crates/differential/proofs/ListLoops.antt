@@ -14,7 +14,8 @@ use Rattle.boolean.proofs.Counts.{count-cong, count-le}
 use Rattle.boolean.proofs.Lists.{each-from-one, each-from-zero, each-grows, each-counts}
 use Rattle.boolean.proofs.Stored.{Stored, stored-none, stored-room, stored-more}
 use Rattle.differential.specs.Calls.{Swept, differencesOf, occurrences, isListed, listedAt, listedRow, listed}
-use Rattle.differential.proofs.Sweeps.{Visited, visited-none, visited-next, row-size}
+use Rattle.differential.proofs.Sweeps.{Visited, visited-none, visited-next}
+use Rattle.differential.proofs.Tallies.{differences-ready}
 
 -- ---- one input
 -- the values before x, as a part of the array
@@ -126,7 +127,7 @@ module _ {n m largest : ℕ} {rows : List ℕ} where
   module _ {work : List ℕ} {count a : ℕ} (t : Counting n m largest rows work count a) where
     module _ {values : List ℕ} {more : ℕ} (e : values ≡ differencesOf rows a) (q : more ≡ countBelow (length values) (λ x. isListed largest values x)) where
       pub counting-small : more ≤ 256
-      counting-small = omega (arith, q, count-le (length values) (λ x. isListed largest values x), row-size (t .visited .swept .box) a e .1)
+      counting-small = omega (arith, q, count-le (length values) (λ x. isListed largest values x), differences-ready (t .visited .swept .box) a e .0)
 
       more-is : more ≡ length (listedRow largest a (differencesOf rows a))
       more-is = q ∙ row-counted largest a values ∙ ap (λ (v : List ℕ). length (listedRow largest a v)) e
@@ -168,7 +169,7 @@ module _ {n m largest : ℕ} {rows old : List ℕ} where
       pub all-room : length (listed largest rows (2 ^ n)) ≤ length old
           → (length values ≤ 256) × (a < 256) × (next + length (listedRow largest a values) ≤ length list)
       all-room h = (
-        row-size (t .visited .swept .box) a e .1,
+        differences-ready (t .visited .swept .box) a e .0,
         omega (arith, t .visited .swept .box .size, t .visited .swept .box .small),
         rw e (stored-room (t .stored) (listedRow largest a (differencesOf rows a)) (enough h)),
       )

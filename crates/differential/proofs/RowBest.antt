@@ -1,14 +1,11 @@
--- One row: what its differences count, the loop that takes the largest count with its smallest β, and that this is the row's first largest cell.
+-- One row: what its differences count, and that the largest count among its pairs, with the smallest β, is its first largest cell.
 -- Assumes nothing.
-use mathlib.Core.Path.{_≡_, refl, sym, ap, _∙_, subst}
+use mathlib.Core.Path.{_≡_, refl, sym, ap, _∙_}
 use mathlib.Core.Bool.{true}
-use mathlib.Core.Logic.{_⊎_, inl, inr}
+use mathlib.Core.Logic.{inl, inr}
 use mathlib.Core.List.{List, [], _∷_, List·Memᴰ}
-use Prim.Native.Nat.{ℕ, _+_, _^_, _<_, _≤_}
-use native.Mathlib.Nat.{zero-lt-suc, le-of-eq}
+use Prim.Native.Nat.{ℕ, _*_, _^_, _<_, _≤_}
 use native.Mathlib.Omega.{arith}
-use native.Mathlib.Decide.{decLt}
-use borrow.Author.Count.{below-more}
 use borrow.Author.Tests.{lt-ltb, le-ltb, eq-eqb, eqb-true}
 use lib.Bits.{bitXor, xor-lt}
 use lib.Dec.{eqb}
@@ -19,10 +16,11 @@ use Rattle.boolean.specs.Selection.{Candidate, best, higher}
 use Rattle.boolean.proofs.Counts.{count-cong}
 use Rattle.boolean.proofs.Counted.{count-some, count-first}
 use Rattle.boolean.proofs.Lists.{length-listBelow, getD-listBelow}
-use Rattle.boolean.proofs.Selection.{best-stays, best-is, best-takes, best-keeps, ranked-first}
+use Rattle.boolean.proofs.Selection.{best-stays, best-is, ranked-first}
 use Rattle.refusals.specs.Table.{Box}
 use Rattle.differential.specs.XorTable.{difference, cell, cellsOf}
-use Rattle.differential.specs.Calls.{differencesOf, occurrences, cellAt, Leads, Leading, RowLargest}
+use Rattle.differential.specs.Calls.{differencesOf, occurrences, Paired, RowLargest, AfterRow}
+use Rattle.differential.proofs.Pairs.{pair-small, cell-twice}
 use Rattle.differential.proofs.Cells.{rank, cellOf, in-cellsOf, mem-cellsOf, ascending-cellsOf}
 
 -- ---- how often a value stands among others
@@ -33,31 +31,6 @@ occurs values x l = count-some (length values) (λ y. eqb (at values y) (at valu
 pub occurs-at : (values : List ℕ) (β : ℕ) → 0 < occurrences values β → (x : ℕ) × (x < length values) × (at values x ≡ β)
 unfolding occurrences
 occurs-at values β h = let t = count-first (length values) (λ y. eqb (at values y) β) h in (t .0, t .1, eqb-true (at values (t .0)) β (t .2))
-
--- ---- the loop over one row
-leads-trans : (a b c : Candidate) → Leads a b → Leads b c → Leads a c
-leads-trans a b c (inl p) (inl q) = inl (omega arith)
-leads-trans a b c (inl p) (inr q) = inl (omega arith)
-leads-trans a b c (inr p) (inl q) = inl (omega arith)
-leads-trans a b c (inr p) (inr q) = inr (omega arith)
-
-pub row-one : (a : ℕ) (values : List ℕ) {r : Candidate} → r ≡ cellAt a values 0 → RowLargest a values 1 r
-row-one a values {r} e = record {
-  place = 0;
-  inside = zero-lt-suc 0;
-  is = e;
-  leads = λ x l. rw (let z : x ≡ 0 = omega arith in z) (inr (sym (ap (λ (c : Candidate). c .figure) e), le-of-eq (ap (λ (c : Candidate). at (c .witness) 1) e)));
-}
-
-pub row-next : {a : ℕ} {values : List ℕ} {k : ℕ} {c d r : Candidate} → RowLargest a values k c → d ≡ cellAt a values k → Leading c d r → RowLargest a values (k + 1) r
-row-next {a} {values} {k} {c} {d} {r} t e s = pick (s .one-of)
-  where
-    all : (x : ℕ) → x < k + 1 → Leads r (cellAt a values x)
-    all = below-more _ k (λ x l. leads-trans r c (cellAt a values x) (s .leads-c) (t .leads x l)) (rw e at (s .leads-d))
-
-    pick : (r ≡ c) ⊎ (r ≡ d) → RowLargest a values (k + 1) r
-    pick (inl q) = record { place = t .place; inside = omega (arith, t .inside); is = q ∙ t .is; leads = all }
-    pick (inr q) = record { place = k; inside = omega arith; is = q ∙ e; leads = all }
 
 -- ---- the row of a
 module _ {n m : ℕ} {rows : List ℕ} (b : Box n m rows) (a : ℕ) where
@@ -82,61 +55,40 @@ module _ {n m : ℕ} {rows : List ℕ} (b : Box n m rows) (a : ℕ) where
   unfolding difference
   value-small x l = rw (value-is x (omega (arith, values-length))) (xor-lt m (at rows x) (at rows (bitXor x a)) (b .below x) (b .below (bitXor x a)))
 
-  -- the largest of the differences' counts, with the smallest β, is the first largest cell of the row
-  module _ {r : Candidate} (t : RowLargest a values (length values) r) where
-    abbrev β : ℕ
-    β = at values (t .place)
+-- ---- the first largest cell of the row, from the differences of its pairs
+module _ {n m : ℕ} {rows : List ℕ} (b : Box n m rows) {a : ℕ} (l : a < 2 ^ n) {pairs : List ℕ} (p : Paired rows a pairs) where
+  -- what bounds twice each count bounds every cell of the row
+  cells-at-most : (k : ℕ) → ((β : ℕ) → 2 * occurrences pairs β ≤ k) → (c : Candidate) → List·Memᴰ c (cellsOf n m rows a) → c .figure ≤ k
+  cells-at-most k h c i =
+      let s = mem-cellsOf n m rows a c i in
+      omega (arith, h (s .0), cell-twice b p l (s .0), ap (λ (c : Candidate). c .figure) (s .2))
 
-    r-is : r ≡ cellOf n rows a β
-    r-is = t .is ∙ ap (λ (k : ℕ). record { figure = k; witness = a ∷ β ∷ [] }) (occurrences-cell β)
+  module _ {found r : Candidate} (t : RowLargest a pairs found r) where
+    largest-is : r ≡ cellOf n rows a (t .β)
+    largest-is =
+        t .is ∙ ap (λ (k : ℕ). record { figure = k; witness = a ∷ t .β ∷ [] }) (ap (λ (k : ℕ). 2 * k) (sym (t .smallest .reached)) ∙ sym (cell-twice b p l (t .β)))
 
-    pub row-positive : 0 < r .figure
-    row-positive = rw (t .is) (occurs values (t .place) (t .inside))
+    largest-member : List·Memᴰ r (cellsOf n m rows a)
+    largest-member =
+        let s = occurs-at pairs (t .β) (omega (arith, t .above, t .smallest .reached)) in
+        rw largest-is (in-cellsOf n m rows a (t .β) (omega (arith, pair-small b p (s .0) (s .1), s .2)))
 
-    pub row-member : List·Memᴰ r (cellsOf n m rows a)
-    row-member = rw r-is (in-cellsOf n m rows a β (value-small (t .place) (t .inside)))
+    largest-most : (c : Candidate) → List·Memᴰ c (cellsOf n m rows a) → c .figure ≤ r .figure
+    largest-most c i = rw (t .is) (cells-at-most (2 * t .largest) (λ β. omega (arith, t .most .most β)) c i)
 
-    -- r leads every cell of the row: those that no input has count 0
-    leads-all : (γ : ℕ) → Leads r (cellOf n rows a γ)
-    leads-all γ = pick (decLt 0 (occurrences values γ))
-      where
-        pick : Dec (0 < occurrences values γ) → Leads r (cellOf n rows a γ)
-        pick (yes l) =
-            let s = occurs-at values γ l in
-            rw (← occurrences-cell γ) (subst (λ (z : ℕ). Leads r (record { figure = occurrences values z; witness = a ∷ z ∷ [] })) (s .2) (t .leads (s .0) (s .1)))
-        pick (no l) = inl (omega (arith, row-positive, occurrences-cell γ))
+    largest-first : (c : Candidate) → List·Memᴰ c (cellsOf n m rows a) → rank (2 ^ m) c < rank (2 ^ m) r → c .figure < r .figure
+    largest-first c i h =
+        let s = mem-cellsOf n m rows a c i in
+        let earlier : s .0 < t .β = omega (arith, ap (rank (2 ^ m)) (s .2), ap (rank (2 ^ m)) (t .is)) in
+        omega (arith, t .smallest .first (s .0) earlier, cell-twice b p l (s .0), ap (λ (c : Candidate). c .figure) (s .2), ap (λ (c : Candidate). c .figure) (t .is))
 
-    no-larger : (c : Candidate) → List·Memᴰ c (cellsOf n m rows a) → c .figure ≤ r .figure
-    no-larger c k =
-        let s = mem-cellsOf n m rows a c k in
-        below (cellOf n rows a (s .0)) (leads-all (s .0)) (ap (λ (c : Candidate). c .figure) (s .2))
-      where
-        below : (d : Candidate) → Leads r d → c .figure ≡ d .figure → c .figure ≤ r .figure
-        below d (inl l) e = omega arith
-        below d (inr q) e = omega (arith, q .0)
-
-    earlier : (c : Candidate) → List·Memᴰ c (cellsOf n m rows a) → rank (2 ^ m) c < rank (2 ^ m) r → c .figure < r .figure
-    earlier c k l =
-        let s = mem-cellsOf n m rows a c k in
-        below (cellOf n rows a (s .0)) (leads-all (s .0)) (ap (λ (c : Candidate). c .figure) (s .2))
-        (omega (arith, ap (rank (2 ^ m)) (s .2), ap (rank (2 ^ m)) (t .is), ap (λ (c : Candidate). at (c .witness) 1) (t .is)))
-      where
-        below : (d : Candidate) → Leads r d → c .figure ≡ d .figure → at (d .witness) 1 < at (r .witness) 1 → c .figure < r .figure
-        below d (inl j) e h = omega arith
-        below d (inr q) e h = absurd (omega (arith, q .1))
-
-    -- so the selection over the whole row is the one step that the code does
-    pub row-best : (b : Candidate) → best higher b (r ∷ []) ≡ best higher b (cellsOf n m rows a)
-    unfolding best
-    row-best b = pick (decLt (b .figure) (r .figure))
-      where
-        pick : Dec (b .figure < r .figure) → best higher b (r ∷ []) ≡ best higher b (cellsOf n m rows a)
-        pick (yes l) =
-            best-takes higher b r [] (lt-ltb (b .figure) (r .figure) l)
-            ∙ sym (best-is higher b r (lt-ltb (b .figure) (r .figure) l)
-            (ranked-first (rank (2 ^ m)) (λ r c. higher r c ≡ true) r (cellsOf n m rows a) (ascending-cellsOf n m rows (2 ^ m) a) row-member
-            (λ c k j. lt-ltb (c .figure) (r .figure) (earlier c k j)))
-            (λ c k. le-ltb (r .figure) (c .figure) (no-larger c k)))
-        pick (no l) =
-            best-keeps higher b r [] (le-ltb (b .figure) (r .figure) (omega arith))
-            ∙ sym (best-stays higher b (cellsOf n m rows a) (λ c k. le-ltb (b .figure) (c .figure) (omega (arith, no-larger c k))))
+  -- so the step that the code does is the selection over the whole row
+  pub row-best : {found r : Candidate} → AfterRow a pairs found r → r ≡ best higher found (cellsOf n m rows a)
+  row-best {found} {r} (inl h) =
+      h .0 ∙ sym (best-stays higher found (cellsOf n m rows a) (λ c i. le-ltb (found .figure) (c .figure) (cells-at-most (found .figure) (h .1) c i)))
+  row-best {found} {r} (inr t) =
+      let above : found .figure < r .figure = omega (arith, t .above, ap (λ (c : Candidate). c .figure) (t .is)) in
+      sym (best-is higher found r (lt-ltb (found .figure) (r .figure) above)
+      (ranked-first (rank (2 ^ m)) (λ r c. higher r c ≡ true) r (cellsOf n m rows a) (ascending-cellsOf n m rows (2 ^ m) a) (largest-member t)
+      (λ c i h. lt-ltb (c .figure) (r .figure) (largest-first t c i h)))
+      (λ c i. le-ltb (r .figure) (c .figure) (largest-most t c i)))

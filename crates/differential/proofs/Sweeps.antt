@@ -1,11 +1,12 @@
 -- The rows one after the other: what is known at each, and the first largest cell of those that were visited. Assumes nothing.
 use mathlib.Core.Path.{_≡_, refl, sym, ap, _∙_, subst}
-use mathlib.Core.List.{List, [], _∷_, List·Memᴰ}
-use Prim.Native.Nat.{ℕ, _+_, _-_, _^_, _<_, _≤_}
-use native.Mathlib.Nat.{le-refl}
+use mathlib.Core.List.{List, List·Memᴰ}
+use Prim.Native.Nat.{ℕ, suc, _+_, _-_, _*_, _/_, _^_, _<_, _≤_}
+use native.Mathlib.Nat.{le-refl, two-pow-succ}
 use native.Mathlib.Omega.{arith}
 use lib.Bits.{xor-lt}
-use lib.ListN.{length}
+use lib.ListN.{length, take}
+use lib.Seq.{length-take-le}
 use lib.Pow.{pow-pos, pow-lt}
 use Rattle.boolean.specs.Sums.{listFrom, each}
 use Rattle.boolean.specs.Functions.{at}
@@ -14,9 +15,10 @@ use Rattle.boolean.proofs.Lists.{each-from-one}
 use Rattle.boolean.proofs.Selection.{best-append, firstLargest-above}
 use Rattle.refusals.specs.Table.{Box}
 use Rattle.differential.specs.XorTable.{cellsOf, cells, largestCell}
-use Rattle.differential.specs.Calls.{Swept, Inside, differencesOf, RowLargest}
+use Rattle.differential.specs.Calls.{Swept, Inside, differencesOf, Paired, AfterRow}
 use Rattle.differential.proofs.Cells.{IsCell, cellOf, in-cells}
 use Rattle.differential.proofs.RowBest.{values-length, value-small, occurrences-cell, occurs, row-best}
+use Rattle.differential.proofs.Pairs.{pairs-length, pair-small}
 
 -- XOR with an input difference leads from inputs to inputs
 pub box-inside : {n m : ℕ} {rows : List ℕ} → Box n m rows → {a : ℕ} → a < 2 ^ n → Inside (length rows) a
@@ -52,12 +54,6 @@ module _ {n m : ℕ} {rows work : List ℕ} {a : ℕ} (t : Visited n m rows work
       let end : a ≡ 2 ^ n = omega (arith, t .a-high) in
       t .last (omega (arith, pow-lt (t .swept .box .n-low))) ∙ ap (λ (k : ℕ). differencesOf rows (k - 1)) end
 
--- a row's differences, as many as there are rows
-pub row-size : {n m : ℕ} {rows : List ℕ} (b : Box n m rows) (a : ℕ) {values : List ℕ} → values ≡ differencesOf rows a → (0 < length values) × (length values ≤ 256)
-row-size {n} b a e =
-    let l = ap length e ∙ values-length b a in
-    (omega (arith, l, pow-pos n), omega (arith, l, b .size, b .small))
-
 -- ---- the loop that takes the largest cell
 abbrev cellsBelow : ℕ → ℕ → List ℕ → ℕ → List Candidate
 cellsBelow n m rows a = each (listFrom 1 (a - 1) (λ a. a)) (cellsOf n m rows)
@@ -70,30 +66,58 @@ some-cell {n} {m} {rows} b =
     let cell : IsCell n m 1 β = record { a-low = le-refl 1; a-high = pow-lt (b .n-low); β-high = value-small b 1 0 inside } in
     (cellOf n rows 1 β, in-cells n m rows 1 β cell, rw (← occurrences-cell b 1 β) (occurs (differencesOf rows 1) 0 inside))
 
-pub record Sweeping (n m : ℕ) (rows : List ℕ) (start found : Candidate) (work : List ℕ) (a : ℕ) : Type 0 where
-  pub visited : Visited n m rows work a
+pub record Sweeping (n m : ℕ) (rows : List ℕ) (start found : Candidate) (pairs : List ℕ) (a : ℕ) : Type 0 where
+  pub box : Box n m rows
+  pub room : length rows ≡ 2 * length pairs
+  pub a-low : 1 ≤ a
+  pub a-high : a ≤ 2 ^ n
+  pub last : 1 < a → Paired rows (a - 1) pairs
   pub so-far : found ≡ best higher start (cellsBelow n m rows a)
 
-module _ {n m : ℕ} {rows : List ℕ} {start : Candidate} where
-  pub sweep-starts : {work : List ℕ} → Swept n m rows work → Sweeping n m rows start start work 1
+module _ {n m : ℕ} {rows : List ℕ} (b : Box n m rows) where
+  -- there are half as many pairs as inputs, and their differences can be counted
+  two-halves : length rows ≡ 2 * 2 ^ (n - 1)
+  two-halves =
+      let e : n ≡ suc (n - 1) = omega (arith, b .n-low) in
+      omega (arith, b .size, ap (λ (k : ℕ). 2 ^ k) e, two-pow-succ (n - 1))
+
+  pub pairs-room : {a : ℕ} {pairs : List ℕ} → Paired rows a pairs → length rows ≡ 2 * length pairs
+  pairs-room p = omega (arith, pairs-length b p, two-halves)
+
+  pub half-room : (array : List ℕ) → length rows / 2 ≤ length array → length rows ≡ 2 * length (take (length rows / 2) array)
+  half-room array h = omega (arith, two-halves, length-take-le (length rows / 2) array h)
+
+  pub pairs-ready : {a : ℕ} {pairs : List ℕ} → Paired rows a pairs → (length pairs ≤ 256) × ((x : ℕ) → x < length pairs → at pairs x < 2 ^ m)
+  pairs-ready p = (omega (arith, pairs-room p, b .small), pair-small b p)
+
+  pub sweep-starts : {start : Candidate} {pairs : List ℕ} → length rows ≡ 2 * length pairs → Sweeping n m rows start start pairs 1
   unfolding each listFrom best
-  sweep-starts h = record { visited = visited-none h; so-far = refl }
+  sweep-starts r = record { box = b; room = r; a-low = le-refl 1; a-high = pow-pos n; last = λ l. absurd (omega arith); so-far = refl }
 
-  module _ {found : Candidate} {work : List ℕ} {a : ℕ} (t : Sweeping n m rows start found work a) where
-    pub sweep-next : {new row : Candidate} {values : List ℕ} → a < 2 ^ n → values ≡ differencesOf rows a → RowLargest a values (length values) row
-        → new ≡ best higher found (row ∷ []) → Sweeping n m rows start new values (a + 1)
-    sweep-next {row = row} l e s q = record {
-      visited = visited-next (t .visited) l e;
-      so-far =
-          q ∙ row-best (t .visited .swept .box) a (subst (λ (v : List ℕ). RowLargest a v (length v) row) e s) found
-          ∙ ap (λ (b : Candidate). best higher b (cellsOf n m rows a)) (t .so-far) ∙ sym (best-append higher start (cellsBelow n m rows a) (cellsOf n m rows a))
-          ∙ ap (best higher start) (sym (each-from-one a (cellsOf n m rows) (t .visited .a-low)));
-    }
+module _ {n m : ℕ} {rows : List ℕ} {start found : Candidate} {pairs : List ℕ} {a : ℕ} (t : Sweeping n m rows start found pairs a) where
+  pub sweep-next : {new : Candidate} {pairs′ : List ℕ} → a < 2 ^ n → Paired rows a pairs′ → AfterRow a pairs′ found new → Sweeping n m rows start new pairs′ (a + 1)
+  sweep-next {pairs′ = pairs′} l p s = record {
+    box = t .box;
+    room = pairs-room (t .box) p;
+    a-low = omega arith;
+    a-high = omega arith;
+    last = λ k. subst (λ (a : ℕ). Paired rows a pairs′) (let z : a ≡ a + 1 - 1 = omega arith in z) p;
+    so-far =
+        row-best (t .box) l p s ∙ ap (λ (b : Candidate). best higher b (cellsOf n m rows a)) (t .so-far)
+        ∙ sym (best-append higher start (cellsBelow n m rows a) (cellsOf n m rows a))
+        ∙ ap (best higher start) (sym (each-from-one a (cellsOf n m rows) (t .a-low)));
+  }
 
-    pub sweep-ends : 2 ^ n ≤ a → start .figure ≡ 0 → found ≡ largestCell n m rows
+  module _ (h : 2 ^ n ≤ a) where
+    at-end : a ≡ 2 ^ n
+    at-end = omega (arith, t .a-high)
+
+    pub sweep-ends : start .figure ≡ 0 → found ≡ largestCell n m rows
     unfolding largestCell cells
-    sweep-ends h z =
-        let end : a ≡ 2 ^ n = omega (arith, t .visited .a-high) in
-        let some = some-cell (t .visited .swept .box) in
-        t .so-far ∙ ap (λ (k : ℕ). best higher start (cellsBelow n m rows k)) end
+    sweep-ends z =
+        let some = some-cell (t .box) in
+        t .so-far ∙ ap (λ (k : ℕ). best higher start (cellsBelow n m rows k)) at-end
         ∙ firstLargest-above start (cells n m rows) z (some .0) (some .1) (some .2)
+
+    pub sweep-last : Paired rows (2 ^ n - 1) pairs
+    sweep-last = subst (λ (k : ℕ). Paired rows (k - 1) pairs) at-end (t .last (omega (arith, pow-lt (t .box .n-low))))

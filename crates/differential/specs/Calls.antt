@@ -1,20 +1,20 @@
 -- The calls on the XOR table: checks, answers, and what the functions behind them ask and leave.
-use Prim.Native.Nat.{ℕ, _+_, _-_, _*_, _^_, _≤_, _<_}
+use Prim.Native.Nat.{ℕ, _+_, _-_, _*_, _/_, _^_, _≤_, _<_}
 use mathlib.Core.Path.{_≡_}
 use mathlib.Core.Bool.{Bool, true, false, _&&_}
 use mathlib.Core.Logic.{_⊎_}
 use mathlib.Core.List.{List, [], _∷_, _++_}
-use lib.Bits.{bitXor}
+use lib.Bits.{bitAnd, bitXor}
 use lib.Dec.{eqb, leb}
 use lib.ListN.{length}
 use Rattle.boolean.specs.Sums.{countBelow, listFrom, listBelow, each}
 use Rattle.boolean.specs.Functions.{at}
-use Rattle.boolean.specs.Selection.{Candidate}
-use Rattle.refusals.specs.Table.{Check, _unless_, inRange, boxChecks, Reply, figures, refusal, number, Box}
+use Rattle.boolean.specs.Selection.{Candidate, shown}
+use Rattle.refusals.specs.Table.{Check, _unless_, first, inRange, boxChecks, Reply, figures, refusal, number, replyAfter, Box}
 use Rattle.refusals.specs.declared.Refusal.the-variants.{Parameter, WrittenLength, ListTooShort}
 use Rattle.refusals.specs.declared.Checked.{Checked}
 use Rattle.refusals.specs.declared.Checked.the-variants.{Accepted, Refused}
-use Rattle.differential.specs.XorTable.{difference, largestCells, Holds}
+use Rattle.differential.specs.XorTable.{difference, largestCell, largestCells, Holds}
 use Rattle.differential.specs.declared.FoundCell.{FoundCell}
 use Rattle.differential.specs.declared.LargestCell.{LargestCell}
 use Rattle.differential.specs.declared.LargestCell.the-variants.{Reached, Declined}
@@ -38,6 +38,10 @@ listChecks n m rows room = boxChecks n m rows ++ ((ListTooShort unless leb (leng
 abbrev pub largestReply : LargestCell → Reply
 largestReply (Reached count a beta) = figures (count ∷ a ∷ beta ∷ [])
 largestReply (Declined e) = refusal (number e)
+
+-- what the call for the largest cell replies: the count, a and β, or the number of the refusal
+abbrev pub xorReply : ℕ → ℕ → List ℕ → Reply
+xorReply n m rows = replyAfter (first (boxChecks n m rows)) (shown (largestCell n m rows))
 
 -- what the list's answer says: the number of cells, or the number of the refusal
 abbrev pub listReply : CellList → Reply
@@ -64,6 +68,12 @@ pub record Swept (n m : ℕ) (rows work : List ℕ) : Type 0 where
 abbrev pub Inside : ℕ → ℕ → Type 0
 Inside size a = (x : ℕ) → x < size → bitXor x a < size
 
+-- values that can be counted in an array of a size: they are few enough that a count of 16 bits holds, and each is a place of the array
+pub record Countable (values : List ℕ) (size : ℕ) : Type 0 where
+  pub few : length values ≤ 256
+  pub sized : size ≤ 65536
+  pub placed : (x : ℕ) → x < length values → at values x < size
+
 -- the output differences under a, one for each input
 unfoldable pub differencesOf : List ℕ → ℕ → List ℕ
 unfolding listBelow difference
@@ -74,26 +84,51 @@ unfoldable pub occurrences : List ℕ → ℕ → ℕ
 unfolding countBelow
 occurrences values β = countBelow (length values) (λ x. eqb (at values x) β)
 
--- the cell of the value at x, in the row of a
-abbrev pub cellAt : ℕ → List ℕ → ℕ → Candidate
-cellAt a values x = record { figure = occurrences values (at values x); witness = a ∷ at values x ∷ [] }
-
--- in one row: r has a larger count than c, or the same and no larger β
-abbrev pub Leads : Candidate → Candidate → Type 0
-Leads r c = (c .figure < r .figure) ⊎ ((c .figure ≡ r .figure) × (at (r .witness) 1 ≤ at (c .witness) 1))
-
--- the one of two cells of a row that leads the other
-pub record Leading (c d r : Candidate) : Type 0 where
-  pub one-of : (r ≡ c) ⊎ (r ≡ d)
-  pub leads-c : Leads r c
-  pub leads-d : Leads r d
-
--- the cell of one of the first k values that leads those of all k
-pub record RowLargest (a : ℕ) (values : List ℕ) (k : ℕ) (r : Candidate) : Type 0 where
+-- top is the highest bit of a, as a power of two
+pub record HighestBit (a top : ℕ) : Type 0 where
   pub place : ℕ
-  pub inside : place < k
-  pub is : r ≡ cellAt a values place
-  pub leads : (x : ℕ) → x < k → Leads r (cellAt a values x)
+  pub power : top ≡ 2 ^ place
+  pub low : top ≤ a
+  pub high : a < 2 * top
+
+-- the y-th of the inputs that do not have the bit top: a 0 is put into y at its place
+unfoldable pub lowerInput : ℕ → ℕ → ℕ
+lowerInput top y = 2 * y - bitAnd y (top - 1)
+
+-- the output differences under a of the inputs that do not have the bit top
+unfoldable pub pairsOf : List ℕ → ℕ → ℕ → List ℕ
+unfolding listBelow difference lowerInput
+pairsOf rows a top = listBelow (length rows / 2) (λ y. difference rows a (lowerInput top y))
+
+-- one output difference for each pair of inputs x and x XOR a: of the two, that of the one without the highest bit of a
+pub record Paired (rows : List ℕ) (a : ℕ) (pairs : List ℕ) : Type 0 where
+  pub top : ℕ
+  pub highest : HighestBit a top
+  pub held : pairs ≡ pairsOf rows a top
+
+-- the largest count of a value among the values
+pub record LargestCount (values : List ℕ) (r : ℕ) : Type 0 where
+  pub most : (β : ℕ) → occurrences values β ≤ r
+  pub value : ℕ
+  pub reached : occurrences values value ≡ r
+
+-- the smallest value with this count, which is the largest
+pub record SmallestWith (values : List ℕ) (largest r : ℕ) : Type 0 where
+  pub reached : occurrences values r ≡ largest
+  pub first : (β : ℕ) → β < r → occurrences values β < largest
+
+-- r is the row's largest cell with its smallest β, found from the differences of its pairs, and is above the best cell before
+pub record RowLargest (a : ℕ) (pairs : List ℕ) (found r : Candidate) : Type 0 where
+  pub largest : ℕ
+  pub β : ℕ
+  pub is : r ≡ record { figure = 2 * largest; witness = a ∷ β ∷ [] }
+  pub above : found .figure < 2 * largest
+  pub most : LargestCount pairs largest
+  pub smallest : SmallestWith pairs largest β
+
+-- the best cell after the row of a: the one before, where the row has none above it, or the row's largest
+abbrev pub AfterRow : ℕ → List ℕ → Candidate → Candidate → Type 0
+AfterRow a pairs found r = ((r ≡ found) × ((β : ℕ) → 2 * occurrences pairs β ≤ found .figure)) ⊎ RowLargest a pairs found r
 
 -- whether the cell of the value at x is listed at x: no value before is the same, and its count is the largest
 unfoldable pub isListed : ℕ → List ℕ → ℕ → Bool

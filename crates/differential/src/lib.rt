@@ -4,16 +4,14 @@ use refusals::Refusal;
 use refusals::Written;
 ghost use mathlib.Core.Path.{_≡_};
 ghost use mathlib.Core.List.{[], _∷_};
-ghost use Prim.Native.Nat.{ℕ, _+_, _-_, _*_, _^_, _≤_, _<_};
+ghost use Prim.Native.Nat.{_+_, _-_, _*_, _^_, _≤_, _<_};
 ghost use lib.ListN.{length};
 ghost use lib.Seq.{sets};
 ghost use Rattle.boolean.specs.Sums.{countBelow, listBelow};
-ghost use Rattle.boolean.specs.Functions.{at};
-ghost use Rattle.boolean.specs.Selection.{best, higher, shown};
-ghost use Rattle.refusals.specs.Table.{first, boxChecks, replyAfter, contentAfter, written};
+ghost use Rattle.refusals.specs.Table.{first, replyAfter, contentAfter, written, Box};
 ghost use Rattle.differential.specs.XorTable.{xorRow, largestCells};
 ghost use Rattle.differential.specs.XorTable as spec;
-ghost use Rattle.differential.specs.Calls.{rowChecks, listChecks, largestReply, listReply, ListAfter, candidate, Swept, Inside, differencesOf, occurrences, cellAt, Leading, RowLargest, isListed, listedAt, listedRow, listed};
+ghost use Rattle.differential.specs.Calls.{rowChecks, listChecks, largestReply, xorReply, listReply, ListAfter, candidate, Swept, Inside, Countable, differencesOf, occurrences, HighestBit, Paired, LargestCount, SmallestWith, AfterRow, isListed, listedAt, listedRow, listed};
 
 // The best cell so far.
 pub struct FoundCell {
@@ -91,15 +89,34 @@ fn clear(counts: &mut [u16])
     }
 }
 
-// From counts of 0, one is added to the count of each difference.
-fn count_differences(differences: &[u16], counts: &mut [u16])
-    requires { ⌜ (length (now differences) ≤ 256) × ((x : ℕ) → x < length (now differences) → at (now differences) x < length (now counts)) × (now counts ≡ listBelow (length (now counts)) (λ β. 0)) ⌝ }
-    ensures { λ _. ⌜ now (counts .exit) ≡ listBelow (length (now (counts .entry))) (λ β. occurrences (now (differences .entry)) β) ⌝ }
+// From counts of 0, one is added to the count of each difference. The largest count is returned.
+fn count_differences(differences: &[u16], counts: &mut [u16]) -> u16
+    requires { ⌜ Countable (now differences) (length (now counts)) × (now counts ≡ listBelow (length (now counts)) (λ β. 0)) ⌝ }
+    ensures { λ r. ⌜ (now (counts .exit) ≡ listBelow (length (now (counts .entry))) (λ β. occurrences (now (differences .entry)) β)) × LargestCount (now (differences .entry)) r ⌝ }
 {
+    let mut largest: u16 = 0;
     let mut x = 0;
     while x < differences.len() {
         let beta = differences[x] as usize;
-        counts[beta] += 1;
+        let count = counts[beta] + 1;
+        counts[beta] = count;
+        if largest < count {
+            largest = count;
+        }
+        x += 1;
+    }
+    largest
+}
+
+// The way back: the count of each difference is set to 0, and no other is looked at.
+fn forget_differences(differences: &[u16], counts: &mut [u16])
+    requires { ⌜ Countable (now differences) (length (now counts)) × (now counts ≡ listBelow (length (now counts)) (λ β. occurrences (now differences) β)) ⌝ }
+    ensures { λ _. ⌜ now (counts .exit) ≡ listBelow (length (now (counts .entry))) (λ β. 0) ⌝ }
+{
+    let mut x = 0;
+    while x < differences.len() {
+        let counted = differences[x] as usize;
+        counts[counted] = 0;
         x += 1;
     }
 }
@@ -128,62 +145,80 @@ pub fn xor_row(n: u32, m: u32, rows: &[u16], a: u32, counts: &mut [u16]) -> Writ
     Written::Done
 }
 
-// The cell of the difference at x: how many inputs have the same.
-fn cell_at(a: u32, differences: &[u16], x: usize) -> FoundCell
-    requires { ⌜ (x < length (now differences)) × (length (now differences) ≤ 256) ⌝ }
-    ensures { λ r. ⌜ candidate r ≡ cellAt a (now (differences .entry)) x ⌝ }
+// The highest bit of a.
+fn highest_bit(a: u32) -> u32
+    requires { ⌜ 0 < a ⌝ }
+    ensures { λ r. ⌜ HighestBit a r ⌝ }
 {
-    let beta = differences[x];
-    let count = count_equal(differences, beta);
-    FoundCell {
-        count,
-        a,
-        beta: beta as u32,
+    let mut top: u32 = 1;
+    while top <= a / 2 {
+        top *= 2;
+    }
+    top
+}
+
+// The output differences under a, one for each pair of inputs x and x XOR a: the two inputs of a pair have the same.
+fn write_pairs(rows: &[u16], a: u32, pairs: &mut [u16])
+    requires { ⌜ Inside (length (now rows)) a × (0 < a) × (length (now rows) ≡ 2 * length (now pairs)) ⌝ }
+    ensures { λ _. ⌜ Paired (now (rows .entry)) a (now (pairs .exit)) ⌝ }
+{
+    let top = highest_bit(a) as usize;
+    let mut y = 0;
+    while y < pairs.len() {
+        let x = 2 * y - (y & (top - 1));
+        let other = x ^ (a as usize);
+        pairs[y] = rows[x] ^ rows[other];
+        y += 1;
     }
 }
 
-// Of two cells of a row the one with the larger count, and of two that are as large the one with the smaller beta.
-fn leading_of(found: FoundCell, other: FoundCell) -> FoundCell
-    ensures { λ r. ⌜ Leading (candidate found) (candidate other) (candidate r) ⌝ }
+// The smallest of the differences that are counted as often as the largest count says.
+fn smallest_with(differences: &[u16], counts: &[u16], largest: u16) -> u32
+    requires { ⌜ Countable (now differences) (length (now counts)) × (now counts ≡ listBelow (length (now counts)) (λ β. occurrences (now differences) β)) × LargestCount (now differences) largest × (0 < largest) ⌝ }
+    ensures { λ r. ⌜ SmallestWith (now (differences .entry)) largest r ⌝ }
 {
-    if other.count < found.count {
-        return found;
-    }
-    if found.count < other.count {
-        return other;
-    }
-    if other.beta < found.beta {
-        other
-    } else {
-        found
-    }
-}
-
-// The largest count of one row, with the smallest beta that has it. A beta that no input has counts 0 and is never the largest.
-fn row_largest(a: u32, differences: &[u16]) -> FoundCell
-    requires { ⌜ (0 < length (now differences)) × (length (now differences) ≤ 256) ⌝ }
-    ensures { λ r. ⌜ RowLargest a (now (differences .entry)) (length (now (differences .entry))) (candidate r) ⌝ }
-{
-    let mut found = cell_at(a, differences, 0);
-    let mut x = 1;
+    let mut smallest = counts.len();
+    let mut x = 0;
     while x < differences.len() {
-        found = leading_of(found, cell_at(a, differences, x));
+        let beta = differences[x] as usize;
+        if beta < smallest {
+            if counts[beta] == largest {
+                smallest = beta;
+            }
+        }
         x += 1;
     }
-    found
+    smallest as u32
 }
 
-// The best cell so far, or that of the next row where its count is larger.
-fn larger_of(found: FoundCell, row: FoundCell) -> FoundCell
-    ensures { λ r. ⌜ candidate r ≡ best higher (candidate found) (candidate row ∷ []) ⌝ }
+// The best cell so far, or the largest of the row of a where that counts more: only then its beta is looked for. A pair stands for two inputs.
+fn better_cell(a: u32, pairs: &[u16], counts: &[u16], largest: u16, found: FoundCell) -> FoundCell
+    requires { ⌜ Countable (now pairs) (length (now counts)) × (now counts ≡ listBelow (length (now counts)) (λ β. occurrences (now pairs) β)) × LargestCount (now pairs) largest ⌝ }
+    ensures { λ r. ⌜ AfterRow a (now (pairs .entry)) (candidate found) (candidate r) ⌝ }
 {
-    if found.count < row.count { row } else { found }
+    let count = 2 * (largest as u32);
+    if count <= found.count {
+        return found;
+    }
+    let beta = smallest_with(pairs, counts, largest);
+    FoundCell { count, a, beta }
+}
+
+// The same from counts of 0, which are 0 again afterwards, so that the next row needs no other counts.
+fn after_row(a: u32, pairs: &[u16], counts: &mut [u16], found: FoundCell) -> FoundCell
+    requires { ⌜ Countable (now pairs) (length (now counts)) × (now counts ≡ listBelow (length (now counts)) (λ β. 0)) ⌝ }
+    ensures { λ r. ⌜ AfterRow a (now (pairs .entry)) (candidate found) (candidate r) × (now (counts .exit) ≡ now (counts .entry)) ⌝ }
+{
+    let largest = count_differences(pairs, counts);
+    let better = better_cell(a, pairs, counts, largest, found);
+    forget_differences(pairs, counts);
+    better
 }
 
 // Every row in turn, from 1 to 2^n − 1. It starts from a count that every row exceeds.
-fn sweep_cells(n: u32, m: u32, rows: &[u16], differences: &mut [u16]) -> FoundCell
-    requires { ⌜ Swept n m (now rows) (now differences) ⌝ }
-    ensures { λ r. ⌜ (candidate r ≡ spec.largestCell n m (now (rows .entry))) × (now (differences .exit) ≡ differencesOf (now (rows .entry)) (2 ^ n - 1)) ⌝ }
+fn sweep_cells(n: u32, m: u32, rows: &[u16], pairs: &mut [u16], counts: &mut [u16]) -> FoundCell
+    requires { ⌜ Box n m (now rows) × (length (now rows) ≡ 2 * length (now pairs)) × (now counts ≡ listBelow (2 ^ m) (λ β. 0)) ⌝ }
+    ensures { λ r. ⌜ (candidate r ≡ spec.largestCell n m (now (rows .entry))) × Paired (now (rows .entry)) (2 ^ n - 1) (now (pairs .exit)) × (now (counts .exit) ≡ listBelow (2 ^ m) (λ β. 0)) ⌝ }
 {
     let inputs = boolean::power_of_two(n) as u32;
     let mut found = FoundCell {
@@ -193,23 +228,33 @@ fn sweep_cells(n: u32, m: u32, rows: &[u16], differences: &mut [u16]) -> FoundCe
     };
     let mut a: u32 = 1;
     while a < inputs {
-        write_differences(rows, a, differences);
-        found = larger_of(found, row_largest(a, differences));
+        write_pairs(rows, a, pairs);
+        found = after_row(a, pairs, counts, found);
         a += 1;
     }
     found
 }
 
+// The largest cell of a box that was checked. The arrays to work in are made once for all rows.
+fn find_largest(n: u32, m: u32, rows: &[u16]) -> FoundCell
+    requires { ⌜ Box n m (now rows) ⌝ }
+    ensures { λ r. ⌜ candidate r ≡ spec.largestCell n m (now (rows .entry)) ⌝ }
+{
+    let mut pairs = [0u16; 128];
+    let mut counts = [0u16; 65536];
+    let half = rows.len() / 2;
+    let outputs = boolean::power_of_two(m);
+    sweep_cells(n, m, rows, &mut pairs[..half], &mut counts[..outputs])
+}
+
 // The largest cell of a box, in ascending a, then beta.
 pub fn largest_cell(n: u32, m: u32, rows: &[u16]) -> LargestCell
-    ensures { λ r. ⌜ largestReply r ≡ replyAfter (first (boxChecks n m (now (rows .entry)))) (shown (spec.largestCell n m (now (rows .entry)))) ⌝ }
+    ensures { λ r. ⌜ largestReply r ≡ xorReply n m (now (rows .entry)) ⌝ }
 {
     if let Checked::Refused(e) = refusals::check_box(n, m, rows) {
         return LargestCell::Declined(e);
     }
-    let mut differences = [0u16; 256];
-    let size = rows.len();
-    let found = sweep_cells(n, m, rows, &mut differences[..size]);
+    let found = find_largest(n, m, rows);
     LargestCell::Reached {
         count: found.count,
         a: found.a,
@@ -316,7 +361,7 @@ fn list_with(n: u32, m: u32, rows: &[u16], differences: &mut [u16], list: &mut [
     ensures content { λ r. ⌜ ListAfter (first (listChecks n m (now (rows .entry)) (length (now (list .entry))))) (largestCells n m (now (rows .entry))) (now (list .entry)) (now (list .exit)) ⌝ }
     ensures work { λ r. ⌜ now (differences .exit) ≡ differencesOf (now (rows .entry)) (2 ^ n - 1) ⌝ }
 {
-    let found = sweep_cells(n, m, rows, differences);
+    let found = find_largest(n, m, rows);
     let largest = found.count;
     let count = count_cells(n, m, rows, differences, largest);
     if list.len() < count {

@@ -3,3 +3,5 @@ pub mod Theorems
 pub mod Components
 pub mod Magnitudes
 pub mod Nearest
+pub mod Runs
+pub mod Stepped

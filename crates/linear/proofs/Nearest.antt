@@ -3,7 +3,7 @@ use mathlib.Core.Path.{_≡_, refl, sym, ap, ap₂, _∙_, subst}
 use mathlib.Core.Bool.{true}
 use mathlib.Core.List.{List, [], _∷_, _++_, append-nil, List·Memᴰ, List·Memᴰ·head}
 use Prim.Native.Nat.{ℕ, suc, _+_, _*_, _-_, _/_, _^_, _<_, _≤_}
-use native.Mathlib.Nat.{le-refl}
+use native.Mathlib.Nat.{le-refl, add-sub-cancel}
 use native.Mathlib.Omega.{arith}
 use native.Mathlib.Decide.{decLt}
 use borrow.Author.Tests.{lt-ltb, le-ltb}
@@ -20,6 +20,7 @@ use Rattle.boolean.proofs.Dots.{bit-cases}
 use Rattle.boolean.proofs.Lists.{length-listBelow, getD-listBelow, listFrom-more, each-append}
 use Rattle.boolean.proofs.Selection.{best-stays, best-is, best-append, firstLeast-from, ranked-first}
 use Rattle.boolean.proofs.Walsh.{walsh-le}
+use Rattle.refusals.specs.Table.{Box}
 use Rattle.linear.specs.Nonlinearity.{pair, pairsOf, pairs, nonlinearity}
 use Rattle.linear.specs.Calls.{Largest, FirstPlace, Swept}
 use Rattle.linear.proofs.Pairs.{pairRank, in-pairsOf, mem-pairsOf, ascending-pairsOf, mem-pairs, pairs-nonempty}
@@ -161,11 +162,19 @@ pub record Sweeping (n m : ℕ) (rows : List ℕ) (start found : Candidate) (tab
   pub arrays : Swept n m rows table values
   pub c-low : 1 ≤ c
   pub c-high : c ≤ 2 ^ m
+  pub table-is : table ≡ listBelow (length rows) (λ x. component rows (c - 1) x)
   pub so-far : found ≡ best lower start (pairsBelow n rows c)
 
 module _ {n m : ℕ} {rows : List ℕ} {start : Candidate} where
-  pub sweep-starts : {table : List ℕ} {values : List ℤ} → Swept n m rows table values → Sweeping n m rows start start table values 1
-  sweep-starts h = record { arrays = h; c-low = le-refl 1; c-high = pow-pos m; so-far = pairs-none n rows start }
+  pub sweep-starts : {table : List ℕ} {values : List ℤ} → Box n m rows → length values ≡ 2 ^ n → table ≡ listBelow (length rows) (λ x. component rows 0 x)
+      → Sweeping n m rows start start table values 1
+  sweep-starts b room h = record {
+    arrays = record { box = b; table-size = ap length h ∙ length-listBelow (length rows) (component rows 0) ∙ b .size; out-size = room };
+    c-low = le-refl 1;
+    c-high = pow-pos m;
+    table-is = h;
+    so-far = pairs-none n rows start;
+  }
 
   module _ {found : Candidate} {table : List ℕ} {values : List ℤ} {c : ℕ} (t : Sweeping n m rows start found table values c) where
     pub sweep-next : {new : Candidate} {table′ : List ℕ} {values′ : List ℤ}
@@ -179,6 +188,7 @@ module _ {n m : ℕ} {rows : List ℕ} {start : Candidate} where
       };
       c-low = omega arith;
       c-high = omega arith;
+      table-is = p ∙ ap₂ (λ (k d : ℕ). listBelow k (λ x. component rows d x)) (sym (t .arrays .box .size)) (sym (add-sub-cancel c 1));
       so-far =
           e ∙ ap (λ (b : Candidate). best lower b (pairsOf n rows c)) (t .so-far) ∙ sym (best-append lower start (pairsBelow n rows c) (pairsOf n rows c))
           ∙ ap (best lower start) (sym (pairs-next n rows c (t .c-low)));

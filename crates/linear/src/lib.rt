@@ -4,18 +4,18 @@ use refusals::Refusal;
 use refusals::Written;
 ghost use mathlib.Core.Path.{_≡_};
 ghost use mathlib.Core.List.{[]};
-ghost use Prim.Native.Nat.{ℕ, _+_, _*_, _^_, _≤_, _<_};
-ghost use lib.IntN.{natAbs};
+ghost use Prim.Native.Nat.{_+_, _*_, _^_, _≤_, _<_};
+ghost use lib.Bits.{bitXor};
 ghost use lib.ListN.{length};
 ghost use Rattle.boolean.specs.Bits.{dot};
 ghost use Rattle.boolean.specs.Sums.{listBelow};
-ghost use Rattle.boolean.specs.Functions.{component, spectrum, valueAt};
+ghost use Rattle.boolean.specs.Functions.{at, component, spectrum};
 ghost use Rattle.boolean.specs.Selection.{best, lower};
 ghost use Rattle.refusals.specs.Table.{first, replyAfter, contentAfter, written, Box};
 ghost use Rattle.walsh.specs.Work.{Spectra};
 ghost use Rattle.linear.specs.Nonlinearity.{pairsOf, nonlinearityReply};
 ghost use Rattle.linear.specs.Nonlinearity as spec;
-ghost use Rattle.linear.specs.Calls.{componentChecks, leastPair, candidate, Swept, Largest, FirstPlace};
+ghost use Rattle.linear.specs.Calls.{componentChecks, stepTables, Stepping, leastPair, candidate, Swept, Largest, FirstPlace};
 
 // The best pair so far.
 pub struct Found {
@@ -50,8 +50,46 @@ pub fn write_component(rows: &[u16], c: u32, table: &mut [u8])
     }
 }
 
+// The step tables of a box, one after the other: the masks c − 1 and c differ in a run of ones from the lowest on, and step table k is the
+// component of the run of k + 1 ones.
+pub fn write_steps(m: u32, rows: &[u16], steps: &mut [u8])
+    requires { ⌜ (m ≤ 16) × (0 < length (now rows)) × (length (now rows) ≤ 256) × (length (now steps) ≡ m * length (now rows)) ⌝ }
+    ensures { λ _. ⌜ now (steps .exit) ≡ stepTables m (now (rows .entry)) ⌝ }
+{
+    let size = rows.len();
+    let mut i = 0;
+    while i < steps.len() {
+        let run = 2 * boolean::power_of_two((i / size) as u32) - 1;
+        steps[i] = component_at(rows[i % size], run as u32);
+        i += 1;
+    }
+}
+
+// Adds one truth table to another.
+fn add_table(other: &[u8], table: &mut [u8])
+    requires { ⌜ length (now table) ≡ length (now other) ⌝ }
+    ensures { λ _. ⌜ now (table .exit) ≡ listBelow (length (now (other .entry))) (λ x. bitXor (at (now (table .entry)) x) (at (now (other .entry)) x)) ⌝ }
+{
+    let mut x = 0;
+    while x < other.len() {
+        table[x] = table[x] ^ other[x];
+        x += 1;
+    }
+}
+
+// From the truth table of component c − 1 to that of component c. It is quicker than to count the ones of every row anew.
+pub fn next_component(m: u32, rows: &[u16], steps: &[u8], c: u32, table: &mut [u8])
+    requires { ⌜ Stepping m (now rows) (now steps) c (now table) ⌝ }
+    ensures { λ _. ⌜ now (table .exit) ≡ listBelow (length (now (rows .entry))) (λ x. component (now (rows .entry)) c x) ⌝ }
+{
+    let size = rows.len();
+    let start = u32::trailing_zeros(c) as usize * size;
+    let end = start + size;
+    add_table(&steps[start..end], table);
+}
+
 // The spectrum of component c, with the fixed table and an array for the truth table lent.
-pub fn component_spectrum(
+fn component_spectrum(
     fixed: &[i32; 2048],
     n: u32,
     m: u32,
@@ -64,6 +102,24 @@ pub fn component_spectrum(
     ensures { λ _. ⌜ (now (out .exit) ≡ spectrum n (component (now (rows .entry)) c)) × (now (table .exit) ≡ listBelow (2 ^ n) (λ x. component (now (rows .entry)) c x)) ⌝ }
 {
     write_component(rows, c, table);
+    walsh::descend(fixed, n, table, out);
+}
+
+// The spectrum of component c, from the truth table of component c − 1.
+fn next_spectrum(
+    fixed: &[i32; 2048],
+    n: u32,
+    m: u32,
+    rows: &[u16],
+    steps: &[u8],
+    c: u32,
+    table: &mut [u8],
+    out: &mut [i32],
+)
+    requires { ⌜ Swept n m (now rows) (now table) (now out) × Spectra (now fixed) × Stepping m (now rows) (now steps) c (now table) ⌝ }
+    ensures { λ _. ⌜ (now (out .exit) ≡ spectrum n (component (now (rows .entry)) c)) × (now (table .exit) ≡ listBelow (2 ^ n) (λ x. component (now (rows .entry)) c x)) ⌝ }
+{
+    next_component(m, rows, steps, c, table);
     walsh::descend(fixed, n, table, out);
 }
 
@@ -150,18 +206,21 @@ fn with_spectrum(found: Found, n: u32, m: u32, rows: &[u16], c: u32, values: &[i
     }
 }
 
-// Every component in turn, from 1 to 2^m − 1. It starts from a count that no pair has.
+// Every component in turn, from 1 to 2^m − 1, each from the one before. It starts from a count that no pair has.
 fn sweep(
     fixed: &[i32; 2048],
     n: u32,
     m: u32,
     rows: &[u16],
+    steps: &mut [u8],
     table: &mut [u8],
     values: &mut [i32],
 ) -> Found
-    requires { ⌜ Swept n m (now rows) (now table) (now values) × Spectra (now fixed) ⌝ }
+    requires { ⌜ Swept n m (now rows) (now table) (now values) × Spectra (now fixed) × (length (now steps) ≡ m * length (now rows)) ⌝ }
     ensures { λ r. ⌜ candidate r ≡ spec.nonlinearity n m (now (rows .entry)) ⌝ }
 {
+    write_steps(m, rows, steps);
+    write_component(rows, 0, table);
     let masks = boolean::power_of_two(m) as u32;
     let mut found = Found {
         count: rows.len() as u32 + 1,
@@ -171,7 +230,7 @@ fn sweep(
     };
     let mut c: u32 = 1;
     while c < masks {
-        component_spectrum(fixed, n, m, rows, c, table, values);
+        next_spectrum(fixed, n, m, rows, steps, c, table, values);
         found = with_spectrum(found, n, m, rows, c, values);
         c += 1;
     }
@@ -186,10 +245,20 @@ pub fn nonlinearity(n: u32, m: u32, rows: &[u16]) -> LeastPair
         return LeastPair::Declined(e);
     }
     let fixed = walsh::spectra();
+    let mut steps = [0u8; 4096];
     let mut table = [0u8; 256];
     let mut values = [0i32; 256];
     let size = rows.len();
-    let found = sweep(&fixed, n, m, rows, &mut table[..size], &mut values[..size]);
+    let total = m as usize * size;
+    let found = sweep(
+        &fixed,
+        n,
+        m,
+        rows,
+        &mut steps[..total],
+        &mut table[..size],
+        &mut values[..size],
+    );
     LeastPair::Reached {
         count: found.count,
         c: found.c,

@@ -1,7 +1,7 @@
 -- Document 01, "Where a call stops": the numbers, the checks in their order, and what a call replies and leaves.
 use Prim.Native.Nat.{ℕ, _^_, _≤_, _<_}
 use mathlib.Core.Path.{_≡_}
-use mathlib.Core.List.{List, [], _∷_}
+use mathlib.Core.List.{List, [], _∷_, _++_}
 use mathlib.Core.Bool.{Bool, true, false, _&&_}
 use lib.ListN.{length}
 use lib.Dec.{ltb, leb, eqb}
@@ -63,6 +63,10 @@ tableChecks n table =
     ∷ (ReadLength unless eqb (length table) (2 ^ n))
     ∷ (Value unless allBelow 2 table)
     ∷ []
+
+-- the checks of a call that reads a truth table and writes 2^n values: the truth table's, then the written array
+unfoldable pub tableCallChecks : ℕ → List ℕ → ℕ → List Check
+tableCallChecks n table room = tableChecks n table ++ ((WrittenLength unless eqb room (2 ^ n)) ∷ [])
 
 -- what a call replies: its figures in the document's order, or the number of the refusal alone
 pub data Reply : Type 0 where

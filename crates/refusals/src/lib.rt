@@ -1,8 +1,6 @@
 // The numbered refusals, the checks that many calls share, and the answer of a call that only writes.
 ghost use mathlib.Core.Path.{_≡_};
-ghost use mathlib.Core.Bool.{Bool};
-ghost use Prim.Native.Nat.{ℕ, _^_, _≤_};
-ghost use Rattle.refusals.specs.Table.{number, first, inRange, allBelow, boxChecks, tableChecks};
+ghost use Rattle.refusals.specs.Table.{number, first, inRange, allBelow, boxChecks, tableChecks, tableCallChecks};
 
 pub enum Refusal {
     InputWidth,
@@ -123,6 +121,19 @@ pub fn check_table(n: u32, table: &[u8]) -> Checked
     }
     if !values_below(table, 2) {
         return Checked::Refused(Refusal::Value);
+    }
+    Checked::Accepted
+}
+
+// The checks of a call that reads a truth table and writes as many values: 1, 3, 4 and 7.
+pub fn check_table_call(n: u32, table: &[u8], room: usize) -> Checked
+    ensures { λ r. ⌜ r ≡ first (tableCallChecks n (now (table .entry)) room) ⌝ }
+{
+    if let Checked::Refused(e) = check_table(n, table) {
+        return Checked::Refused(e);
+    }
+    if room != boolean::power_of_two(n) {
+        return Checked::Refused(Refusal::WrittenLength);
     }
     Checked::Accepted
 }

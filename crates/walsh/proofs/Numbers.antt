@@ -1,16 +1,17 @@
 -- The number of a function of three inputs: read from the highest input down, one bit at a time.
 -- Assumes nothing.
-use mathlib.Core.Path.{_≡_, sym, ap, ap₂, _∙_, subst}
+use mathlib.Core.Path.{_≡_, refl, sym, ap, ap₂, _∙_, subst}
 use mathlib.Core.List.{List}
 use Prim.Native.Nat.{ℕ, zero, suc, _+_, _-_, _*_, _/_, _%_, _^_, _≤_, _<_}
 use native.Mathlib.Nat.{le-refl, le-trans, div-div-eq-div-mul}
 use native.Mathlib.Omega.{arith}
-use lib.IntN.{ℤ}
+use lib.IntN.{ℤ, pos}
+use lib.ListN.{set}
 use lib.Pow.{pow-mono}
 use Rattle.boolean.specs.Functions.{at, valueAt, walsh}
-use Rattle.boolean.proofs.Walsh.{walsh-cong, walsh-le}
-use Rattle.boolean.proofs.Words.{word, word-is}
-use Rattle.walsh.specs.Work.{numbered, Spectra}
+use Rattle.boolean.proofs.Walsh.{walsh-cong}
+use Rattle.boolean.proofs.Filled.{Filled, filled-more}
+use Rattle.walsh.specs.Work.{numbered, withFour, Spectra}
 
 -- t has the values of the table from x on, up to the eighth
 pub record Numbered (table : List ℕ) (t x : ℕ) : Type 0 where
@@ -64,11 +65,29 @@ numbered-whole table t x s e = whole (subst (Numbered table t) e s)
     whole s = (s .small, λ k h. let j : 0 + k ≡ k = omega arith in s .bits k (omega arith) ∙ ap (at table) j)
 
 -- what the fixed table has for a function that has the number t
-pub looked-up : (fixed : List ℤ) (f : ℕ → ℕ) (t w : ℕ) → Spectra fixed → t < 256 → ((x : ℕ) → x < 8 → numbered t x ≡ f x) → w < 8
-    → word (valueAt fixed (t * 8 + w)) ≡ walsh 3 f w
-looked-up fixed f t w s small e h =
+entry-is : (fixed : List ℤ) (f : ℕ → ℕ) (t w : ℕ) → Spectra fixed → t < 256 → ((x : ℕ) → x < 8 → numbered t x ≡ f x) → w < 8
+    → valueAt fixed (t * 8 + w) ≡ walsh 3 f w
+entry-is fixed f t w s small e h =
     let row : (t * 8 + w) / 8 ≡ t = omega arith in
     let place : (t * 8 + w) % 8 ≡ w = omega arith in
-    let is : valueAt fixed (t * 8 + w) ≡ walsh 3 f w =
-    s .rule (t * 8 + w) (omega arith) ∙ ap₂ (λ (a b : ℕ). walsh 3 (numbered a) b) row place ∙ walsh-cong 3 (numbered t) f w e in
-    ap word is ∙ word-is (walsh 3 f w) (omega (arith, walsh-le 3 f w))
+    s .rule (t * 8 + w) (omega arith) ∙ ap₂ (λ (a b : ℕ). walsh 3 (numbered a) b) row place ∙ walsh-cong 3 (numbered t) f w e
+
+-- four of its entries, written where the array is filled up to
+module _ (fixed : List ℤ) (f : ℕ → ℕ) (t : ℕ) (s : Spectra fixed) (small : t < 256) (e : (x : ℕ) → x < 8 → numbered t x ≡ f x) where
+  one-more : (from to k i : ℕ) (out : List ℤ) → from ≡ t * 8 + to → i ≡ to + k → to + k < 8 → Filled (pos 0) (λ v. walsh 3 f v) 8 i out →
+      Filled (pos 0) (λ v. walsh 3 f v) 8 (to + k + 1) (set out (to + k) (valueAt fixed (from + k)))
+  one-more from to k i out place same inside filled =
+      let index : from + k ≡ t * 8 + (to + k) = omega arith in
+      filled-more (pos 0) (λ v. walsh 3 f v) 8 (to + k) out (subst (λ (j : ℕ). Filled (pos 0) (λ v. walsh 3 f v) 8 j out) same filled) inside _
+      (ap (valueAt fixed) index ∙ entry-is fixed f t (to + k) s small e inside)
+
+  pub four-more : (from to : ℕ) (out : List ℤ) → from ≡ t * 8 + to → to + 4 ≤ 8 → Filled (pos 0) (λ v. walsh 3 f v) 8 to out →
+      Filled (pos 0) (λ v. walsh 3 f v) 8 (to + 4) (withFour out to fixed from)
+  unfolding withFour
+  four-more from to out place inside filled =
+      let a = filled-more (pos 0) (λ v. walsh 3 f v) 8 to out filled (omega arith) _ (ap (valueAt fixed) place ∙ entry-is fixed f t to s small e (omega arith)) in
+      let b = one-more from to 1 _ _ place refl (omega arith) a in
+      let c = one-more from to 2 _ _ place (omega arith) (omega arith) b in
+      let d = one-more from to 3 _ _ place (omega arith) (omega arith) c in
+      let end : to + 3 + 1 ≡ to + 4 = omega arith in
+      subst (λ (j : ℕ). Filled (pos 0) (λ v. walsh 3 f v) 8 j (withFour out to fixed from)) end d

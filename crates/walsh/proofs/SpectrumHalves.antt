@@ -1,8 +1,8 @@
--- The spectrum's recursion above width 3: what each call on a half asks, and what the butterfly then has made. Assumes nothing.
+-- The spectrum above width 3, cut in two at h: what each call on a half asks, and what the butterfly then has made. Assumes nothing.
 use mathlib.Core.Path.{_≡_, sym, ap, ap₂, _∙_, subst}
 use mathlib.Core.List.{List, _++_}
 use Prim.Native.Nat.{ℕ, suc, _+_, _-_, _/_, _^_, _≤_, _<_}
-use native.Mathlib.Nat.{le-trans, zero-lt-suc}
+use native.Mathlib.Nat.{le-trans, zero-lt-suc, two-pow-succ}
 use native.Mathlib.Omega.{arith}
 use lib.ListN.{length, take, drop, length-drop}
 use lib.Seq.{length-take-le}
@@ -16,21 +16,24 @@ use Rattle.boolean.proofs.Walsh.{walsh-cong, walsh-le, walsh-low, walsh-high}
 use Rattle.walsh.specs.Work.{Ready, Halves, Crossed}
 use Rattle.walsh.proofs.Step as step
 
-module _ (n : ℕ) (table : List ℕ) (out : List ℤ) (r : Ready n table out) (ge : 3 ≤ n) where
-  abbrev pub h : ℕ
-  h = length table / 2
+-- half of the length
+pub middle : (n : ℕ) (table : List ℕ) (out : List ℤ) → Ready n table out → 3 ≤ n → length table / 2 ≡ 2 ^ (n - 1)
+middle n table out r ge =
+    let is-suc : n ≡ suc (n - 1) = omega arith in
+    step.half-is (n - 1) table (r .read .size ∙ ap (λ (k : ℕ). 2 ^ k) is-suc)
 
+module _ (n h : ℕ) (table : List ℕ) (out : List ℤ) (r : Ready n table out) (ge : 3 ≤ n) (half : h ≡ 2 ^ (n - 1)) where
   is-suc : n ≡ suc (n - 1)
   is-suc = omega arith
 
-  size : length table ≡ 2 ^ suc (n - 1)
-  size = r .read .size ∙ ap (λ (k : ℕ). 2 ^ k) is-suc
+  halves-whole : 2 ^ n ≡ h + h
+  halves-whole = ap (λ (k : ℕ). 2 ^ k) is-suc ∙ omega (arith, half, two-pow-succ (n - 1))
 
-  half : h ≡ 2 ^ (n - 1)
-  half = step.half-is (n - 1) table size
+  size : length table ≡ h + h
+  size = r .read .size ∙ halves-whole
 
   room : length out ≡ h + h
-  room = r .room ∙ sym (r .read .size) ∙ step.two-halves (n - 1) table size
+  room = r .room ∙ halves-whole
 
   abbrev pub lower : ℕ → ℤ
   lower w = walsh (n - 1) (at (take h table)) w
@@ -43,14 +46,14 @@ module _ (n : ℕ) (table : List ℕ) (out : List ℤ) (r : Ready n table out) (
     read = record {
       n-low = omega arith;
       n-high = omega (arith, r .read .n-high);
-      size = step.lower-length (n - 1) table size ∙ half;
+      size = length-take-le h table (omega (arith, size)) ∙ half;
       bits = step.take-entries 0 (λ b. b < 2) h table (zero-lt-suc 1) (r .read .bits);
     };
     room = length-take-le h out (omega (arith, room)) ∙ half;
   }
 
   pub lower-table-length : h ≡ length (take h table)
-  lower-table-length = sym (step.lower-length (n - 1) table size)
+  lower-table-length = sym (length-take-le h table (omega (arith, size)))
 
   pub lower-out-length : h ≡ length (take h out)
   lower-out-length = sym (length-take-le h out (omega (arith, room)))
@@ -70,7 +73,7 @@ module _ (n : ℕ) (table : List ℕ) (out : List ℤ) (r : Ready n table out) (
           read = record {
             n-low = omega arith;
             n-high = omega (arith, r .read .n-high);
-            size = step.upper-length (n - 1) table size ∙ half;
+            size = omega (arith, length-drop h table, size, half);
             bits = step.drop-entries 0 (λ b. b < 2) h table (r .read .bits);
           };
           room = ap length (step.upper-kept h out room lower l₁ as-lower) ∙ omega (arith, length-drop h out, room, half);
@@ -107,4 +110,4 @@ module _ (n : ℕ) (table : List ℕ) (out : List ℤ) (r : Ready n table out) (
           (λ k lt. walsh-low (n - 1) (at table) k (λ x l. r .read .bits x) (omega (arith, half)) ∙ ap₂ (λ (a b : ℤ). a +ℤ b) (lower-is k) (upper-is k))
           (λ k lt. ap (λ (j : ℕ). walsh (suc (n - 1)) (at table) (j + k)) half
           ∙ walsh-high (n - 1) (at table) k (λ x l. r .read .bits x) (omega (arith, half)) ∙ ap₂ (λ (a b : ℤ). a -ℤ b) (lower-is k) (upper-is k))
-          ∙ ap₂ (λ (j k : ℕ). listBelow j (λ w. walsh k (at table) w)) (sym (step.two-halves (n - 1) table size) ∙ r .read .size) (sym is-suc)
+          ∙ ap₂ (λ (j k : ℕ). listBelow j (λ w. walsh k (at table) w)) (sym halves-whole) (sym is-suc)

@@ -1,11 +1,14 @@
--- The integer transform's recursion above width 0: what each call on a half asks, and what the butterfly then has made. Assumes nothing.
+-- The integer transform above width 0, cut in two at h: what each call on a half asks, and what the butterfly then has made.
+-- Assumes nothing.
 use mathlib.Core.Path.{_≡_, sym, ap, ap₂, _∙_, subst}
 use mathlib.Core.List.{List, _++_}
-use Prim.Native.Nat.{ℕ, suc, _+_, _-_, _*_, _/_, _^_, _≤_}
-use native.Mathlib.Nat.{le-trans, mul-le-mul-right}
+use Prim.Native.Nat.{ℕ, suc, _+_, _-_, _*_, _/_, _^_, _≤_, _<_}
+use native.Mathlib.Nat.{le-trans, mul-le-mul-right, two-pow-succ}
 use native.Mathlib.Omega.{arith}
-use lib.ListN.{length, take, drop}
+use lib.ListN.{length, take, drop, length-drop}
+use lib.Seq.{length-take-le}
 use lib.Arith.{lt-one}
+use lib.Dec.{lit<}
 use lib.Pow.{pow-mono}
 use lib.IntN.{ℤ, pos, _+ℤ_, _-ℤ_, natAbs}
 use borrow.Rule.Slice.PartMut.{putMid}
@@ -17,21 +20,18 @@ use Rattle.boolean.proofs.Transform.{transform-cong, transform-low, transform-h
 use Rattle.walsh.specs.Work.{Halves, Crossed, Summable}
 use Rattle.walsh.proofs.Step as step
 
-module _ (n : ℕ) (values : List ℤ) (s : Summable n values) (nz : n ≡ 0 → ⊥) where
-  abbrev pub h : ℕ
-  h = length values / 2
+-- half of the length
+pub middle : (n : ℕ) (values : List ℤ) → Summable n values → (n ≡ 0 → ⊥) → length values / 2 ≡ 2 ^ (n - 1)
+middle n values s nz =
+    let is-suc : n ≡ suc (n - 1) = omega arith in
+    step.half-is (n - 1) values (s .size ∙ ap (λ (k : ℕ). 2 ^ k) is-suc)
 
+module _ (n h : ℕ) (values : List ℤ) (s : Summable n values) (nz : n ≡ 0 → ⊥) (half : h ≡ 2 ^ (n - 1)) where
   is-suc : n ≡ suc (n - 1)
   is-suc = omega arith
 
-  size : length values ≡ 2 ^ suc (n - 1)
-  size = s .size ∙ ap (λ (k : ℕ). 2 ^ k) is-suc
-
-  half : h ≡ 2 ^ (n - 1)
-  half = step.half-is (n - 1) values size
-
   room : length values ≡ h + h
-  room = step.two-halves (n - 1) values size
+  room = s .size ∙ ap (λ (k : ℕ). 2 ^ k) is-suc ∙ omega (arith, half, two-pow-succ (n - 1))
 
   half-total : 2 ^ (n - 1) * s .bound ≤ 2 ^ 29
   half-total =
@@ -52,11 +52,11 @@ module _ (n : ℕ) (values : List ℤ) (s : Summable n values) (nz : n ≡ 0 →
   upper-small : (k : ℕ) → natAbs (valueAt (drop h values) k) ≤ s .bound
   upper-small = step.drop-entries (pos 0) (λ z. natAbs z ≤ s .bound) h values (s .small)
 
-  pub lower-summable : Summable (n - 1) (take h values)
-  lower-summable = half-summable (take h values) (step.lower-length (n - 1) values size) lower-small
-
   pub lower-length : h ≡ length (take h values)
-  lower-length = sym (step.lower-length (n - 1) values size)
+  lower-length = sym (length-take-le h values (omega (arith, room)))
+
+  pub lower-summable : Summable (n - 1) (take h values)
+  lower-summable = half-summable (take h values) (sym lower-length) lower-small
 
   module _ (l₁ : List ℤ) (e₁ : l₁ ≡ listBelow (2 ^ (n - 1)) lower) where
     as-lower : l₁ ≡ listBelow h lower
@@ -69,7 +69,8 @@ module _ (n : ℕ) (values : List ℤ) (s : Summable n values) (nz : n ≡ 0 →
     upper-is-kept = step.upper-kept h values room lower l₁ as-lower
 
     pub upper-summable : Summable (n - 1) (take (length after-lower - h) (drop h after-lower))
-    upper-summable = subst (Summable (n - 1)) (sym upper-is-kept) (half-summable (drop h values) (step.upper-length (n - 1) values size) upper-small)
+    upper-summable =
+        subst (Summable (n - 1)) (sym upper-is-kept) (half-summable (drop h values) (omega (arith, length-drop h values, room)) upper-small)
 
     module _ (l₂ : List ℤ) (e₂ : l₂ ≡ listBelow (2 ^ (n - 1)) (λ w. transform (n - 1) (valueAt (take (length after-lower - h) (drop h after-lower))) w)) where
       as-upper : l₂ ≡ listBelow h upper
@@ -112,3 +113,29 @@ one-value n values s e = subst (λ (k : ℕ). length values ≡ 2 ^ k → values
     one : length values ≡ 2 ^ 0 → values ≡ listBelow (2 ^ 0) (λ w. transform 0 (valueAt values) w)
     one size = list-is (pos 0) (2 ^ 0) (λ w. transform 0 (valueAt values) w) values size
         (λ i lt. subst (λ (j : ℕ). valueAt values j ≡ transform 0 (valueAt values) j) (sym (lt-one lt)) (sym (transform-zero (valueAt values))))
+
+-- at width 1 there are two, and crossing them is all
+pub two-values : (values new : List ℤ) → Summable 1 values → length new ≡ length values → Crossed 1 values new
+    → new ≡ listBelow (2 ^ 1) (λ w. transform 1 (valueAt values) w)
+two-values values new s kept crossed =
+    step.halves-are (pos 0) 1 (λ w. transform 1 (valueAt values) w) new (kept ∙ s .size)
+    (λ k lt. only (λ (j : ℕ). valueAt new j ≡ transform 1 (valueAt values) j) k lt
+    (crossed .sums 0 (lit< tt) ∙ sym (transform-low 0 (valueAt values) 0 (lit< tt) ∙ ap₂ (λ (a b : ℤ). a +ℤ b) first second)))
+    (λ k lt. only (λ (j : ℕ). valueAt new (1 + j) ≡ transform 1 (valueAt values) (1 + j)) k lt
+    (crossed .differences 0 (lit< tt) ∙ sym (transform-high 0 (valueAt values) 0 (lit< tt) ∙ ap₂ (λ (a b : ℤ). a -ℤ b) first second)))
+  where
+    first : transform 0 (valueAt values) 0 ≡ valueAt values 0
+    first = transform-zero (valueAt values)
+
+    second : transform 0 (λ x. valueAt values (1 + x)) 0 ≡ valueAt values 1
+    second = transform-zero (λ x. valueAt values (1 + x))
+
+    only : (P : ℕ → Type 0) (k : ℕ) → k < 1 → P 0 → P k
+    only P k lt p = subst P (sym (lt-one lt)) p
+
+-- they are small enough for that
+pub two-halves : (values : List ℤ) → Summable 1 values → Halves 1 values
+two-halves values s = record {
+  size = s .size;
+  small = λ k. le-trans (s .small k) (omega (arith, s .total));
+}

@@ -5,12 +5,8 @@ use lib.Dec.{eqb}
 use lib.IntN.{ℤ}
 use lib.ListN.{length}
 use Rattle.boolean.specs.Functions.{isSpectrum}
-use Rattle.refusals.specs.Table.{Check, _unless_, inRange, tableChecks}
+use Rattle.refusals.specs.Table.{Check, _unless_, inRange}
 use Rattle.refusals.specs.declared.Refusal.the-variants.{InputWidth, ReadLength, WrittenLength, NoFunction}
-
--- the spectrum of a truth table; the written array has room for that many values
-unfoldable pub spectrumChecks : ℕ → List ℕ → ℕ → List Check
-spectrumChecks n table room = tableChecks n table ++ ((WrittenLength unless eqb room (2 ^ n)) ∷ [])
 
 -- the truth table of a spectrum: the width and the two lengths, then whether a function has the values
 unfoldable pub inverseLengths : ℕ → ℕ → ℕ → List Check

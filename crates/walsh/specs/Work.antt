@@ -2,7 +2,7 @@
 use Prim.Native.Nat.{ℕ, _+_, _*_, _/_, _%_, _^_, _≤_, _<_}
 use mathlib.Core.Path.{_≡_}
 use mathlib.Core.List.{List}
-use lib.ListN.{length}
+use lib.ListN.{length, set}
 use lib.IntN.{ℤ, _+ℤ_, _-ℤ_, natAbs}
 use Rattle.boolean.specs.Functions.{valueAt, walsh}
 use Rattle.refusals.specs.Table.{Table}
@@ -14,6 +14,11 @@ numbered t x = t / 2 ^ x % 2
 -- the fixed table's rule: entry 8t + w is the spectrum value at w of the function with the number t
 pub record Spectra (fixed : List ℤ) : Type 0 where
   pub rule : (k : ℕ) → k < 2048 → valueAt fixed k ≡ walsh 3 (numbered (k / 8)) (k % 8)
+
+-- an array, with four entries of the fixed table from one place on written to it from another on
+unfoldable pub withFour : List ℤ → ℕ → List ℤ → ℕ → List ℤ
+withFour out to fixed from =
+    set (set (set (set out to (valueAt fixed from)) (to + 1) (valueAt fixed (from + 1))) (to + 2) (valueAt fixed (from + 2))) (to + 3) (valueAt fixed (from + 3))
 
 -- an accepted truth table, and an array that is as long
 pub record Ready (n : ℕ) (table : List ℕ) (out : List ℤ) : Type 0 where

@@ -5,7 +5,6 @@ use refusals::Checked;
 use refusals::Refusal;
 use refusals::Written;
 ghost use mathlib.Core.Path.{_≡_};
-ghost use mathlib.Core.Bool.{Bool};
 ghost use mathlib.Core.List.{[]};
 ghost use Prim.Native.Nat.{ℕ, _+_, _*_, _^_, _≤_, _<_};
 ghost use lib.Dec.{leb, eqb};
@@ -15,9 +14,9 @@ ghost use Rattle.boolean.specs.Bits.{dot};
 ghost use Rattle.boolean.specs.Sums.{sumBelow, listBelow, every};
 ghost use Rattle.boolean.specs.Functions.{at, valueAt, agreement, signBit, inverse};
 ghost use Rattle.boolean.specs.Functions as functions;
-ghost use Rattle.refusals.specs.Table.{first, replyAfter, contentAfter, written, Table};
-ghost use Rattle.walsh.specs.Calls.{spectrumChecks, inverseLengths, functionCheck, inverseChecks};
-ghost use Rattle.walsh.specs.Work.{numbered, Spectra, Ready, Halves, Crossed, Summable, Invertible};
+ghost use Rattle.refusals.specs.Table.{tableCallChecks, first, replyAfter, contentAfter, written, Table};
+ghost use Rattle.walsh.specs.Calls.{inverseLengths, functionCheck, inverseChecks};
+ghost use Rattle.walsh.specs.Work.{numbered, withFour, Spectra, Ready, Halves, Crossed, Summable, Invertible};
 
 // A byte as an index.
 fn wide(x: u8) -> usize
@@ -40,17 +39,40 @@ fn number(table: &[u8]) -> usize
     t
 }
 
+// Four entries of the fixed table go to four places of the array. All are read before any is written, so that the machine can move them at
+// once: the sums that follow read them together, and would wait for four single writes.
+fn copy_four(fixed: &[i32; 2048], from: usize, out: &mut [i32], to: usize)
+    requires { ⌜ (from + 4 ≤ 2048) × (to + 4 ≤ length (now out)) ⌝ }
+    ensures { λ _. ⌜ now (out .exit) ≡ withFour (now (out .entry)) to (now (fixed .entry)) from ⌝ }
+{
+    let a = fixed[from];
+    let b = fixed[from + 1];
+    let c = fixed[from + 2];
+    let d = fixed[from + 3];
+    out[to] = a;
+    out[to + 1] = b;
+    out[to + 2] = c;
+    out[to + 3] = d;
+}
+
 // Three inputs: the fixed table is read.
 fn by_table(fixed: &[i32; 2048], table: &[u8], out: &mut [i32])
     requires { ⌜ Ready 3 (now table) (now out) × Spectra (now fixed) ⌝ }
     ensures { λ _. ⌜ now (out .exit) ≡ functions.spectrum 3 (at (now (table .entry))) ⌝ }
 {
     let first = number(table) * 8;
-    let mut w: usize = 0;
-    while w < 8 {
-        out[w] = fixed[first + w];
-        w += 1;
-    }
+    copy_four(fixed, first, out, 0);
+    copy_four(fixed, first + 4, out, 4);
+}
+
+// Four inputs: the table is cut, and the fixed table is read for each half. The lengths are written out, so that neither a loop nor a call is left.
+fn by_two_rows(fixed: &[i32; 2048], table: &[u8], out: &mut [i32])
+    requires { ⌜ Ready 4 (now table) (now out) × Spectra (now fixed) ⌝ }
+    ensures { λ _. ⌜ now (out .exit) ≡ functions.spectrum 4 (at (now (table .entry))) ⌝ }
+{
+    by_table(fixed, &table[..8], &mut out[..8]);
+    by_table(fixed, &table[8..], &mut out[8..]);
+    butterfly(out, 8);
 }
 
 // One spectrum value by its definition: +1 where the table equals w·x, and −1 elsewhere.
@@ -110,6 +132,8 @@ pub fn descend(fixed: &[i32; 2048], n: u32, table: &[u8], out: &mut [i32])
         by_definition(n, table, out);
     } else if n == 3 {
         by_table(fixed, table, out);
+    } else if n == 4 {
+        by_two_rows(fixed, table, out);
     } else {
         let h = table.len() / 2;
         descend(fixed, n - 1, &table[..h], &mut out[..h]);
@@ -125,12 +149,52 @@ pub fn spectra() -> [i32; 2048]
     fixed::spectra()
 }
 
-// The Walsh-Hadamard transform of any integers that are small enough, in place.
+// The transform of two values: their sum and their difference.
+fn transform_of_two(values: &mut [i32])
+    requires { ⌜ Summable 1 (now values) ⌝ }
+    ensures { λ _. ⌜ now (values .exit) ≡ listBelow (2 ^ 1) (λ w. functions.transform 1 (valueAt (now (values .entry))) w) ⌝ }
+{
+    butterfly(values, 1);
+}
+
+// The transform of four values: that of each half, and then the halves crossed.
+fn transform_of_four(values: &mut [i32])
+    requires { ⌜ Summable 2 (now values) ⌝ }
+    ensures { λ _. ⌜ now (values .exit) ≡ listBelow (2 ^ 2) (λ w. functions.transform 2 (valueAt (now (values .entry))) w) ⌝ }
+{
+    transform_of_two(&mut values[..2]);
+    transform_of_two(&mut values[2..]);
+    butterfly(values, 2);
+}
+
+// The same of eight values.
+fn transform_of_eight(values: &mut [i32])
+    requires { ⌜ Summable 3 (now values) ⌝ }
+    ensures { λ _. ⌜ now (values .exit) ≡ listBelow (2 ^ 3) (λ w. functions.transform 3 (valueAt (now (values .entry))) w) ⌝ }
+{
+    transform_of_four(&mut values[..4]);
+    transform_of_four(&mut values[4..]);
+    butterfly(values, 4);
+}
+
+// The same of sixteen. The lengths are written out, so that all of it compiles to sums and differences, with neither a loop nor a call.
+fn transform_of_sixteen(values: &mut [i32])
+    requires { ⌜ Summable 4 (now values) ⌝ }
+    ensures { λ _. ⌜ now (values .exit) ≡ listBelow (2 ^ 4) (λ w. functions.transform 4 (valueAt (now (values .entry))) w) ⌝ }
+{
+    transform_of_eight(&mut values[..8]);
+    transform_of_eight(&mut values[8..]);
+    butterfly(values, 8);
+}
+
+// The Walsh-Hadamard transform of any integers that are small enough, in place. Halves are cut until sixteen values are left.
 pub fn transform(n: u32, values: &mut [i32])
     requires { ⌜ Summable n (now values) ⌝ }
     ensures { λ _. ⌜ now (values .exit) ≡ listBelow (2 ^ n) (λ w. functions.transform n (valueAt (now (values .entry))) w) ⌝ }
 {
-    if n != 0 {
+    if n == 4 {
+        transform_of_sixteen(values);
+    } else if n != 0 {
         let h = values.len() / 2;
         transform(n - 1, &mut values[..h]);
         transform(n - 1, &mut values[h..]);
@@ -138,25 +202,12 @@ pub fn transform(n: u32, values: &mut [i32])
     }
 }
 
-// The checks of the spectrum call.
-fn check_spectrum(n: u32, table: &[u8], room: usize) -> Checked
-    ensures { λ r. ⌜ r ≡ first (spectrumChecks n (now (table .entry)) room) ⌝ }
-{
-    if let Checked::Refused(e) = refusals::check_table(n, table) {
-        return Checked::Refused(e);
-    }
-    if room != boolean::power_of_two(n) {
-        return Checked::Refused(Refusal::WrittenLength);
-    }
-    Checked::Accepted
-}
-
 // The spectrum of a truth table.
 pub fn spectrum(n: u32, table: &[u8], out: &mut [i32]) -> Written
-    ensures reply { λ r. ⌜ written r ≡ replyAfter (first (spectrumChecks n (now (table .entry)) (length (now (out .entry))))) [] ⌝ }
-    ensures content { λ r. ⌜ now (out .exit) ≡ contentAfter (first (spectrumChecks n (now (table .entry)) (length (now (out .entry))))) (functions.spectrum n (at (now (table .entry)))) (now (out .entry)) ⌝ }
+    ensures reply { λ r. ⌜ written r ≡ replyAfter (first (tableCallChecks n (now (table .entry)) (length (now (out .entry))))) [] ⌝ }
+    ensures content { λ r. ⌜ now (out .exit) ≡ contentAfter (first (tableCallChecks n (now (table .entry)) (length (now (out .entry))))) (functions.spectrum n (at (now (table .entry)))) (now (out .entry)) ⌝ }
 {
-    if let Checked::Refused(e) = check_spectrum(n, table, out.len()) {
+    if let Checked::Refused(e) = refusals::check_table_call(n, table, out.len()) {
         return Written::Declined(e);
     }
     let fixed = spectra();

@@ -6,36 +6,35 @@ use borrow.Author.Needs.{needs}
 use borrow.Author.Tests.{eqb-true}
 use lib.ListN.{length}
 use Rattle.boolean.specs.Functions.{at, normalForm}
-use Rattle.refusals.specs.Table.{first, tableChecks}
+use Rattle.refusals.specs.Table.{tableCallChecks, first, tableChecks}
 use Rattle.refusals.specs.declared.Checked.the-variants.{Accepted}
 use Rattle.refusals.proofs.Checks.{passed, accepted-after, table, reply-refused, reply-accepted, content-refused, content-accepted}
-use Rattle.algebraic.specs.Calls.{normalChecks}
 use Rattle.algebraic.proofs.normal_form.Statement.{statement}
 use Rattle.algebraic.proofs.normal_form.Tie as tie
 
-check-normal-requires : tie.Need-check-normal-requires
-check-normal-requires c κs = search needs
+check-table-call-requires : tie.Need-check-table-call-requires
+check-table-call-requires c κs = search needs
 
 enum-known-e : tie.Need-enum-known-e
 enum-known-e c = search needs
 
 returns : tie.Need-returns
 returns c =
-    let h = sym (c .before .before .before .check-normal .ensures) ∙ c .before .e .given .1 in
+    let h = sym (c .before .before .before .check-table-call .ensures) ∙ c .before .e .given .1 in
     (reply-refused h [], content-refused h _ _)
 
 enum-told : tie.Need-enum-told
 enum-told c = search needs
 
 -- accepted: the table and the array have 2^n places
-sizes : (n : ℕ) (values out : List ℕ) → first (normalChecks n values (length out)) ≡ Accepted → (length values ≡ 2 ^ n) × (length out ≡ 2 ^ n)
-unfolding normalChecks
+sizes : (n : ℕ) (values out : List ℕ) → first (tableCallChecks n values (length out)) ≡ Accepted → (length values ≡ 2 ^ n) × (length out ≡ 2 ^ n)
+unfolding tableCallChecks
 sizes n values out h = (table n values _ h .size, eqb-true (length out) (2 ^ n) (passed _ (accepted-after (tableChecks n values) _ h) .0))
 
 accepted : (c : tie.After-enum-told) →
     let a = c .before .before .before .before .before .args in
-    first (normalChecks (a .n) (a .table .now) (length (a .out .now))) ≡ Accepted
-accepted c = sym (c .before .before .check-normal .ensures) ∙ c .enum-told .given .1
+    first (tableCallChecks (a .n) (a .table .now) (length (a .out .now))) ≡ Accepted
+accepted c = sym (c .before .before .check-table-call .ensures) ∙ c .enum-told .given .1
 
 sized : (c : tie.After-enum-told) →
     let a = c .before .before .before .before .before .args in
@@ -66,7 +65,7 @@ pub normal-form-spec : {M : Type 1} → statement M
 normal-form-spec =
     tie.close
     (tie.spec
-    check-normal-requires
+    check-table-call-requires
     enum-known-e
     returns
     enum-told

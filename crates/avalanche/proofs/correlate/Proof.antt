@@ -1,52 +1,63 @@
 -- `avalanche::correlate` meets its contract: the spectrum, its squares, and their transform. Assumes nothing.
-use mathlib.Core.Path.{_∙_}
+use mathlib.Core.Path.{_≡_, sym, ap, _∙_, subst}
+use mathlib.Core.List.{List}
+use Prim.Native.Nat.{ℕ}
+use Rattle.boolean.specs.Functions.{at, component, spectrum}
+use Rattle.refusals.specs.Table.{Table}
+use Rattle.linear.proofs.Components.{table-is, table-spectrum}
 use Rattle.avalanche.proofs.Correlating.{spectrum-small, squares-summable, squares-correlate}
 use borrow.Author.Needs.{needs}
 use Rattle.avalanche.proofs.correlate.Statement.{statement}
 use Rattle.avalanche.proofs.correlate.Tie as tie
 
-component-spectrum-requires : tie.Need-component-spectrum-requires
-component-spectrum-requires c κs = search needs
+descend-requires : tie.Need-descend-requires
+descend-requires c κs =
+    let start = c .before .before .before in
+    let a = start .args in (
+      record {
+        read = subst (Table (a .n)) (sym (start .pre .2)) (table-is (a .n) (a .rows .now) (a .c) (a .m) (start .pre .0 .box));
+        room = start .pre .0 .out-size;
+      },
+      start .pre .1,
+    )
+
+-- the spectrum of the truth table is the spectrum-is
+spectrum-is : (c : tie.After-descend) →
+    let start = c .before .before .before .before in
+    c .descend .last .1 .1 .1 .0 ≡ spectrum (start .args .n) (component (start .args .rows .now) (start .args .c))
+spectrum-is c =
+    let start = c .before .before .before .before in
+    let a = start .args in
+    c .descend .ensures ∙ ap (λ (t : List ℕ). spectrum (a .n) (at t)) (start .pre .2) ∙ table-spectrum (a .n) (a .rows .now) (a .c)
 
 square-all-requires : tie.Need-square-all-requires
 square-all-requires c κs =
-    let done = c .before .before .before .before in
-    let start = done .before .before .before .before .before in
+    let done = c .before .before in
+    let start = done .before .before .before .before in
     let a = start .args in
-    spectrum-small (a .n) (a .rows .now) (a .c) (start .pre .0 .box .n-high) (done .component-spectrum .ensures .0)
+    spectrum-small (a .n) (a .rows .now) (a .c) (start .pre .0 .box .n-high) (spectrum-is done)
 
 transform-requires : tie.Need-transform-requires
 transform-requires c κs =
     let squared = c .before .before in
-    let done = squared .before .before .before .before .before in
-    let start = done .before .before .before .before .before in
+    let done = squared .before .before .before in
+    let start = done .before .before .before .before in
     let a = start .args in
-    squares-summable (a .n) (a .rows .now) (a .c) (start .pre .0 .box .n-high) (done .component-spectrum .ensures .0) (squared .square-all .ensures)
+    squares-summable (a .n) (a .rows .now) (a .c) (start .pre .0 .box .n-high) (spectrum-is done) (squared .square-all .ensures)
 
 same-length : tie.Need-same-length
 same-length c = search needs
 
-same-length-2 : tie.Need-same-length-2
-same-length-2 c = search needs
-
 returns : tie.Need-returns
 returns c =
     let squared = c .before .before .before .before in
-    let done = squared .before .before .before .before .before in
-    let start = done .before .before .before .before .before in
-    let a = start .args in (
-      c .before .transform .ensures
-          ∙ squares-correlate (a .n) (a .rows .now) (a .c) (start .pre .0 .box .n-high) (done .component-spectrum .ensures .0) (squared .square-all .ensures),
-      done .component-spectrum .ensures .1,
-    )
+    let done = squared .before .before .before in
+    let start = done .before .before .before .before in
+    let a = start .args in
+    c .before .transform .ensures
+    ∙ squares-correlate (a .n) (a .rows .now) (a .c) (start .pre .0 .box .n-high) (spectrum-is done) (squared .square-all .ensures)
 
 pub correlate-spec : {M : Type 1} → statement M
 correlate-spec =
     tie.close
-    (tie.spec
-    component-spectrum-requires
-    square-all-requires
-    transform-requires
-    same-length
-    same-length-2
-    returns)
+    (tie.spec descend-requires square-all-requires transform-requires same-length returns)

@@ -1,6 +1,6 @@
 -- `avalanche::square_all` meets its contract: each turn replaces one value by its square. Assumes nothing.
 use mathlib.Core.Path.{_≡_, ap, _∙_}
-use Prim.Native.Nat.{_-_, _≤_}
+use Prim.Native.Nat.{ℕ, _-_, _≤_}
 use native.Mathlib.Nat.{le-refl, le-trans, le-of-eq}
 use native.Mathlib.Omega.{arith}
 use lib.IntN.{ℤ, pos, _*ℤ_, natAbs}
@@ -12,8 +12,8 @@ use borrow.Author.Needs.{needs}
 use Rattle.avalanche.proofs.square_all.Statement.{statement}
 use Rattle.avalanche.proofs.square_all.Tie as tie
 
-abbrev squared : ℤ → ℤ
-squared v = v *ℤ v
+abbrev squared : ℕ → ℤ → ℤ
+squared k v = v *ℤ v
 
 abbrev Inv-loop : tie.InvT-loop
 Inv-loop values₀ k₀ values k = Replaced (pos 0) squared values₀ k values
@@ -61,7 +61,7 @@ loop-again : tie.Need-loop-again Inv-loop μ-loop
 loop-again c =
     let at-loop = c .before .before in
     replaced-more (pos 0) squared (at-loop .before .args .values .now) (at-loop .loop .k) (at-loop .loop .values) (at-loop .loop .inv)
-    (omega (arith, c .before .loop-test .taken, at-loop .loop .inv .long)) _ (product-stored (read c) (small c) ∙ ap squared (kept c))
+    (omega (arith, c .before .loop-test .taken, at-loop .loop .inv .long)) _ (product-stored (read c) (small c) ∙ ap (squared 0) (kept c))
 
 same-length : tie.Need-same-length Inv-loop μ-loop
 same-length c = c .before .loop .inv .long

@@ -1,18 +1,34 @@
--- `avalanche::sweep` meets its contract: it has the best change of the components before c, from the figure 0. Assumes nothing.
-use Prim.Native.Nat.{_-_}
-use mathlib.Core.Path.{sym, _∙_}
+-- `avalanche::sweep` meets its contract: it has the best change of the components before c, from the figure 0, and the truth table of the last of
+-- them. Assumes nothing.
+use Prim.Native.Nat.{ℕ, _-_}
+use mathlib.Core.Path.{sym, ap, _∙_}
 use native.Mathlib.Omega.{arith}
+use borrow.Author.Needs.{needs}
+use Rattle.boolean.specs.Sums.{listBelow}
+use Rattle.boolean.specs.Functions.{component}
+use Rattle.linear.proofs.Components.{written-is}
+use Rattle.linear.proofs.Stepped.{box-some}
 use Rattle.avalanche.specs.Calls.{candidate}
 use Rattle.avalanche.proofs.Sweeps.{Sweeping, sweep-starts, sweep-next, sweep-ends}
-use borrow.Author.Needs.{needs}
 use Rattle.avalanche.proofs.sweep.Statement.{statement}
 use Rattle.avalanche.proofs.sweep.Tie as tie
 
 abbrev Inv-loop : tie.InvT-loop
-Inv-loop fixed n m rows i j table₀ values₀ masks found₀ c₀ table values found c = Sweeping n m rows i j (candidate found) table₀ table values₀ values c
+Inv-loop fixed n m rows i j steps table₀ values₀ masks found₀ c₀ table values found c = Sweeping n m rows i j (candidate found) table values₀ values c
 
 abbrev μ-loop : tie.MeasureT-loop
-μ-loop fixed n m rows i j table₀ values₀ masks found₀ c₀ table values found c = masks - c
+μ-loop fixed n m rows i j steps table₀ values₀ masks found₀ c₀ table values found c = masks - c
+
+write-steps-requires : tie.Need-write-steps-requires Inv-loop μ-loop
+write-steps-requires c κs =
+    let start = c .before .before .before .before in
+    let box = start .pre .0 .box in
+    (box .m-high, box-some box, box .small, start .pre .2)
+
+write-component-requires : tie.Need-write-component-requires Inv-loop μ-loop
+write-component-requires c κs =
+    let start = c .before .before .before .before .before .before .before .before in
+    start .pre .0 .table-size ∙ sym (start .pre .0 .box .size)
 
 power-of-two-requires : tie.Need-power-of-two-requires Inv-loop μ-loop
 power-of-two-requires c κs = search needs
@@ -21,10 +37,31 @@ cast-masks : tie.Need-cast-masks Inv-loop μ-loop
 cast-masks c = search needs
 
 loop-holds : tie.Need-loop-holds Inv-loop μ-loop
-loop-holds c = sweep-starts (c .before .before .before .pre .0)
+loop-holds c =
+    let component = c .before .before .before in
+    let start = component .before .before .before .before .before .before .before .before .before in
+    let a = start .args in
+    sweep-starts (start .pre .0 .box) (start .pre .0 .out-size) (written-is (a .n) (a .rows .now) 0 (a .m) (start .pre .0 .box) _ (component .write-component .ensures))
 
 with-component-requires : tie.Need-with-component-requires Inv-loop μ-loop
-with-component-requires c κs = let at-loop = c .before .before .before in (at-loop .loop .inv .arrays, at-loop .before .before .before .before .pre .1)
+with-component-requires c κs =
+    let in-loop = c .before .before .before in
+    let at-loop = in-loop .before in
+    let power = at-loop .before in
+    let start = power .before .before .before .before .before .before .before .before .before .before .before .before in
+    let box = start .pre .0 .box in (
+      at-loop .loop .inv .arrays,
+      start .pre .1,
+      record {
+        m-high = box .m-high;
+        few = box .small;
+        some = box-some box;
+        c-low = at-loop .loop .inv .c-low;
+        c-high = omega (arith, in-loop .loop-test .taken, power .power-of-two .ensures .0);
+        steps-are = power .before .before .before .before .before .before .before .write-steps .ensures;
+        table-is = at-loop .loop .inv .table-is ∙ ap (λ (k : ℕ). listBelow k (λ x. component (start .args .rows .now) (at-loop .loop .c - 1) x)) (sym (box .size));
+      },
+    )
 
 add-c : tie.Need-add-c Inv-loop μ-loop
 add-c c = search needs
@@ -35,14 +72,18 @@ loop-less c = search needs
 loop-again : tie.Need-loop-again Inv-loop μ-loop
 loop-again c =
     let done = c .before .before .before in
-    let in-loop = done .before .before .before in
-    sweep-next (in-loop .before .loop .inv) (omega (arith, in-loop .loop-test .taken, in-loop .before .before .power-of-two .ensures .0)) (done .with-component .ensures)
+    let in-loop = done .before .before .before .before in
+    sweep-next (in-loop .before .loop .inv) (omega (arith, in-loop .loop-test .taken, in-loop .before .before .power-of-two .ensures .0))
+    (done .with-component .ensures .0) (done .with-component .ensures .1)
 
 same-length : tie.Need-same-length Inv-loop μ-loop
-same-length c = c .before .loop .inv .arrays .table-size ∙ sym (c .before .before .before .before .before .pre .0 .table-size)
+same-length c = search needs
 
 same-length-2 : tie.Need-same-length-2 Inv-loop μ-loop
-same-length-2 c = c .before .loop .inv .arrays .out-size ∙ sym (c .before .before .before .before .before .pre .0 .out-size)
+same-length-2 c = c .before .loop .inv .arrays .table-size ∙ sym (c .before .before .before .before .before .before .before .before .before .before .before .before .before .before .pre .0 .table-size)
+
+same-length-3 : tie.Need-same-length-3 Inv-loop μ-loop
+same-length-3 c = c .before .loop .inv .arrays .out-size ∙ sym (c .before .before .before .before .before .before .before .before .before .before .before .before .before .before .pre .0 .out-size)
 
 returns : tie.Need-returns Inv-loop μ-loop
 returns c = sweep-ends (c .before .loop .inv) (omega (arith, c .loop-test .left, c .before .before .power-of-two .ensures .0))
@@ -53,6 +94,8 @@ sweep-spec =
     (tie.spec
     Inv-loop
     μ-loop
+    write-steps-requires
+    write-component-requires
     power-of-two-requires
     cast-masks
     loop-holds
@@ -62,4 +105,5 @@ sweep-spec =
     loop-again
     same-length
     same-length-2
+    same-length-3
     returns)

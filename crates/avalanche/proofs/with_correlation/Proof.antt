@@ -23,7 +23,10 @@ share : (c : tie.After-largest-within) →
 share c = ap (λ (k : ℕ). c .largest-within .result / k) (c .before .before .pre .0 .size)
 
 largest-within-requires : tie.Need-largest-within-requires
-largest-within-requires c κs = short (c .before)
+largest-within-requires c κs =
+    let s = c .before in
+    let a = s .args in
+    (s .pre .0 .n-high, values-length (a .n) (a .rows .now) (a .c) (a .j) (s .pre .1))
 
 cast-figure : tie.Need-cast-figure
 cast-figure c = search needs

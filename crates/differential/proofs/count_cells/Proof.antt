@@ -5,7 +5,8 @@ use native.Mathlib.Nat.{le-trans}
 use native.Mathlib.Omega.{arith}
 use borrow.Author.Needs.{needs}
 use lib.Dec.{lit≤}
-use Rattle.differential.proofs.Sweeps.{visited-inside, visited-room, visited-all, row-size}
+use Rattle.differential.proofs.Sweeps.{visited-inside, visited-room, visited-all}
+use Rattle.differential.proofs.Tallies.{differences-ready}
 use Rattle.differential.proofs.ListLoops.{Counting, counting-none, counting-small, counting-next, counting-all}
 use Rattle.differential.proofs.count_cells.Statement.{statement}
 use Rattle.differential.proofs.count_cells.Tie as tie
@@ -35,7 +36,7 @@ count-in-row-requires : tie.Need-count-in-row-requires Inv-loop μ-loop
 count-in-row-requires c κs =
     let written = c .before .before .before in
     let at-loop = written .before .before .before in
-    row-size (at-loop .loop .inv .visited .swept .box) (at-loop .loop .a) (written .write-differences .ensures) .1
+    differences-ready (at-loop .loop .inv .visited .swept .box) (at-loop .loop .a) (written .write-differences .ensures) .0
 
 add-count : tie.Need-add-count Inv-loop μ-loop
 add-count c =

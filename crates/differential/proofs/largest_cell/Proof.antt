@@ -3,9 +3,8 @@
 use borrow.Author.Needs.{needs}
 use mathlib.Core.Path.{_≡_, sym, ap, _∙_}
 use mathlib.Core.List.{[]}
-use lib.Seq.{length-take-le}
 use Rattle.boolean.specs.Selection.{Candidate, shown}
-use Rattle.refusals.specs.Table.{figures, first, boxChecks, Box}
+use Rattle.refusals.specs.Table.{figures, first, boxChecks}
 use Rattle.refusals.specs.declared.Checked.the-variants.{Accepted}
 use Rattle.refusals.proofs.Checks.{box, reply-refused, reply-accepted}
 use Rattle.differential.proofs.largest_cell.Statement.{statement}
@@ -27,32 +26,13 @@ enum-told c = search needs
 accepted : (c : tie.After-enum-told) → let a = c .before .before .before .before .args in first (boxChecks (a .n) (a .m) (a .rows .now)) ≡ Accepted
 accepted c = sym (c .before .before .check-box .ensures) ∙ c .enum-told .given .1
 
-boxed : (c : tie.After-enum-told) → let a = c .before .before .before .before .args in Box (a .n) (a .m) (a .rows .now)
-boxed c = let a = c .before .before .before .before .args in box (a .n) (a .m) (a .rows .now) [] (accepted c)
-
-array-borrow-prefix-differences : tie.Need-array-borrow-prefix-differences
-array-borrow-prefix-differences c = boxed c .small
-
-slice-aggregate-sweep-cells : tie.Need-slice-aggregate-sweep-cells
-slice-aggregate-sweep-cells c = sym (length-take-le _ _ (boxed (c .before) .small))
-
-sweep-cells-requires : tie.Need-sweep-cells-requires
-sweep-cells-requires c κs = let b = boxed (c .before) in record { box = b; size = length-take-le _ _ (b .small) ∙ b .size }
+find-largest-requires : tie.Need-find-largest-requires
+find-largest-requires c κs = let a = c .before .before .before .before .args in box (a .n) (a .m) (a .rows .now) [] (accepted c)
 
 returns-2 : tie.Need-returns-2
-returns-2 c =
-    let swept = c .before in
-    ap (λ (k : Candidate). figures (shown k)) (swept .sweep-cells .ensures .0) ∙ reply-accepted (accepted (swept .before .before)) _
+returns-2 c = ap (λ (k : Candidate). figures (shown k)) (c .find-largest .ensures) ∙ reply-accepted (accepted (c .before)) _
 
 pub largest-cell-spec : {M : Type 1} → statement M
 largest-cell-spec =
     tie.close
-    (tie.spec
-    check-box-requires
-    enum-known-e
-    returns
-    enum-told
-    array-borrow-prefix-differences
-    slice-aggregate-sweep-cells
-    sweep-cells-requires
-    returns-2)
+    (tie.spec check-box-requires enum-known-e returns enum-told find-largest-requires returns-2)

@@ -16,23 +16,23 @@ use Rattle.differential.proofs.ListMembers.{same-number, holds-listed, 
 use Rattle.differential.proofs.list_with.Statement.{statement}
 use Rattle.differential.proofs.list_with.Tie as tie
 
-sweep-cells-requires : tie.Need-sweep-cells-requires
-sweep-cells-requires c κs = search needs
+find-largest-requires : tie.Need-find-largest-requires
+find-largest-requires c κs = search needs
 
 count-cells-requires : tie.Need-count-cells-requires
 count-cells-requires c κs = search needs
 
 -- the count that was found is the largest, and what was counted is what is listed with it
-reached : (c : tie.After-sweep-cells) → let a = c .before .before .before .before .before .args in c .sweep-cells .result .count ≡ largestCell (a .n) (a .m) (a .rows .now) .figure
-reached c = ap (λ (k : Candidate). k .figure) (c .sweep-cells .ensures .0)
+reached : (c : tie.After-find-largest) → let a = c .before .before .before .before .args in c .find-largest .result .count ≡ largestCell (a .n) (a .m) (a .rows .now) .figure
+reached c = ap (λ (k : Candidate). k .figure) (c .find-largest .ensures)
 
 counted : (c : tie.After-count-cells) →
-    let a = c .before .before .before .before .before .before .before .before .before .args in
+    let a = c .before .before .before .before .before .before .args in
     c .count-cells .result ≡ length (listed (largestCell (a .n) (a .m) (a .rows .now) .figure) (a .rows .now) (2 ^ a .n))
 counted c =
-    let swept = c .before .before .before .before in
-    let a = swept .before .before .before .before .before .args in
-    c .count-cells .ensures .0 ∙ ap (λ (k : ℕ). length (listed k (a .rows .now) (2 ^ a .n))) (reached swept)
+    let found = c .before .before in
+    let a = found .before .before .before .before .args in
+    c .count-cells .ensures .0 ∙ ap (λ (k : ℕ). length (listed k (a .rows .now) (2 ^ a .n))) (reached found)
 
 same-length : tie.Need-same-length
 same-length c = search needs
@@ -40,7 +40,7 @@ same-length c = search needs
 returns : tie.Need-returns
 returns c =
     let done = c .before .before .before in
-    let start = done .before .before .before .before .before .before .before .before .before in
+    let start = done .before .before .before .before .before .before in
     let h = too-short (start .pre .box) (counted done) (length (start .args .list .now)) (c .if1 .taken) in
     (reply-refused h _, (list-refused _ _ h, done .count-cells .ensures .2))
 
@@ -48,13 +48,13 @@ list-cells-requires : tie.Need-list-cells-requires
 list-cells-requires c κs =
     let else = c .before .before in
     let done = else .before .before .before in
-    let start = done .before .before .before .before .before .before .before .before .before in (
-      record { box = start .pre .box; size = ap length (done .count-cells .ensures .2) ∙ values-length (start .pre .box) _ },
+    let box = done .before .before .before .before .before .before .pre .box in (
+      record { box = box; size = ap length (done .count-cells .ensures .2) ∙ values-length box _ },
       omega (arith, done .count-cells .ensures .0, else .if1 .left),
     )
 
-cast-t21 : tie.Need-cast-t21
-cast-t21 c = search needs
+cast-t19 : tie.Need-cast-t19
+cast-t19 c = search needs
 
 same-length-2 : tie.Need-same-length-2
 same-length-2 c = search needs
@@ -67,12 +67,12 @@ returns-2 c =
     let written = c .before .before .before .before in
     let else = written .before .before .before in
     let done = else .before .before .before in
-    let swept = done .before .before .before .before in
-    let start = swept .before .before .before .before .before in
+    let found = done .before .before in
+    let start = found .before .before .before .before in
     let a = start .args in
     let box = start .pre .box in
     let h = long-enough box (counted done) (length (a .list .now)) (else .if1 .left) in
-    let new = written .list-cells .ensures .0 ∙ ap (λ (k : ℕ). sets (a .list .now) 0 (listed k (a .rows .now) (2 ^ a .n))) (reached swept) in (
+    let new = written .list-cells .ensures .0 ∙ ap (λ (k : ℕ). sets (a .list .now) 0 (listed k (a .rows .now) (2 ^ a .n))) (reached found) in (
       ap (λ (k : ℕ). figures (k ∷ [])) (counted done ∙ same-number box) ∙ reply-accepted h _,
       (
         list-accepted _ _ _ h (rw new (holds-listed box (a .list .now) (omega (arith, counted done, else .if1 .left)))),
@@ -84,12 +84,12 @@ pub list-with-spec : {M : Type 1} → statement M
 list-with-spec =
     tie.close
     (tie.spec
-    sweep-cells-requires
+    find-largest-requires
     count-cells-requires
     same-length
     returns
     list-cells-requires
-    cast-t21
+    cast-t19
     same-length-2
     same-length-3
     returns-2)

@@ -1,45 +1,48 @@
--- `differential::sweep_cells` meets its contract: it has the first largest cell of the rows before a, from a count that every row exceeds.
--- Assumes nothing.
+-- `differential::sweep_cells` meets its contract: it has the first largest cell of the rows before a, from a count that every row exceeds, and
+-- between two rows all counts are 0. Assumes nothing.
 use Prim.Native.Nat.{_-_, _^_, _≤_}
-use mathlib.Core.Path.{refl, sym, _∙_}
+use mathlib.Core.Path.{_≡_, refl, sym, ap, _∙_}
 use native.Mathlib.Nat.{le-trans}
 use native.Mathlib.Omega.{arith}
 use borrow.Author.Needs.{needs}
 use lib.Dec.{lit≤}
+use lib.ListN.{length}
+use Rattle.boolean.specs.Sums.{listBelow}
 use Rattle.differential.specs.Calls.{candidate}
-use Rattle.differential.proofs.Sweeps.{Sweeping, visited-inside, visited-room, visited-all, row-size, sweep-starts, sweep-next, sweep-ends}
+use Rattle.differential.proofs.Sweeps.{box-inside, pairs-ready, Sweeping, sweep-starts, sweep-next, sweep-ends, sweep-last}
+use Rattle.differential.proofs.Tallies.{tally-ready}
 use Rattle.differential.proofs.sweep_cells.Statement.{statement}
 use Rattle.differential.proofs.sweep_cells.Tie as tie
 
 abbrev Inv-loop : tie.InvT-loop
-Inv-loop n m rows differences₀ inputs found₀ a₀ differences found a = Sweeping n m rows (candidate found₀) (candidate found) differences a
+Inv-loop n m rows pairs₀ counts₀ inputs found₀ a₀ pairs counts found a =
+    Sweeping n m rows (candidate found₀) (candidate found) pairs a × (counts ≡ listBelow (2 ^ m) (λ β. 0))
 
 abbrev μ-loop : tie.MeasureT-loop
-μ-loop n m rows differences₀ inputs found₀ a₀ differences found a = inputs - a
+μ-loop n m rows pairs₀ counts₀ inputs found₀ a₀ pairs counts found a = inputs - a
 
 power-of-two-requires : tie.Need-power-of-two-requires Inv-loop μ-loop
-power-of-two-requires c κs = le-trans (c .before .before .pre .box .n-high) (lit≤ tt)
+power-of-two-requires c κs = le-trans (c .before .before .before .pre .0 .n-high) (lit≤ tt)
 
 cast-inputs : tie.Need-cast-inputs Inv-loop μ-loop
 cast-inputs c = search needs
 
 loop-holds : tie.Need-loop-holds Inv-loop μ-loop
-loop-holds c = sweep-starts (c .before .before .before .pre)
+loop-holds c = let start = c .before .before .before .before in (sweep-starts (start .pre .0) (start .pre .1), start .pre .2)
 
-write-differences-requires : tie.Need-write-differences-requires Inv-loop μ-loop
-write-differences-requires c κs =
+write-pairs-requires : tie.Need-write-pairs-requires Inv-loop μ-loop
+write-pairs-requires c κs =
     let at-loop = c .before .before in
-    let visited = at-loop .loop .inv .visited in
-    (visited-inside visited (omega (arith, c .before .loop-test .taken, at-loop .before .power-of-two .ensures .0)), visited-room visited)
+    let sweep = at-loop .loop .inv .0 in
+    (box-inside (sweep .box) (omega (arith, c .before .loop-test .taken, at-loop .before .power-of-two .ensures .0)), sweep .a-low, sweep .room)
 
-row-largest-requires : tie.Need-row-largest-requires Inv-loop μ-loop
-row-largest-requires c κs =
-    let written = c .before .before .before in
+after-row-requires : tie.Need-after-row-requires Inv-loop μ-loop
+after-row-requires c κs =
+    let written = c .before .before .before .before in
     let at-loop = written .before .before .before in
-    row-size (at-loop .loop .inv .visited .swept .box) (at-loop .loop .a) (written .write-differences .ensures)
-
-larger-of-requires : tie.Need-larger-of-requires Inv-loop μ-loop
-larger-of-requires c κs = search needs
+    let box = at-loop .loop .inv .0 .box in
+    let values = pairs-ready box (written .write-pairs .ensures) in
+    tally-ready (box .m-high) refl (at-loop .loop .inv .1) (values .0) (values .1)
 
 add-a : tie.Need-add-a Inv-loop μ-loop
 add-a c = search needs
@@ -49,20 +52,30 @@ loop-less c = search needs
 
 loop-again : tie.Need-loop-again Inv-loop μ-loop
 loop-again c =
-    let written = c .before .before .before .before .before in
+    let row = c .before .before in
+    let written = row .before .before .before .before .before in
     let in-loop = written .before .before in
-    let at-loop = in-loop .before in
-    sweep-next (at-loop .loop .inv) (omega (arith, in-loop .loop-test .taken, at-loop .before .power-of-two .ensures .0))
-    (written .write-differences .ensures) (c .before .row-largest .ensures) (c .larger-of .ensures)
+    let at-loop = in-loop .before in (
+      sweep-next (at-loop .loop .inv .0) (omega (arith, in-loop .loop-test .taken, at-loop .before .power-of-two .ensures .0))
+          (written .write-pairs .ensures) (row .after-row .ensures .0),
+      row .after-row .ensures .1 ∙ at-loop .loop .inv .1,
+    )
 
 same-length : tie.Need-same-length Inv-loop μ-loop
-same-length c = c .before .loop .inv .visited .swept .size ∙ sym (c .before .before .before .before .before .pre .size)
+same-length c =
+    let start = c .before .before .before .before .before .before in
+    let same : length (c .before .loop .pairs) ≡ length (start .args .pairs .now) = omega (arith, c .before .loop .inv .0 .room, start .pre .1) in
+    same
+
+same-length-2 : tie.Need-same-length-2 Inv-loop μ-loop
+same-length-2 c = ap length (c .before .loop .inv .1 ∙ sym (c .before .before .before .before .before .before .pre .2))
 
 returns : tie.Need-returns Inv-loop μ-loop
 returns c =
     let at-loop = c .before in
-    let end : 2 ^ (at-loop .before .before .before .before .args .n) ≤ at-loop .loop .a = omega (arith, c .loop-test .left, at-loop .before .power-of-two .ensures .0) in
-    (sweep-ends (at-loop .loop .inv) end refl, visited-all (at-loop .loop .inv .visited) end)
+    let end : 2 ^ (at-loop .before .before .before .before .before .args .n) ≤ at-loop .loop .a = omega (arith, c .loop-test .left, at-loop .before .power-of-two .ensures .0) in
+    let sweep = at-loop .loop .inv .0 in
+    (sweep-ends sweep end refl, sweep-last sweep end, at-loop .loop .inv .1)
 
 pub sweep-cells-spec : {M : Type 1} → statement M
 sweep-cells-spec =
@@ -73,11 +86,11 @@ sweep-cells-spec =
     power-of-two-requires
     cast-inputs
     loop-holds
-    write-differences-requires
-    row-largest-requires
-    larger-of-requires
+    write-pairs-requires
+    after-row-requires
     add-a
     loop-less
     loop-again
     same-length
+    same-length-2
     returns)

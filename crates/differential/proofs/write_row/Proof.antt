@@ -2,7 +2,7 @@
 use mathlib.Core.Path.{sym, _∙_}
 use borrow.Author.Needs.{needs}
 use Rattle.differential.proofs.Sweeps.{box-inside}
-use Rattle.differential.proofs.Tallies.{cleared-length, tally-ready, row-is}
+use Rattle.differential.proofs.Tallies.{cleared-length, tally-ready, differences-ready, row-is}
 use Rattle.differential.proofs.write_row.Statement.{statement}
 use Rattle.differential.proofs.write_row.Tie as tie
 
@@ -19,7 +19,9 @@ count-differences-requires c κs =
     let cleared = c .before .before .before .before in
     let written = cleared .before .before .before .before in
     let start = written .before .before .before .before .before in
-    tally-ready (start .pre .0 .box) (start .args .a) (written .write-differences .ensures) (start .pre .2) (cleared .clear .ensures)
+    let box = start .pre .0 .box in
+    let values = differences-ready box (start .args .a) (written .write-differences .ensures) in
+    tally-ready (box .m-high) (start .pre .2) (cleared .clear .ensures) (values .0) (values .1)
 
 same-length : tie.Need-same-length
 same-length c = search needs
@@ -35,7 +37,7 @@ returns c =
     let start = written .before .before .before .before .before in
     let box = start .pre .0 .box in
     let values = written .write-differences .ensures in (
-      row-is box (start .args .a) (cleared-length box (start .args .a) values (start .pre .2) (cleared .clear .ensures)) values (counted .count-differences .ensures),
+      row-is box (start .args .a) (cleared-length (box .m-high) (start .pre .2) (cleared .clear .ensures)) values (counted .count-differences .ensures .0),
       values,
     )
 

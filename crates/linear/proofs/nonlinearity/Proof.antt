@@ -2,11 +2,13 @@
 use borrow.Author.Needs.{needs}
 use mathlib.Core.Path.{_≡_, sym, ap, _∙_}
 use mathlib.Core.List.{[]}
+use native.Mathlib.Omega.{arith}
 use lib.Seq.{length-take-le}
 use Rattle.boolean.specs.Selection.{Candidate, shown}
 use Rattle.refusals.specs.Table.{figures, first, boxChecks, Box}
 use Rattle.refusals.specs.declared.Checked.the-variants.{Accepted}
 use Rattle.refusals.proofs.Checks.{box, reply-refused, reply-accepted}
+use Rattle.linear.proofs.Stepped.{steps-few}
 use Rattle.linear.proofs.nonlinearity.Statement.{statement}
 use Rattle.linear.proofs.nonlinearity.Tie as tie
 
@@ -32,28 +34,39 @@ boxed c = let a = c .before .before .before .before .args in box (a .n) (a .m) (
 spectra-requires : tie.Need-spectra-requires
 spectra-requires c κs = search needs
 
-array-borrow-prefix-table : tie.Need-array-borrow-prefix-table
-array-borrow-prefix-table c = boxed (c .before .before) .small
+mul-total : tie.Need-mul-total
+mul-total c = omega (arith, steps-few (boxed (c .before)))
+
+array-borrow-prefix-steps : tie.Need-array-borrow-prefix-steps
+array-borrow-prefix-steps c = steps-few (boxed (c .before .before))
 
 slice-aggregate-sweep : tie.Need-slice-aggregate-sweep
-slice-aggregate-sweep c = sym (length-take-le _ _ (boxed (c .before .before .before) .small))
+slice-aggregate-sweep c = sym (length-take-le _ _ (steps-few (boxed (c .before .before .before))))
 
-array-borrow-prefix-values : tie.Need-array-borrow-prefix-values
-array-borrow-prefix-values c = boxed (c .before .before .before) .small
+array-borrow-prefix-table : tie.Need-array-borrow-prefix-table
+array-borrow-prefix-table c = boxed (c .before .before .before) .small
 
 slice-aggregate-sweep-2 : tie.Need-slice-aggregate-sweep-2
 slice-aggregate-sweep-2 c = sym (length-take-le _ _ (boxed (c .before .before .before .before) .small))
 
+array-borrow-prefix-values : tie.Need-array-borrow-prefix-values
+array-borrow-prefix-values c = boxed (c .before .before .before .before) .small
+
+slice-aggregate-sweep-3 : tie.Need-slice-aggregate-sweep-3
+slice-aggregate-sweep-3 c = sym (length-take-le _ _ (boxed (c .before .before .before .before .before) .small))
+
 sweep-requires : tie.Need-sweep-requires
 sweep-requires c κs =
-    let told = c .before .before .before .before in
-    let b = boxed told in
-    (record { box = b; table-size = length-take-le _ _ (b .small) ∙ b .size; out-size = length-take-le _ _ (b .small) ∙ b .size }, c .before .before .before .spectra .ensures)
+    let b = boxed (c .before .before .before .before .before) in (
+      record { box = b; table-size = length-take-le _ _ (b .small) ∙ b .size; out-size = length-take-le _ _ (b .small) ∙ b .size },
+      c .before .before .before .before .spectra .ensures,
+      length-take-le _ _ (steps-few b),
+    )
 
 returns-2 : tie.Need-returns-2
 returns-2 c =
-    let swept = c .before .before in
-    ap (λ (k : Candidate). figures (shown k)) (swept .sweep .ensures) ∙ reply-accepted (accepted (swept .before .before .before .before .before)) _
+    let swept = c .before .before .before in
+    ap (λ (k : Candidate). figures (shown k)) (swept .sweep .ensures) ∙ reply-accepted (accepted (swept .before .before .before .before .before .before)) _
 
 pub nonlinearity-spec : {M : Type 1} → statement M
 nonlinearity-spec =
@@ -64,9 +77,12 @@ nonlinearity-spec =
     returns
     enum-told
     spectra-requires
-    array-borrow-prefix-table
+    mul-total
+    array-borrow-prefix-steps
     slice-aggregate-sweep
-    array-borrow-prefix-values
+    array-borrow-prefix-table
     slice-aggregate-sweep-2
+    array-borrow-prefix-values
+    slice-aggregate-sweep-3
     sweep-requires
     returns-2)

@@ -1,15 +1,20 @@
 -- The proof of the cycle of calls {transform}. The measure is the width. What the step does to the list is in `TransformHalves`.
 -- Assumes nothing.
-use mathlib.Core.Path.{_∙_}
-use Prim.Native.Nat.{ℕ, _<_}
+use mathlib.Core.Path.{_≡_, sym, _∙_, subst}
+use Prim.Native.Nat.{ℕ, _-_, _/_, _^_, _<_}
 use native.Mathlib.Omega.{arith}
+use lib.ListN.{length}
 use borrow.Author.Needs.{needs}
 use borrow.Fn.Kinds.{In}
 use borrow.Fn.PlainCycle.{Measures, is, falls, and}
+use Rattle.boolean.specs.Sums.{listBelow}
+use Rattle.boolean.specs.Functions as functions
+use Rattle.walsh.specs.Work.{Summable}
 use Rattle.walsh.proofs.TransformHalves as halves
 use Rattle.walsh.proofs.transform.Reads as transform
 use Rattle.walsh.proofs.transform.Kinds as kinds
 use Rattle.walsh.proofs.+transform.Lts-transform as lts
+use Rattle.walsh.proofs.transform_of_sixteen.Reads as sixteen
 use Rattle.walsh.proofs.butterfly.Reads as butterfly
 use Rattle.walsh.proofs.+transform.{statement}
 use Rattle.walsh.proofs.+transform.Tie.{close}
@@ -22,9 +27,26 @@ abbrev given : ℕ → In 1 kinds.ps
 given t = and 1 kinds.ps (is 1 kinds.ps μ t) transform.Pre
 
 abbrev calls : ℕ → lts.Claims
-calls t = (and 1 kinds.ps (falls 1 kinds.ps _<_ μ t) transform.Pre, transform.Post, butterfly.Asked, butterfly.Learnt)
+calls t =
+    (sixteen.Asked, sixteen.Learnt, and 1 kinds.ps (falls 1 kinds.ps _<_ μ t) transform.Pre, transform.Post, butterfly.Asked, butterfly.Learnt)
 
 module _ (t : ℕ) where
+  transform-of-sixteen-requires : lts.Need-transform-of-sixteen-requires (calls t) (given t) transform.Post
+  transform-of-sixteen-requires c κs =
+      let e = c .before in
+      let s = e .before in
+      subst (λ (k : ℕ). Summable k (s .args .values .now)) (e .if1 .taken) (s .pre .1)
+
+  -- the values are cut in the middle
+  middle : (e : lts.Then2 (calls t) (given t) transform.Post) →
+      let s = e .before .before in
+      length (s .args .values .now) / 2 ≡ 2 ^ (s .args .n - 1)
+  middle e = let s = e .before .before in halves.middle (s .args .n) (s .args .values .now) (s .pre .1) (e .if2 .taken)
+
+  -- the width falls
+  less : (e : lts.Then2 (calls t) (given t) transform.Post) → e .before .before .args .n - 1 < t
+  less e = omega arith
+
   sub-transform : lts.Need-sub-transform (calls t) (given t) transform.Post
   sub-transform c = search needs
 
@@ -34,14 +56,14 @@ module _ (t : ℕ) where
   slice-aggregate-transform : lts.Need-slice-aggregate-transform (calls t) (given t) transform.Post
   slice-aggregate-transform c =
       let e = c .before in
-      let s = e .before in
-      halves.lower-length (s .args .n) (s .args .values .now) (s .pre .1) (e .if1 .taken)
+      let s = e .before .before in
+      halves.lower-length (s .args .n) _ (s .args .values .now) (s .pre .1) (e .if2 .taken) (middle e)
 
   transform-requires : lts.Need-transform-requires (calls t) (given t) transform.Post
   transform-requires c κs =
       let e = c .before in
-      let s = e .before in
-      (omega arith, halves.lower-summable (s .args .n) (s .args .values .now) (s .pre .1) (e .if1 .taken))
+      let s = e .before .before in
+      (less e, halves.lower-summable (s .args .n) _ (s .args .values .now) (s .pre .1) (e .if2 .taken) (middle e))
 
   sub-transform-2 : lts.Need-sub-transform-2 (calls t) (given t) transform.Post
   sub-transform-2 c = search needs
@@ -62,46 +84,56 @@ module _ (t : ℕ) where
   transform-requires-2 c κs =
       let first = c .before .before in
       let e = first .before .before in
-      let s = e .before in
-      (omega arith, halves.upper-summable (s .args .n) (s .args .values .now) (s .pre .1) (e .if1 .taken) (first .transform .last .1 .0) (first .transform .ensures))
+      let s = e .before .before in
+      (less e, halves.upper-summable (s .args .n) _ (s .args .values .now) (s .pre .1) (e .if2 .taken) (middle e) (first .transform .last .1 .0) (first .transform .ensures))
 
   butterfly-requires : lts.Need-butterfly-requires (calls t) (given t) transform.Post
   butterfly-requires c κs =
       let second = c .before .before in
       let first = second .before .before .before in
       let e = first .before .before in
-      let s = e .before in
-      halves.crossing (s .args .n) (s .args .values .now) (s .pre .1) (e .if1 .taken)
+      let s = e .before .before in
+      halves.crossing (s .args .n) _ (s .args .values .now) (s .pre .1) (e .if2 .taken) (middle e)
       (first .transform .last .1 .0) (first .transform .ensures) (second .transform2 .last .1 .0) (second .transform2 .ensures)
 
   same-length : lts.Need-same-length (calls t) (given t) transform.Post
-  same-length c =
-      let second = c .before .before .before .before in
-      let first = second .before .before .before in
-      let e = first .before .before in
-      let s = e .before in
-      c .before .butterfly .kept .0
-      ∙ halves.same-long (s .args .n) (s .args .values .now) (s .pre .1) (e .if1 .taken)
-      (first .transform .last .1 .0) (first .transform .ensures) (second .transform2 .last .1 .0) (second .transform2 .ensures)
+  same-length c = search needs
 
   returns : lts.Need-returns (calls t) (given t) transform.Post
   returns c =
+      let e = c .before .before .before in
+      let a = e .before .args in
+      subst (λ (k : ℕ). c .before .transform-of-sixteen .last .0 ≡ listBelow (2 ^ k) (λ w. functions.transform k (functions.valueAt (a .values .now)) w))
+      (sym (e .if1 .taken)) (c .before .transform-of-sixteen .ensures)
+
+  same-length-2 : lts.Need-same-length-2 (calls t) (given t) transform.Post
+  same-length-2 c =
       let second = c .before .before .before .before in
       let first = second .before .before .before in
       let e = first .before .before in
-      let s = e .before in
-      halves.right (s .args .n) (s .args .values .now) (s .pre .1) (e .if1 .taken)
+      let s = e .before .before in
+      c .before .butterfly .kept .0
+      ∙ halves.same-long (s .args .n) _ (s .args .values .now) (s .pre .1) (e .if2 .taken) (middle e)
       (first .transform .last .1 .0) (first .transform .ensures) (second .transform2 .last .1 .0) (second .transform2 .ensures)
-      (c .before .butterfly .last .0) (c .before .butterfly .kept .0) (c .before .butterfly .ensures)
 
   returns-2 : lts.Need-returns-2 (calls t) (given t) transform.Post
   returns-2 c =
-      let s = c .before in
-      halves.one-value (s .args .n) (s .args .values .now) (s .pre .1) (c .if1 .left)
+      let second = c .before .before .before .before in
+      let first = second .before .before .before in
+      let e = first .before .before in
+      let s = e .before .before in
+      halves.right (s .args .n) _ (s .args .values .now) (s .pre .1) (e .if2 .taken) (middle e)
+      (first .transform .last .1 .0) (first .transform .ensures) (second .transform2 .last .1 .0) (second .transform2 .ensures)
+      (c .before .butterfly .last .0) (c .before .butterfly .kept .0) (c .before .butterfly .ensures)
+
+  returns-3 : lts.Need-returns-3 (calls t) (given t) transform.Post
+  returns-3 c =
+      let s = c .before .before in
+      halves.one-value (s .args .n) (s .args .values .now) (s .pre .1) (c .if2 .left)
 
 pub +transform-spec : {M : Type 1} → statement M
 +transform-spec =
     close μ (λ t. lts.spec (calls t) (given t) transform.Post
-    (sub-transform t) (slice-relend-prefix-transform t) (slice-aggregate-transform t) (transform-requires t) (sub-transform-2 t)
-    (mul-transform t) (sub-transform-3 t) (part-transform-start t) (part-transform-end t) (transform-requires-2 t)
-    (butterfly-requires t) (same-length t) (returns t) (returns-2 t))
+    (transform-of-sixteen-requires t) (sub-transform t) (slice-relend-prefix-transform t) (slice-aggregate-transform t)
+    (transform-requires t) (sub-transform-2 t) (mul-transform t) (sub-transform-3 t) (part-transform-start t) (part-transform-end t)
+    (transform-requires-2 t) (butterfly-requires t) (same-length t) (returns t) (same-length-2 t) (returns-2 t) (returns-3 t))

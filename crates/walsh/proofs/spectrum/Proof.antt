@@ -6,16 +6,15 @@ use borrow.Author.Needs.{needs}
 use borrow.Author.Tests.{eqb-true}
 use lib.IntN.{ℤ}
 use lib.ListN.{length}
-use Rattle.refusals.specs.Table.{first, tableChecks}
+use Rattle.refusals.specs.Table.{tableCallChecks, first, tableChecks}
 use Rattle.refusals.specs.declared.Checked.the-variants.{Accepted}
 use Rattle.refusals.proofs.Checks.{passed, accepted-after, table, reply-refused, reply-accepted, content-refused, content-accepted}
-use Rattle.walsh.specs.Calls.{spectrumChecks}
 use Rattle.walsh.specs.Work.{Ready}
 use Rattle.walsh.proofs.spectrum.Statement.{statement}
 use Rattle.walsh.proofs.spectrum.Tie as tie
 
-check-spectrum-requires : tie.Need-check-spectrum-requires
-check-spectrum-requires c κs = search needs
+check-table-call-requires : tie.Need-check-table-call-requires
+check-table-call-requires c κs = search needs
 
 enum-known-e : tie.Need-enum-known-e
 enum-known-e c = search needs
@@ -23,15 +22,15 @@ enum-known-e c = search needs
 returns : tie.Need-returns
 returns c =
     let p = c .before .before .before in
-    let h = sym (p .check-spectrum .ensures) ∙ c .before .e .given .1 in
+    let h = sym (p .check-table-call .ensures) ∙ c .before .e .given .1 in
     (reply-refused h [], content-refused h _ _)
 
 enum-told : tie.Need-enum-told
 enum-told c = search needs
 
 -- accepted: the table is one, and the array is as long
-ready : (n : ℕ) (table : List ℕ) (out : List ℤ) → first (spectrumChecks n table (length out)) ≡ Accepted → Ready n table out
-unfolding spectrumChecks
+ready : (n : ℕ) (table : List ℕ) (out : List ℤ) → first (tableCallChecks n table (length out)) ≡ Accepted → Ready n table out
+unfolding tableCallChecks
 ready n values out h = record {
   read = table n values _ h;
   room = eqb-true (length out) (2 ^ n) (passed _ (accepted-after (tableChecks n values) _ h) .0);
@@ -39,8 +38,8 @@ ready n values out h = record {
 
 accepted : (c : tie.After-enum-told) →
     let a = c .before .before .before .before .args in
-    first (spectrumChecks (a .n) (a .table .now) (length (a .out .now))) ≡ Accepted
-accepted c = sym (c .before .before .check-spectrum .ensures) ∙ c .enum-told .given .1
+    first (tableCallChecks (a .n) (a .table .now) (length (a .out .now))) ≡ Accepted
+accepted c = sym (c .before .before .check-table-call .ensures) ∙ c .enum-told .given .1
 
 spectra-requires : tie.Need-spectra-requires
 spectra-requires c κs = search needs
@@ -64,7 +63,7 @@ pub spectrum-spec : {M : Type 1} → statement M
 spectrum-spec =
     tie.close
     (tie.spec
-    check-spectrum-requires
+    check-table-call-requires
     enum-known-e
     returns
     enum-told

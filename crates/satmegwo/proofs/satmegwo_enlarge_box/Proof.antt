@@ -1,0 +1,24 @@
+-- `satmegwo::satmegwo_enlarge_box` meets its contract: that of the call, with a number in place of the answer. Assumes nothing.
+use mathlib.Core.Path.{ap, _∙_}
+use Rattle.satmegwo.specs.Exports.{status}
+use borrow.Author.Needs.{needs}
+use Rattle.satmegwo.proofs.satmegwo_enlarge_box.Statement.{statement}
+use Rattle.satmegwo.proofs.satmegwo_enlarge_box.Tie as tie
+
+enlarge-box-requires : tie.Need-enlarge-box-requires
+enlarge-box-requires c κs = search needs
+
+status-of-requires : tie.Need-status-of-requires
+status-of-requires c κs = search needs
+
+same-length : tie.Need-same-length
+same-length c = search needs
+
+returns : tie.Need-returns
+returns c =
+    let called = c .before .before .before .enlarge-box .ensures in
+    (c .status-of .ensures ∙ ap status (called .0), called .1)
+
+pub satmegwo-enlarge-box-spec : {M : Type 1} → statement M
+satmegwo-enlarge-box-spec =
+    tie.close (tie.spec enlarge-box-requires status-of-requires same-length returns)

@@ -1,0 +1,24 @@
+-- `satmegwo::satmegwo_largest_cell` meets its contract: that of the call, with its figures in the lent array. Assumes nothing.
+use Rattle.satmegwo.proofs.Giving.{gives-same}
+use borrow.Author.Needs.{needs}
+use Rattle.satmegwo.proofs.satmegwo_largest_cell.Statement.{statement}
+use Rattle.satmegwo.proofs.satmegwo_largest_cell.Tie as tie
+
+largest-cell-requires : tie.Need-largest-cell-requires
+largest-cell-requires c κs = search needs
+
+give-cell-requires : tie.Need-give-cell-requires
+give-cell-requires c κs = search needs
+
+same-length : tie.Need-same-length
+same-length c = search needs
+
+returns : tie.Need-returns
+returns c =
+    let given = c .before .before in
+    let called = given .before .before in
+    gives-same (called .before .before .before .args .figures .now) (called .largest-cell .ensures) (given .give-cell .ensures)
+
+pub satmegwo-largest-cell-spec : {M : Type 1} → statement M
+satmegwo-largest-cell-spec =
+    tie.close (tie.spec largest-cell-requires give-cell-requires same-length returns)

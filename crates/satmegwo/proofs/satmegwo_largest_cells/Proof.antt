@@ -1,0 +1,111 @@
+-- `satmegwo::satmegwo_largest_cells` meets its contract: the array for the figure is looked at between the box and the list. Assumes nothing.
+use mathlib.Core.Path.{_≡_, sym, ap, _∙_, subst}
+use mathlib.Core.List.{[], _∷_}
+use borrow.Author.Tests.{eq-eqb, ne-eqb}
+use lib.ListN.{length}
+use Rattle.refusals.specs.Table.{first, boxChecks, replyAfter}
+use Rattle.refusals.specs.declared.Checked.{Checked}
+use Rattle.refusals.proofs.Checks.{reply-refused}
+use Rattle.differential.specs.XorTable.{largestCells}
+use Rattle.differential.specs.Calls.{listChecks, listReply, ListAfter}
+use Rattle.differential.proofs.ListMembers.{list-refused}
+use Rattle.satmegwo.specs.Exports.{cellsChecks, roomNumber}
+use Rattle.satmegwo.proofs.Giving.{figures-told, refusal-told, room-refused, room-passed}
+use borrow.Author.Needs.{needs}
+use Rattle.satmegwo.proofs.satmegwo_largest_cells.Statement.{statement}
+use Rattle.satmegwo.proofs.satmegwo_largest_cells.Tie as tie
+
+check-box-requires : tie.Need-check-box-requires
+check-box-requires c κs = search needs
+
+number-for-room-requires : tie.Need-number-for-room-requires
+number-for-room-requires c κs = search needs
+
+-- with one element lent for the figure, the checks are those of the call
+as-called : (c : tie.Else1) →
+    let a = c .before .before .before .before .args in
+    first (cellsChecks (a .n) (a .m) (a .rows .now) (length (a .figures .now)) (length (a .list .now))) ≡ first (listChecks (a .n) (a .m) (a .rows .now) (length (a .list .now)))
+unfolding cellsChecks listChecks
+as-called c = let a = c .before .before .before .before .args in room-passed (boxChecks (a .n) (a .m) (a .rows .now)) _ (eq-eqb _ 1 (c .if1 .left))
+
+returns : tie.Need-returns
+unfolding cellsChecks
+returns c =
+    let else = c .before .before in
+    let a = else .before .before .before .before .args in
+    let cells = largestCells (a .n) (a .m) (a .rows .now) in
+    let found = first (cellsChecks (a .n) (a .m) (a .rows .now) (length (a .figures .now)) (length (a .list .now))) in
+    let t = room-refused (boxChecks (a .n) (a .m) (a .rows .now)) _ (ne-eqb _ 1 (else .if1 .taken)) in
+    let told = refusal-told found (length cells ∷ []) (a .figures .now) (reply-refused (t .is) (length cells ∷ [])) in
+    (c .number-for-room .ensures ∙ ap roomNumber (c .before .check-box .ensures) ∙ t .number-is ∙ told .0, (told .1, list-refused cells (a .list .now) (t .is)))
+
+largest-cells-requires : tie.Need-largest-cells-requires
+largest-cells-requires c κs = search needs
+
+enum-known-count : tie.Need-enum-known-count
+enum-known-count c = search needs
+
+slice-aggregate-give : tie.Need-slice-aggregate-give
+slice-aggregate-give c = search needs
+
+give-requires : tie.Need-give-requires
+give-requires c κs = search needs
+
+enum-known-e : tie.Need-enum-known-e
+enum-known-e c = search needs
+
+number-of-requires : tie.Need-number-of-requires
+number-of-requires c κs = search needs
+
+same-length : tie.Need-same-length
+same-length c = search needs
+
+same-length-2 : tie.Need-same-length-2
+same-length-2 c = search needs
+
+returns-2 : tie.Need-returns-2
+returns-2 c =
+    let given = c .before .before in
+    let is = given .before .before .before .before in
+    let called = is .before .before .before .before in
+    let else = called .before .before in
+    let a = else .before .before .before .before .args in
+    let cells = largestCells (a .n) (a .m) (a .rows .now) in
+    let found = first (cellsChecks (a .n) (a .m) (a .rows .now) (length (a .figures .now)) (length (a .list .now))) in
+    let reply = sym (ap listReply (is .count .given .1)) ∙ called .largest-cells .ensures .0 ∙ ap (λ (k : Checked). replyAfter k (length cells ∷ [])) (sym (as-called else)) in
+    let told = figures-told found (length cells ∷ []) (is .count .given .0 .0 ∷ []) (a .figures .now) (else .if1 .left) reply (given .give .ensures) in
+    (told .0, (told .1, subst (λ (k : Checked). ListAfter k cells (a .list .now) (called .largest-cells .last .1 .1 .1 .0)) (sym (as-called else)) (called .largest-cells .ensures .1)))
+
+same-length-3 : tie.Need-same-length-3
+same-length-3 c = search needs
+
+returns-3 : tie.Need-returns-3
+returns-3 c =
+    let is = c .before .before in
+    let called = is .before .before .before .before in
+    let else = called .before .before in
+    let a = else .before .before .before .before .args in
+    let cells = largestCells (a .n) (a .m) (a .rows .now) in
+    let found = first (cellsChecks (a .n) (a .m) (a .rows .now) (length (a .figures .now)) (length (a .list .now))) in
+    let reply = sym (ap listReply (is .e .given .1)) ∙ called .largest-cells .ensures .0 ∙ ap (λ (k : Checked). replyAfter k (length cells ∷ [])) (sym (as-called else)) in
+    let told = refusal-told found (length cells ∷ []) (a .figures .now) reply in
+    (c .number-of .ensures ∙ told .0, (told .1, subst (λ (k : Checked). ListAfter k cells (a .list .now) (called .largest-cells .last .1 .1 .1 .0)) (sym (as-called else)) (called .largest-cells .ensures .1)))
+
+pub satmegwo-largest-cells-spec : {M : Type 1} → statement M
+satmegwo-largest-cells-spec =
+    tie.close
+    (tie.spec
+    check-box-requires
+    number-for-room-requires
+    returns
+    largest-cells-requires
+    enum-known-count
+    slice-aggregate-give
+    give-requires
+    enum-known-e
+    number-of-requires
+    same-length
+    same-length-2
+    returns-2
+    same-length-3
+    returns-3)

@@ -1,0 +1,115 @@
+-- `satmegwo::satmegwo_read_box` meets its contract: the array for the figures is looked at after that for the rows. Assumes nothing.
+use mathlib.Core.Path.{_≡_, sym, ap, _∙_}
+use mathlib.Core.List.{[], _∷_, append-nil}
+use borrow.Author.Tests.{eq-eqb, ne-eqb}
+use lib.ListN.{length}
+use Rattle.boolean.specs.Functions.{at}
+use Rattle.refusals.specs.Table.{first, replyAfter, contentAfter}
+use Rattle.refusals.specs.declared.Checked.{Checked}
+use Rattle.refusals.proofs.Checks.{reply-refused, content-refused}
+use Rattle.boxfile.specs.File.{rowsOf, fileChecks, boxFile}
+use Rattle.satmegwo.specs.Exports.{readBoxChecks, roomNumber}
+use Rattle.satmegwo.proofs.Giving.{figures-told, refusal-told, room-refused, room-passed}
+use borrow.Author.Needs.{needs}
+use Rattle.satmegwo.proofs.satmegwo_read_box.Statement.{statement}
+use Rattle.satmegwo.proofs.satmegwo_read_box.Tie as tie
+
+check-file-requires : tie.Need-check-file-requires
+check-file-requires c κs = search needs
+
+number-for-room-requires : tie.Need-number-for-room-requires
+number-for-room-requires c κs = search needs
+
+-- with two elements lent for the figures, the checks are those of the call
+as-called : (c : tie.Else1) →
+    let a = c .before .before .before .before .args in
+    first (readBoxChecks (a .file .now) (length (a .rows .now)) (length (a .figures .now))) ≡ first (fileChecks (a .file .now) (length (a .rows .now)))
+unfolding readBoxChecks
+as-called c =
+    let a = c .before .before .before .before .args in
+    room-passed (fileChecks (a .file .now) (length (a .rows .now))) [] (eq-eqb _ 2 (c .if1 .left)) ∙ ap first (append-nil _)
+
+returns : tie.Need-returns
+unfolding readBoxChecks
+returns c =
+    let else = c .before .before in
+    let a = else .before .before .before .before .args in
+    let file = a .file .now in
+    let widths = at file 0 ∷ at file 1 ∷ [] in
+    let found = first (readBoxChecks file (length (a .rows .now)) (length (a .figures .now))) in
+    let t = room-refused (fileChecks file (length (a .rows .now))) [] (ne-eqb _ 2 (else .if1 .taken)) in
+    let told = refusal-told found widths (a .figures .now) (reply-refused (t .is) widths) in
+    (c .number-for-room .ensures ∙ ap roomNumber (c .before .check-file .ensures) ∙ t .number-is ∙ told .0, (told .1, content-refused (t .is) _ _))
+
+read-box-requires : tie.Need-read-box-requires
+read-box-requires c κs = search needs
+
+enum-known-n : tie.Need-enum-known-n
+enum-known-n c = search needs
+
+slice-aggregate-give : tie.Need-slice-aggregate-give
+slice-aggregate-give c = search needs
+
+give-requires : tie.Need-give-requires
+give-requires c κs = search needs
+
+enum-known-e : tie.Need-enum-known-e
+enum-known-e c = search needs
+
+number-of-requires : tie.Need-number-of-requires
+number-of-requires c κs = search needs
+
+same-length : tie.Need-same-length
+same-length c = search needs
+
+same-length-2 : tie.Need-same-length-2
+same-length-2 c = search needs
+
+returns-2 : tie.Need-returns-2
+returns-2 c =
+    let given = c .before .before in
+    let is = given .before .before .before .before in
+    let called = is .before .before .before .before in
+    let else = called .before .before in
+    let a = else .before .before .before .before .args in
+    let file = a .file .now in
+    let widths = at file 0 ∷ at file 1 ∷ [] in
+    let found = first (readBoxChecks file (length (a .rows .now)) (length (a .figures .now))) in
+    let reply = sym (ap boxFile (is .n .given .1)) ∙ called .read-box .ensures .0 ∙ ap (λ (k : Checked). replyAfter k widths) (sym (as-called else)) in
+    let told = figures-told found widths (is .n .given .0 .0 ∷ is .n .given .0 .1 .0 ∷ []) (a .figures .now) (else .if1 .left) reply (given .give .ensures) in
+    (told .0, (told .1, called .read-box .ensures .1 ∙ ap (λ (k : Checked). contentAfter k (rowsOf file (at file 0)) (a .rows .now)) (sym (as-called else))))
+
+same-length-3 : tie.Need-same-length-3
+same-length-3 c = search needs
+
+returns-3 : tie.Need-returns-3
+returns-3 c =
+    let is = c .before .before in
+    let called = is .before .before .before .before in
+    let else = called .before .before in
+    let a = else .before .before .before .before .args in
+    let file = a .file .now in
+    let widths = at file 0 ∷ at file 1 ∷ [] in
+    let found = first (readBoxChecks file (length (a .rows .now)) (length (a .figures .now))) in
+    let reply = sym (ap boxFile (is .e .given .1)) ∙ called .read-box .ensures .0 ∙ ap (λ (k : Checked). replyAfter k widths) (sym (as-called else)) in
+    let told = refusal-told found widths (a .figures .now) reply in
+    (c .number-of .ensures ∙ told .0, (told .1, called .read-box .ensures .1 ∙ ap (λ (k : Checked). contentAfter k (rowsOf file (at file 0)) (a .rows .now)) (sym (as-called else))))
+
+pub satmegwo-read-box-spec : {M : Type 1} → statement M
+satmegwo-read-box-spec =
+    tie.close
+    (tie.spec
+    check-file-requires
+    number-for-room-requires
+    returns
+    read-box-requires
+    enum-known-n
+    slice-aggregate-give
+    give-requires
+    enum-known-e
+    number-of-requires
+    same-length
+    same-length-2
+    returns-2
+    same-length-3
+    returns-3)

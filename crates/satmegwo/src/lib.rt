@@ -1,0 +1,348 @@
+// The calls for C and for everything that speaks C. A slice is a pointer and its number of elements. Every function returns 0 or the number of
+// a refusal, and its figures go to an array that is lent for them.
+use algebraic::DegreeFound;
+use avalanche::LargestChange;
+use boxfile::BoxFile;
+use differential::CellList;
+use differential::LargestCell;
+use linear::LeastPair;
+use refusals::Checked;
+use refusals::Refusal;
+use refusals::Verdict;
+use refusals::Written;
+ghost use mathlib.Core.Path.{_≡_};
+ghost use mathlib.Core.List.{[], _∷_};
+ghost use Prim.Native.Nat.{_^_};
+ghost use lib.ListN.{length};
+ghost use Rattle.boolean.specs.Sums.{listBelow};
+ghost use Rattle.boolean.specs.Functions.{at, valueAt, component, spectrum, inverse, normalForm};
+ghost use Rattle.refusals.specs.Table.{tableCallChecks, first, replyAfter, contentAfter, written, verdict, figures as given};
+ghost use Rattle.walsh.specs.Calls.{inverseChecks};
+ghost use Rattle.linear.specs.Calls.{componentChecks, leastPair};
+ghost use Rattle.linear.specs.Nonlinearity.{nonlinearityReply};
+ghost use Rattle.columns.specs.Addition.{additionChecks, addedRows};
+ghost use Rattle.differential.specs.XorTable.{xorRow, largestCells};
+ghost use Rattle.differential.specs.Calls.{rowChecks, largestReply, xorReply, ListAfter};
+ghost use Rattle.avalanche.specs.Calls.{changeReply, autocorrelationReply, distanceReply, completeReply};
+ghost use Rattle.algebraic.specs.Calls.{degreeReply, boxDegreeReply, bijectiveReply};
+ghost use Rattle.constructions.specs.Enlargement.{enlargedTable, enlargedRows};
+ghost use Rattle.constructions.specs.BentForm.{bentTable};
+ghost use Rattle.constructions.specs.Calls.{columnChecks, enlargeChecks, bentChecks};
+ghost use Rattle.boxfile.specs.File.{rowsOf};
+ghost use Rattle.satmegwo.specs.Exports.{status, lent, figuresAfter, cellsChecks, readBoxChecks, roomNumber};
+
+// The number of a call that only writes.
+fn status_of(answer: Written) -> u32
+    ensures { λ r. ⌜ r ≡ status (written answer) ⌝ }
+{
+    match answer {
+        Written::Done => 0,
+        Written::Declined(e) => refusals::number_of(e),
+    }
+}
+
+// The figures, copied to an array that is as long.
+fn copy(found: &[u32], figures: &mut [u32])
+    requires { ⌜ length (now figures) ≡ length (now found) ⌝ }
+    ensures { λ _. ⌜ now (figures .exit) ≡ now (found .entry) ⌝ }
+{
+    let mut k = 0;
+    while k < found.len() {
+        figures[k] = found[k];
+        k += 1;
+    }
+}
+
+// The figures go to the lent array, or it has another length.
+fn give(found: &[u32], figures: &mut [u32]) -> u32
+    ensures number { λ r. ⌜ r ≡ status (lent (given (now (found .entry))) (length (now (figures .entry)))) ⌝ }
+    ensures content { λ r. ⌜ now (figures .exit) ≡ figuresAfter (lent (given (now (found .entry))) (length (now (figures .entry)))) (now (figures .entry)) ⌝ }
+{
+    if figures.len() != found.len() {
+        return refusals::number_of(Refusal::WrittenLength);
+    }
+    copy(found, figures);
+    0
+}
+
+// The figures of each kind of answer, or the number of its refusal.
+fn give_pair(answer: LeastPair, figures: &mut [u32]) -> u32
+    ensures number { λ r. ⌜ r ≡ status (lent (leastPair answer) (length (now (figures .entry)))) ⌝ }
+    ensures content { λ r. ⌜ now (figures .exit) ≡ figuresAfter (lent (leastPair answer) (length (now (figures .entry)))) (now (figures .entry)) ⌝ }
+{
+    match answer {
+        LeastPair::Reached { count, c, w, b } => give(&[count, c, w, b], figures),
+        LeastPair::Declined(e) => refusals::number_of(e),
+    }
+}
+
+fn give_cell(answer: LargestCell, figures: &mut [u32]) -> u32
+    ensures number { λ r. ⌜ r ≡ status (lent (largestReply answer) (length (now (figures .entry)))) ⌝ }
+    ensures content { λ r. ⌜ now (figures .exit) ≡ figuresAfter (lent (largestReply answer) (length (now (figures .entry)))) (now (figures .entry)) ⌝ }
+{
+    match answer {
+        LargestCell::Reached { count, a, beta } => give(&[count, a, beta], figures),
+        LargestCell::Declined(e) => refusals::number_of(e),
+    }
+}
+
+fn give_degree(answer: DegreeFound, figures: &mut [u32]) -> u32
+    ensures number { λ r. ⌜ r ≡ status (lent (degreeReply answer) (length (now (figures .entry)))) ⌝ }
+    ensures content { λ r. ⌜ now (figures .exit) ≡ figuresAfter (lent (degreeReply answer) (length (now (figures .entry)))) (now (figures .entry)) ⌝ }
+{
+    match answer {
+        DegreeFound::Reached { degree } => give(&[degree], figures),
+        DegreeFound::Declined(e) => refusals::number_of(e),
+    }
+}
+
+fn give_change(answer: LargestChange, figures: &mut [u32]) -> u32
+    ensures number { λ r. ⌜ r ≡ status (lent (changeReply answer) (length (now (figures .entry)))) ⌝ }
+    ensures content { λ r. ⌜ now (figures .exit) ≡ figuresAfter (lent (changeReply answer) (length (now (figures .entry)))) (now (figures .entry)) ⌝ }
+{
+    match answer {
+        LargestChange::Reached { figure, c, s } => give(&[figure, c, s], figures),
+        LargestChange::Declined(e) => refusals::number_of(e),
+    }
+}
+
+fn give_verdict(answer: Verdict, figures: &mut [u32]) -> u32
+    ensures number { λ r. ⌜ r ≡ status (lent (verdict answer) (length (now (figures .entry)))) ⌝ }
+    ensures content { λ r. ⌜ now (figures .exit) ≡ figuresAfter (lent (verdict answer) (length (now (figures .entry)))) (now (figures .entry)) ⌝ }
+{
+    match answer {
+        Verdict::Yes => give(&[1u32], figures),
+        Verdict::No => give(&[0u32], figures),
+        Verdict::Undecided(e) => refusals::number_of(e),
+    }
+}
+
+// The number to return where the array for the figures has another length: the checks before it go first.
+fn number_for_room(found: Checked) -> u32
+    ensures { λ r. ⌜ r ≡ roomNumber found ⌝ }
+{
+    match found {
+        Checked::Accepted => refusals::number_of(Refusal::WrittenLength),
+        Checked::Refused(e) => refusals::number_of(e),
+    }
+}
+
+// The spectrum of a truth table.
+#[no_mangle]
+pub extern "C" fn satmegwo_spectrum(n: u32, table: &[u8], out: &mut [i32]) -> u32
+    ensures number { λ r. ⌜ r ≡ status (replyAfter (first (tableCallChecks n (now (table .entry)) (length (now (out .entry))))) []) ⌝ }
+    ensures content { λ r. ⌜ now (out .exit) ≡ contentAfter (first (tableCallChecks n (now (table .entry)) (length (now (out .entry))))) (spectrum n (at (now (table .entry)))) (now (out .entry)) ⌝ }
+{
+    status_of(walsh::spectrum(n, table, out))
+}
+
+// The truth table of a spectrum.
+#[no_mangle]
+pub extern "C" fn satmegwo_inverse_spectrum(n: u32, values: &[i32], table: &mut [u8]) -> u32
+    ensures number { λ r. ⌜ r ≡ status (replyAfter (first (inverseChecks n (now (values .entry)) (length (now (table .entry))))) []) ⌝ }
+    ensures content { λ r. ⌜ now (table .exit) ≡ contentAfter (first (inverseChecks n (now (values .entry)) (length (now (table .entry))))) (listBelow (2 ^ n) (λ x. inverse n (valueAt (now (values .entry))) x)) (now (table .entry)) ⌝ }
+{
+    status_of(walsh::inverse_spectrum(n, values, table))
+}
+
+// The spectrum of component c of a box.
+#[no_mangle]
+pub extern "C" fn satmegwo_component_spectrum(
+    n: u32,
+    m: u32,
+    rows: &[u16],
+    c: u32,
+    out: &mut [i32],
+) -> u32
+    ensures number { λ r. ⌜ r ≡ status (replyAfter (first (componentChecks n m (now (rows .entry)) c (length (now (out .entry))))) []) ⌝ }
+    ensures content { λ r. ⌜ now (out .exit) ≡ contentAfter (first (componentChecks n m (now (rows .entry)) c (length (now (out .entry))))) (spectrum n (component (now (rows .entry)) c)) (now (out .entry)) ⌝ }
+{
+    status_of(linear::spectrum_of_component(n, m, rows, c, out))
+}
+
+// The nonlinearity of a box, with c, w and b.
+#[no_mangle]
+pub extern "C" fn satmegwo_nonlinearity(n: u32, m: u32, rows: &[u16], figures: &mut [u32]) -> u32
+    ensures number { λ r. ⌜ r ≡ status (lent (nonlinearityReply n m (now (rows .entry))) (length (now (figures .entry)))) ⌝ }
+    ensures content { λ r. ⌜ now (figures .exit) ≡ figuresAfter (lent (nonlinearityReply n m (now (rows .entry))) (length (now (figures .entry)))) (now (figures .entry)) ⌝ }
+{
+    give_pair(linear::nonlinearity(n, m, rows), figures)
+}
+
+// Adds the affine function (w, b) to column j.
+#[no_mangle]
+pub extern "C" fn satmegwo_add_to_column(
+    n: u32,
+    m: u32,
+    rows: &[u16],
+    j: u32,
+    w: u32,
+    b: u32,
+    out: &mut [u16],
+) -> u32
+    ensures number { λ r. ⌜ r ≡ status (replyAfter (first (additionChecks n m (now (rows .entry)) j w b (length (now (out .entry))))) []) ⌝ }
+    ensures content { λ r. ⌜ now (out .exit) ≡ contentAfter (first (additionChecks n m (now (rows .entry)) j w b (length (now (out .entry))))) (addedRows j w b (now (rows .entry))) (now (out .entry)) ⌝ }
+{
+    status_of(columns::add_to_column(n, m, rows, j, w, b, out))
+}
+
+// One row of the XOR table.
+#[no_mangle]
+pub extern "C" fn satmegwo_xor_row(n: u32, m: u32, rows: &[u16], a: u32, counts: &mut [u16]) -> u32
+    ensures number { λ r. ⌜ r ≡ status (replyAfter (first (rowChecks n m (now (rows .entry)) a (length (now (counts .entry))))) []) ⌝ }
+    ensures content { λ r. ⌜ now (counts .exit) ≡ contentAfter (first (rowChecks n m (now (rows .entry)) a (length (now (counts .entry))))) (xorRow n m (now (rows .entry)) a) (now (counts .entry)) ⌝ }
+{
+    status_of(differential::xor_row(n, m, rows, a, counts))
+}
+
+// The largest cell of the XOR table, with a and beta.
+#[no_mangle]
+pub extern "C" fn satmegwo_largest_cell(n: u32, m: u32, rows: &[u16], figures: &mut [u32]) -> u32
+    ensures number { λ r. ⌜ r ≡ status (lent (xorReply n m (now (rows .entry))) (length (now (figures .entry)))) ⌝ }
+    ensures content { λ r. ⌜ now (figures .exit) ≡ figuresAfter (lent (xorReply n m (now (rows .entry))) (length (now (figures .entry)))) (now (figures .entry)) ⌝ }
+{
+    give_cell(differential::largest_cell(n, m, rows), figures)
+}
+
+// The list of all cells that reach the largest count. It is written to only where its number can be given too.
+#[no_mangle]
+pub extern "C" fn satmegwo_largest_cells(
+    n: u32,
+    m: u32,
+    rows: &[u16],
+    list: &mut [u32],
+    figures: &mut [u32],
+) -> u32
+    ensures number { λ r. ⌜ r ≡ status (replyAfter (first (cellsChecks n m (now (rows .entry)) (length (now (figures .entry))) (length (now (list .entry))))) (length (largestCells n m (now (rows .entry))) ∷ [])) ⌝ }
+    ensures content { λ r. ⌜ now (figures .exit) ≡ contentAfter (first (cellsChecks n m (now (rows .entry)) (length (now (figures .entry))) (length (now (list .entry))))) (length (largestCells n m (now (rows .entry))) ∷ []) (now (figures .entry)) ⌝ }
+    ensures cells { λ r. ⌜ ListAfter (first (cellsChecks n m (now (rows .entry)) (length (now (figures .entry))) (length (now (list .entry))))) (largestCells n m (now (rows .entry))) (now (list .entry)) (now (list .exit)) ⌝ }
+{
+    if figures.len() != 1 {
+        return number_for_room(refusals::check_box(n, m, rows));
+    }
+    match differential::largest_cells(n, m, rows, list) {
+        CellList::Listed { count } => give(&[count], figures),
+        CellList::Unlisted(e) => refusals::number_of(e),
+    }
+}
+
+// The largest |r(s)|, with c and s.
+#[no_mangle]
+pub extern "C" fn satmegwo_autocorrelation(n: u32, m: u32, rows: &[u16], figures: &mut [u32]) -> u32
+    ensures number { λ r. ⌜ r ≡ status (lent (autocorrelationReply n m (now (rows .entry))) (length (now (figures .entry)))) ⌝ }
+    ensures content { λ r. ⌜ now (figures .exit) ≡ figuresAfter (lent (autocorrelationReply n m (now (rows .entry))) (length (now (figures .entry)))) (now (figures .entry)) ⌝ }
+{
+    give_change(avalanche::autocorrelation(n, m, rows), figures)
+}
+
+// The dynamic distance of order (i, j), doubled, with c and d.
+#[no_mangle]
+pub extern "C" fn satmegwo_dynamic_distance(
+    n: u32,
+    m: u32,
+    rows: &[u16],
+    i: u32,
+    j: u32,
+    figures: &mut [u32],
+) -> u32
+    ensures number { λ r. ⌜ r ≡ status (lent (distanceReply n m (now (rows .entry)) i j) (length (now (figures .entry)))) ⌝ }
+    ensures content { λ r. ⌜ now (figures .exit) ≡ figuresAfter (lent (distanceReply n m (now (rows .entry)) i j) (length (now (figures .entry)))) (now (figures .entry)) ⌝ }
+{
+    give_change(avalanche::dynamic_distance(n, m, rows, i, j), figures)
+}
+
+// The normal form of a truth table.
+#[no_mangle]
+pub extern "C" fn satmegwo_normal_form(n: u32, table: &[u8], out: &mut [u8]) -> u32
+    ensures number { λ r. ⌜ r ≡ status (replyAfter (first (tableCallChecks n (now (table .entry)) (length (now (out .entry))))) []) ⌝ }
+    ensures content { λ r. ⌜ now (out .exit) ≡ contentAfter (first (tableCallChecks n (now (table .entry)) (length (now (out .entry))))) (normalForm n (at (now (table .entry)))) (now (out .entry)) ⌝ }
+{
+    status_of(algebraic::normal_form(n, table, out))
+}
+
+// The degree of a box.
+#[no_mangle]
+pub extern "C" fn satmegwo_degree(n: u32, m: u32, rows: &[u16], figures: &mut [u32]) -> u32
+    ensures number { λ r. ⌜ r ≡ status (lent (boxDegreeReply n m (now (rows .entry))) (length (now (figures .entry)))) ⌝ }
+    ensures content { λ r. ⌜ now (figures .exit) ≡ figuresAfter (lent (boxDegreeReply n m (now (rows .entry))) (length (now (figures .entry)))) (now (figures .entry)) ⌝ }
+{
+    give_degree(algebraic::degree(n, m, rows), figures)
+}
+
+// Whether every input bit changes every column.
+#[no_mangle]
+pub extern "C" fn satmegwo_complete(n: u32, m: u32, rows: &[u16], figures: &mut [u32]) -> u32
+    ensures number { λ r. ⌜ r ≡ status (lent (completeReply n m (now (rows .entry))) (length (now (figures .entry)))) ⌝ }
+    ensures content { λ r. ⌜ now (figures .exit) ≡ figuresAfter (lent (completeReply n m (now (rows .entry))) (length (now (figures .entry)))) (now (figures .entry)) ⌝ }
+{
+    give_verdict(avalanche::is_complete(n, m, rows), figures)
+}
+
+// Whether n = m and no two rows are equal.
+#[no_mangle]
+pub extern "C" fn satmegwo_bijective(n: u32, m: u32, rows: &[u16], figures: &mut [u32]) -> u32
+    ensures number { λ r. ⌜ r ≡ status (lent (bijectiveReply n m (now (rows .entry))) (length (now (figures .entry)))) ⌝ }
+    ensures content { λ r. ⌜ now (figures .exit) ≡ figuresAfter (lent (bijectiveReply n m (now (rows .entry))) (length (now (figures .entry)))) (now (figures .entry)) ⌝ }
+{
+    give_verdict(algebraic::is_bijective(n, m, rows), figures)
+}
+
+// A column with one more input.
+#[no_mangle]
+pub extern "C" fn satmegwo_enlarge_column(
+    n: u32,
+    table: &[u8],
+    k: u32,
+    a: u32,
+    out: &mut [u8],
+) -> u32
+    ensures number { λ r. ⌜ r ≡ status (replyAfter (first (columnChecks n (now (table .entry)) k a (length (now (out .entry))))) []) ⌝ }
+    ensures content { λ r. ⌜ now (out .exit) ≡ contentAfter (first (columnChecks n (now (table .entry)) k a (length (now (out .entry))))) (enlargedTable n (now (table .entry)) k a) (now (out .entry)) ⌝ }
+{
+    status_of(constructions::enlarge_column(n, table, k, a, out))
+}
+
+// A box with one more input and one more output.
+#[no_mangle]
+pub extern "C" fn satmegwo_enlarge_box(
+    n: u32,
+    rows: &[u16],
+    table: &[u8],
+    k: u32,
+    out: &mut [u16],
+) -> u32
+    ensures number { λ r. ⌜ r ≡ status (replyAfter (first (enlargeChecks n (now (rows .entry)) (now (table .entry)) k (length (now (out .entry))))) []) ⌝ }
+    ensures content { λ r. ⌜ now (out .exit) ≡ contentAfter (first (enlargeChecks n (now (rows .entry)) (now (table .entry)) k (length (now (out .entry))))) (enlargedRows n (now (rows .entry)) (now (table .entry)) k) (now (out .entry)) ⌝ }
+{
+    status_of(constructions::enlarge_box(n, rows, table, k, out))
+}
+
+// A bent function.
+#[no_mangle]
+pub extern "C" fn satmegwo_bent_function(
+    n: u32,
+    permutation: &[u8],
+    table: &[u8],
+    out: &mut [u8],
+) -> u32
+    ensures number { λ r. ⌜ r ≡ status (replyAfter (first (bentChecks n (now (permutation .entry)) (now (table .entry)) (length (now (out .entry))))) []) ⌝ }
+    ensures content { λ r. ⌜ now (out .exit) ≡ contentAfter (first (bentChecks n (now (permutation .entry)) (now (table .entry)) (length (now (out .entry))))) (bentTable n (now (permutation .entry)) (now (table .entry))) (now (out .entry)) ⌝ }
+{
+    status_of(constructions::bent_function(n, permutation, table, out))
+}
+
+// Reads a box file: the rows go to one array, n and m to another. Neither is written to unless both can be.
+#[no_mangle]
+pub extern "C" fn satmegwo_read_box(file: &[u8], rows: &mut [u16], figures: &mut [u32]) -> u32
+    ensures number { λ r. ⌜ r ≡ status (replyAfter (first (readBoxChecks (now (file .entry)) (length (now (rows .entry))) (length (now (figures .entry))))) (at (now (file .entry)) 0 ∷ at (now (file .entry)) 1 ∷ [])) ⌝ }
+    ensures content { λ r. ⌜ now (figures .exit) ≡ contentAfter (first (readBoxChecks (now (file .entry)) (length (now (rows .entry))) (length (now (figures .entry))))) (at (now (file .entry)) 0 ∷ at (now (file .entry)) 1 ∷ []) (now (figures .entry)) ⌝ }
+    ensures rows { λ r. ⌜ now (rows .exit) ≡ contentAfter (first (readBoxChecks (now (file .entry)) (length (now (rows .entry))) (length (now (figures .entry))))) (rowsOf (now (file .entry)) (at (now (file .entry)) 0)) (now (rows .entry)) ⌝ }
+{
+    if figures.len() != 2 {
+        return number_for_room(boxfile::check_file(file, rows.len()));
+    }
+    match boxfile::read_box(file, rows) {
+        BoxFile::Read { n, m } => give(&[n, m], figures),
+        BoxFile::Declined(e) => refusals::number_of(e),
+    }
+}

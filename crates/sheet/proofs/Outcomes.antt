@@ -1,0 +1,50 @@
+-- What comes of a line, from what its call replied. Assumes nothing.
+use Prim.Native.Nat.{ℕ}
+use Prim.Native.String.{String}
+use mathlib.Core.Path.{_≡_, ap, _∙_}
+use mathlib.Core.List.{List, [], _∷_, _++_, append-assoc, append-nil}
+use borrow.Author.Tests.{eq-eqb, ne-eqb}
+use Rattle.boolean.specs.Sums.{each}
+use Rattle.refusals.specs.Table.{Reply, figures, refusal}
+use Rattle.texts.specs.Text.{bytes, spaced, line}
+use Rattle.sheet.specs.Sheet.{numbers, decided, prints, stops, outcome, yesOrNo, bicLine}
+use Rattle.avalanche.specs.Calls.{distanceReply}
+
+-- a line without figures is its word and the line's end
+line-of-word : (word : List ℕ) → line word [] ≡ word ++ bytes "\n"
+unfolding line spaced each
+line-of-word word = rw append-nil
+
+module _ (word : String) {reply : Reply} where
+  pub numbers-refused : {k : ℕ} → reply ≡ refusal k → outcome (numbers word reply) ≡ stops
+  unfolding outcome
+  numbers-refused h = rw h
+
+  pub numbers-shown : {given : List ℕ} → reply ≡ figures given → outcome (numbers word reply) ≡ prints (line (bytes word) given)
+  unfolding outcome
+  numbers-shown h = rw h
+
+  pub decided-refused : {k : ℕ} → reply ≡ refusal k → outcome (decided word reply) ≡ stops
+  unfolding outcome
+  decided-refused h = rw h
+
+  pub decided-shown : {given : List ℕ} → reply ≡ figures given → outcome (decided word reply) ≡ prints (line (bytes word ++ yesOrNo given) [])
+  unfolding outcome
+  decided-shown h = rw h
+
+  pub decided-yes : reply ≡ figures (1 ∷ []) → outcome (decided word reply) ≡ prints (bytes word ++ bytes " yes\n")
+  unfolding outcome yesOrNo
+  decided-yes h = rw h (ap prints (line-of-word (bytes word ++ bytes " yes") ∙ append-assoc (bytes word) (bytes " yes") (bytes "\n")))
+
+  pub decided-no : reply ≡ figures (0 ∷ []) → outcome (decided word reply) ≡ prints (bytes word ++ bytes " no\n")
+  unfolding outcome yesOrNo
+  decided-no h = rw h (ap prints (line-of-word (bytes word ++ bytes " no") ∙ append-assoc (bytes word) (bytes " no") (bytes "\n")))
+
+-- the sixth line: with m = 1 there is no figure, and else it shows one
+module _ (n m : ℕ) (rows : List ℕ) where
+  pub bic-none : m ≡ 1 → outcome (bicLine n m rows) ≡ prints (bytes "bic none\n")
+  unfolding outcome
+  bic-none h = rw (eq-eqb m 1 h) (ap prints (line-of-word (bytes "bic none")))
+
+  pub bic-shown : (m ≡ 1 → ⊥) → bicLine n m rows ≡ numbers "bic" (distanceReply n m rows 2 1)
+  bic-shown h = rw (ne-eqb m 1 h)

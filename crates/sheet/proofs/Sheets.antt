@@ -1,0 +1,74 @@
+-- The whole sheet, from what reading the file replied. Assumes nothing.
+use Prim.Native.Nat.{ℕ, _+_, _^_, _≤_}
+use mathlib.Core.Path.{_≡_, refl, sym, ap, _∙_}
+use mathlib.Core.List.{List, [], _∷_, _++_}
+use native.Mathlib.Omega.{arith}
+use lib.ListN.{length, getD}
+use lib.Seq.{sets}
+use Rattle.boolean.specs.Functions.{at}
+use Rattle.boolean.proofs.Stored.{stored-none, stored-more}
+use Rattle.refusals.specs.Table.{first, figures, refusal, replyAfter, contentAfter}
+use Rattle.refusals.specs.declared.Checked.{Checked}
+use Rattle.refusals.specs.declared.Checked.the-variants.{Accepted, Refused}
+use Rattle.refusals.proofs.Checks.{content-accepted}
+use Rattle.boxfile.specs.File.{rowsOf, fileChecks}
+use Rattle.texts.specs.Text.{bytes, line}
+use Rattle.texts.proofs.Lengths.{line-few}
+use Rattle.sheet.specs.Sheet.{untilRefused, sheetLines, fileReply, sheetText}
+use Rattle.sheet.specs.Work.{Printed, Room}
+
+-- a call that replied figures was accepted, and these are what it gives
+pub reply-figures : (k : Checked) {given shows : List ℕ} → replyAfter k given ≡ figures shows → (k ≡ Accepted) × (shows ≡ given)
+reply-figures Accepted h = (refl, cc)
+reply-figures (Refused e) h = (cc, cc)
+
+module _ (file : List ℕ) where
+  -- the reply with a room that suits the file's checks
+  pub reply-with-room : {room : ℕ} → Room file room → replyAfter (first (fileChecks file room)) (at file 0 ∷ at file 1 ∷ []) ≡ fileReply file
+  unfolding fileReply
+  reply-with-room t = ap (λ (k : Checked). replyAfter k (at file 0 ∷ at file 1 ∷ [])) (t .same)
+
+  pub read-accepted : {shows : List ℕ} → fileReply file ≡ figures shows → (first (fileChecks file (2 ^ at file 0)) ≡ Accepted) × (shows ≡ at file 0 ∷ at file 1 ∷ [])
+  unfolding fileReply
+  read-accepted h = reply-figures (first (fileChecks file (2 ^ at file 0))) h
+
+  pub rows-with-room : {room : ℕ} {shows : List ℕ} → Room file room → fileReply file ≡ figures shows → (old : List ℕ)
+      → contentAfter (first (fileChecks file room)) (rowsOf file (at file 0)) old ≡ rowsOf file (at file 0)
+  rows-with-room t h old = sym (content-accepted (t .same ∙ read-accepted h .0) (rowsOf file (at file 0)) old)
+
+  -- the sheet of a refused file, and of one that is read
+  pub sheet-refused : {k : ℕ} → fileReply file ≡ refusal k → sheetText file ≡ line (bytes "refused") (k ∷ [])
+  unfolding sheetText
+  sheet-refused h = rw (h, sheetText)
+
+  pub sheet-read : {shows : List ℕ} → fileReply file ≡ figures shows
+      → sheetText file ≡ line (bytes "box") shows ++ untilRefused (sheetLines (at file 0) (at file 1) (rowsOf file (at file 0)))
+  unfolding sheetText
+  sheet-read h = rw (h, sheetText)
+
+  -- the text that the sheet stands in from its start on
+  abbrev pub Sheet : ℕ → List ℕ → List ℕ → Type 0
+  Sheet r old new = (r ≡ length (sheetText file)) × (r ≤ 288) × (new ≡ sets old 0 (sheetText file))
+
+  pub wrote-refused : (old : List ℕ) {k r : ℕ} {new : List ℕ} → fileReply file ≡ refusal k → r ≡ 0 + length (line (bytes "refused") (k ∷ []))
+      → new ≡ sets old 0 (line (bytes "refused") (k ∷ [])) → Sheet r old new
+  wrote-refused old {k} {r} h p q =
+      let whole = sheet-refused h in
+      (omega (arith, ap length whole), omega (arith, line-few (bytes "refused") (k ∷ [])), q ∙ ap (sets old 0) (sym whole))
+
+  pub wrote-box : (old : List ℕ) {n m : ℕ} {rows : List ℕ} {next r : ℕ} {middle new : List ℕ} → fileReply file ≡ figures (n ∷ m ∷ []) → rows ≡ rowsOf file (at file 0)
+      → next ≡ 0 + length (line (bytes "box") (n ∷ m ∷ [])) → middle ≡ sets old 0 (line (bytes "box") (n ∷ m ∷ []))
+      → Printed (sheetLines n m rows) 262 next middle r new → Sheet r old new
+  wrote-box old {n} {m} {rows} h rows-are p q t =
+      let widths = read-accepted h .1 in
+      let n-is : n ≡ at file 0 = ap (λ (l : List ℕ). getD l 0 0) widths in
+      let m-is : m ≡ at file 1 = ap (λ (l : List ℕ). getD l 1 0) widths in
+      let lines : sheetLines n m rows ≡ sheetLines (at file 0) (at file 1) (rowsOf file (at file 0)) = cc in
+      let both = stored-more (stored-more (stored-none 0 old) (line (bytes "box") (n ∷ m ∷ [])) p q) (untilRefused (sheetLines n m rows)) (t .place) (t .text) in
+      let whole : line (bytes "box") (n ∷ m ∷ []) ++ untilRefused (sheetLines n m rows) ≡ sheetText file =
+      ap (λ (ls : _). line (bytes "box") (n ∷ m ∷ []) ++ untilRefused ls) lines ∙ sym (sheet-read h) in
+      let long = line-few (bytes "box") (n ∷ m ∷ []) in (
+        omega (arith, both .place, ap length whole),
+        omega (arith, t .place, t .short),
+        both .stored ∙ ap (sets old 0) whole,
+      )

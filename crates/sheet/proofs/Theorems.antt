@@ -1,0 +1,170 @@
+-- What can be relied on of the sheets. Assumes nothing.
+use Prim.Native.Nat.{ℕ, _+_, _*_, _^_, _≤_}
+use mathlib.Core.Path.{_≡_, refl, sym, ap, ap₂, _∙_}
+use mathlib.Core.Bool.{Bool, true, false, cond}
+use mathlib.Core.List.{List, [], _∷_, _++_, List·Memᴰ, List·Memᴰ·not-nil}
+use native.Mathlib.Nat.{le-refl}
+use native.Mathlib.Omega.{arith}
+use borrow.Author.Tests.{eqb-false, eq-eqb, ne-eqb, le-leb}
+use lib.Dec.{eqb, leb}
+use lib.ListN.{length, take}
+use lib.Pow.{pow-mono}
+use lib.Seq.{getD-take, length-take-le}
+use Rattle.boolean.specs.Sums.{each}
+use Rattle.boolean.specs.Functions.{at}
+use Rattle.boolean.specs.Selection.{shown}
+use Rattle.boolean.proofs.Selection.{of-cons}
+use Rattle.refusals.specs.Table.{first, inRange, boxChecks, figures, refusal, asFigure}
+use Rattle.refusals.specs.declared.Checked.the-variants.{Accepted}
+use Rattle.refusals.proofs.Bounds.{range-low, range-high, range-true}
+use Rattle.refusals.proofs.Checks.{passed, accepted, found, found-after, skip, stop, end, reply-refused, reply-accepted}
+use Rattle.linear.specs.Nonlinearity.{nonlinearity}
+use Rattle.differential.specs.XorTable.{largestCell}
+use Rattle.avalanche.specs.Avalanche.{boxAutocorrelation, dynamicDistance, complete}
+use Rattle.avalanche.specs.Calls.{distanceChecks}
+use Rattle.algebraic.specs.Algebraic.{boxDegree, bijective}
+use Rattle.boxfile.specs.File.{rowsOf, readChecks, fileChecks}
+use Rattle.boxfile.proofs.FileRows.{length-rows}
+use Rattle.texts.specs.Text.{bytes, line}
+use Rattle.sheet.specs.Sheet.{Line, prints, stops, outcome, yesOrNo, untilRefused, bicLine, sheetLines, fileReply, sheetText}
+use Rattle.sheet.proofs.Outcomes.{numbers-shown, decided-shown}
+use Rattle.sheet.proofs.Printing.{until-prints}
+use Rattle.sheet.proofs.Sheets.{read-accepted, sheet-refused, sheet-read}
+
+-- ---- a file that is accepted
+
+-- what the checks of an accepted file say of its box
+record Accepted-box (n m : ℕ) (rows : List ℕ) : Type 0 where
+  n-low : 1 ≤ n
+  m-low : 1 ≤ m
+  box : first (boxChecks n m rows) ≡ Accepted
+
+box-of-file : (file : List ℕ) {shows : List ℕ} → fileReply file ≡ figures shows → Accepted-box (at file 0) (at file 1) (rowsOf file (at file 0))
+unfolding fileChecks readChecks
+box-of-file file h =
+    let n = at file 0 in
+    let m = at file 1 in
+    let rows = rowsOf file n in
+    let p = passed (fileChecks file (2 ^ n)) (read-accepted file h .0) in
+    record {
+      n-low = range-low 1 8 n (p .1 .0);
+      m-low = range-low 1 16 m (p .1 .1 .0);
+      box = accepted (boxChecks n m rows) (p .1 .0, (p .1 .1 .0, (eq-eqb (length rows) (2 ^ n) (length-rows file n), (p .1 .1 .1 .1 .0, tt))));
+    }
+
+-- lines of which each is printed, with their texts
+data Print : List Line → List (List ℕ) → Type 0 where
+  none : Print [] []
+  more : {l : Line} {ls : List Line} {text : List ℕ} {texts : List (List ℕ)} → outcome l ≡ prints text → Print ls texts → Print (l ∷ ls) (text ∷ texts)
+
+print-all : {ls : List Line} {texts : List (List ℕ)} → Print ls texts → untilRefused ls ≡ each texts (λ text. text)
+unfolding untilRefused each
+print-all none = refl
+print-all (more {l} {ls} {text} h t) = until-prints l ls h ∙ ap (λ (rest : List ℕ). text ++ rest) (print-all t)
+
+print-each : {ls : List Line} {texts : List (List ℕ)} → Print ls texts → (l : Line) → List·Memᴰ l ls → outcome l ≡ stops → ⊥
+print-each none l i = absurd (List·Memᴰ·not-nil i)
+print-each (more h t) l i = of-cons (λ (k : Line). outcome k ≡ stops → ⊥) (λ e. let z : _≡_ {A = ℕ} 0 1 = cc in omega arith) (λ j. print-each t l j) i
+
+-- the texts of a box's lines after the first, where no figure is refused
+abbrev pub textsOf : ℕ → ℕ → List ℕ → List (List ℕ)
+textsOf n m rows =
+    line (bytes "nonlinearity") (shown (nonlinearity n m rows))
+    ∷ line (bytes "xor") (shown (largestCell n m rows))
+    ∷ line (bytes "autocorrelation") (shown (boxAutocorrelation n m rows))
+    ∷ line (bytes "sac") (shown (dynamicDistance n m rows 1 1))
+    ∷ cond (eqb m 1) (line (bytes "bic none") []) (line (bytes "bic") (shown (dynamicDistance n m rows 2 1)))
+    ∷ line (bytes "degree") (boxDegree n m rows ∷ [])
+    ∷ line (bytes "complete" ++ yesOrNo (asFigure (complete n m rows))) []
+    ∷ line (bytes "bijective" ++ yesOrNo (asFigure (bijective n m rows))) []
+    ∷ []
+
+module _ (n m : ℕ) (rows : List ℕ) (b : Accepted-box n m rows) where
+  -- an order (i, j) that a box of m outputs has is accepted
+  order-accepted : (i j : ℕ) → 1 ≤ i → i ≤ m → 1 ≤ j → j ≤ n → first (distanceChecks n m rows i j) ≡ Accepted
+  unfolding distanceChecks
+  order-accepted i j i-low i-high j-low j-high =
+      sym (found-after (boxChecks n m rows) (b .box) (skip (range-true 1 m i i-low i-high) (skip (range-true 1 n j j-low j-high) end)))
+
+  abbrev bicText : List ℕ
+  bicText = cond (eqb m 1) (line (bytes "bic none") []) (line (bytes "bic") (shown (dynamicDistance n m rows 2 1)))
+
+  bic-printed : outcome (bicLine n m rows) ≡ prints bicText
+  unfolding outcome
+  bic-printed = by (eqb m 1) refl
+    where
+      by : (one : Bool) → eqb m 1 ≡ one → outcome (bicLine n m rows) ≡ prints bicText
+      by true e = rw e
+      by false e =
+          let two : 2 ≤ m = omega (arith, b .m-low, eqb-false m 1 e) in
+          rw e (numbers-shown "bic" (sym (reply-accepted (order-accepted 2 1 (omega arith) two (le-refl 1) (b .n-low)) _)))
+
+  lines-printed : Print (sheetLines n m rows) (textsOf n m rows)
+  unfolding sheetLines
+  lines-printed =
+      more (numbers-shown "nonlinearity" (sym (reply-accepted (b .box) _)))
+      (more (numbers-shown "xor" (sym (reply-accepted (b .box) _)))
+      (more (numbers-shown "autocorrelation" (sym (reply-accepted (b .box) _)))
+      (more (numbers-shown "sac" (sym (reply-accepted (order-accepted 1 1 (le-refl 1) (b .m-low) (le-refl 1) (b .n-low)) _)))
+      (more bic-printed
+      (more (numbers-shown "degree" (sym (reply-accepted (b .box) _)))
+      (more (decided-shown "complete" (sym (reply-accepted (b .box) _)))
+      (more (decided-shown "bijective" (sym (reply-accepted (b .box) _)))
+      none)))))))
+
+-- After an accepted file no figure is refused: of the lines of its sheet none stops it.
+pub no-figure-refused : (file : List ℕ) {shows : List ℕ} → fileReply file ≡ figures shows
+    → (l : Line) → List·Memᴰ l (sheetLines (at file 0) (at file 1) (rowsOf file (at file 0))) → outcome l ≡ stops → ⊥
+no-figure-refused file h = print-each (lines-printed (at file 0) (at file 1) (rowsOf file (at file 0)) (box-of-file file h))
+
+-- The sheet of an accepted file is its nine lines, one after the other: the widths, and the figures of the box that the file holds.
+pub nine-lines : (file : List ℕ) {shows : List ℕ} → fileReply file ≡ figures shows
+    → sheetText file ≡ each (line (bytes "box") (at file 0 ∷ at file 1 ∷ []) ∷ textsOf (at file 0) (at file 1) (rowsOf file (at file 0))) (λ text. text)
+unfolding each
+nine-lines file h =
+    sheet-read file h
+    ∙ ap₂ (λ (widths text : List ℕ). line (bytes "box") widths ++ text) (read-accepted file h .1)
+    (print-all (lines-printed (at file 0) (at file 1) (rowsOf file (at file 0)) (box-of-file file h)))
+
+-- ---- a file that is too long
+
+-- the number of a file that is longer than that of any box: what n and m say, and else 10
+abbrev pub longNumber : ℕ → ℕ → ℕ
+longNumber n m = cond (inRange 1 8 n) (cond (inRange 1 16 m) 10 2) 1
+
+-- no box has a file of 515 bytes or more
+too-long : (file : List ℕ) → 515 ≤ length file → inRange 1 8 (at file 0) ≡ true → eqb (length file) (2 + 2 * 2 ^ at file 0) ≡ false
+too-long file long h =
+    let high : at file 0 ≤ 8 = range-high 1 8 (at file 0) h in
+    let most : 2 ^ at file 0 ≤ 256 = pow-mono high in
+    ne-eqb (length file) (2 + 2 * 2 ^ at file 0) (λ e. omega arith)
+
+-- A file of 515 bytes or more is refused, and by its first two bytes alone.
+pub long-file-refused : (file : List ℕ) → 515 ≤ length file → fileReply file ≡ refusal (longNumber (at file 0) (at file 1))
+unfolding fileReply fileChecks readChecks
+long-file-refused file long = by (inRange 1 8 (at file 0)) (inRange 1 16 (at file 1)) refl refl
+  where
+    two : leb 2 (length file) ≡ true
+    two = le-leb 2 (length file) (omega arith)
+
+    by : (a b : Bool) → inRange 1 8 (at file 0) ≡ a → inRange 1 16 (at file 1) ≡ b → fileReply file ≡ refusal (longNumber (at file 0) (at file 1))
+    by true true p q =
+        let ten : longNumber (at file 0) (at file 1) ≡ 10 = rw (p, q) in
+        sym (reply-refused (sym (found (skip two (skip p (skip q (stop (too-long file long p))))))) _) ∙ ap refusal (sym ten)
+    by true false p q =
+        let outputs : longNumber (at file 0) (at file 1) ≡ 2 = rw (p, q) in
+        sym (reply-refused (sym (found (skip two (skip p (stop q))))) _) ∙ ap refusal (sym outputs)
+    by false b p q =
+        let inputs : longNumber (at file 0) (at file 1) ≡ 1 = rw p in
+        sym (reply-refused (sym (found (skip two (stop p)))) _) ∙ ap refusal (sym inputs)
+
+-- What a file of 515 bytes or more has past them changes nothing: the program may stop reading there.
+pub only-the-start-matters : (file : List ℕ) → 515 ≤ length file → sheetText (take 515 file) ≡ sheetText file
+only-the-start-matters file long =
+    let start = take 515 file in
+    let start-long : 515 ≤ length start = omega (arith, length-take-le 515 file long) in
+    let n-same : at start 0 ≡ at file 0 = getD-take 515 file 0 0 (omega arith) in
+    let m-same : at start 1 ≡ at file 1 = getD-take 515 file 1 0 (omega arith) in
+    sheet-refused start (long-file-refused start start-long)
+    ∙ ap₂ (λ (n m : ℕ). line (bytes "refused") (longNumber n m ∷ [])) n-same m-same
+    ∙ sym (sheet-refused file (long-file-refused file long))

@@ -1,0 +1,44 @@
+-- `sheet::room_of` meets its contract: where n is a box's the room is 2^n, and else the checks do not ask for it. Assumes nothing.
+use native.Mathlib.Nat.{le-trans}
+use native.Mathlib.Omega.{arith}
+use lib.Dec.{lit≤}
+use Rattle.refusals.proofs.Bounds.{range-high}
+use Rattle.refusals.proofs.Checks.{fails, holds}
+use Rattle.sheet.proofs.FileRoom.{no-room, room-of-none, room-of-rows}
+use borrow.Author.Needs.{needs}
+use Rattle.sheet.proofs.room_of.Statement.{statement}
+use Rattle.sheet.proofs.room_of.Tie as tie
+
+returns : tie.Need-returns
+returns c = room-of-none _ (c .if1 .taken)
+
+shared-slice-read-n : tie.Need-shared-slice-read-n
+shared-slice-read-n c = search needs
+
+cast-n : tie.Need-cast-n
+cast-n c = omega (arith, c .shared-slice-known2 .given 0)
+
+in-range-requires : tie.Need-in-range-requires
+in-range-requires c κs = search needs
+
+returns-2 : tie.Need-returns-2
+returns-2 c = no-room _ (fails (c .before .in-range .ensures) (c .if2 .taken))
+
+power-of-two-requires : tie.Need-power-of-two-requires
+power-of-two-requires c κs = le-trans (range-high 1 8 _ (holds (c .before .in-range .ensures) (c .if2 .left))) (lit≤ tt)
+
+returns-3 : tie.Need-returns-3
+returns-3 c =
+    room-of-rows _ (holds (c .before .before .in-range .ensures) (c .before .if2 .left)) (c .power-of-two .ensures .0)
+
+pub room-of-spec : {M : Type 1} → statement M
+room-of-spec =
+    tie.close
+    (tie.spec
+    returns
+    shared-slice-read-n
+    cast-n
+    in-range-requires
+    returns-2
+    power-of-two-requires
+    returns-3)

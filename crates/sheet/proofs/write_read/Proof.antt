@@ -1,0 +1,125 @@
+-- `sheet::write_read` meets its contract: what reading the file replied says which sheet it is. Assumes nothing.
+use mathlib.Core.Path.{_≡_, sym, ap, _∙_}
+use Rattle.refusals.specs.Table.{refusal}
+use Rattle.boxfile.specs.File.{boxFile}
+use Rattle.texts.proofs.Lengths.{line-few}
+use Rattle.sheet.specs.Sheet.{fileReply}
+use Rattle.sheet.proofs.Printing.{room-after}
+use Rattle.sheet.proofs.Sheets.{reply-with-room, rows-with-room, wrote-refused, wrote-box}
+use borrow.Author.Needs.{needs}
+use Rattle.sheet.proofs.write_read.Statement.{statement}
+use Rattle.sheet.proofs.write_read.Tie as tie
+
+-- the answer says what the file's reply is
+read : (c : tie.After-read-box) → boxFile (c .read-box .result) ≡ fileReply (c .before .before .before .before .before .args .file .now)
+read c =
+    let start = c .before .before .before .before .before in
+    c .read-box .ensures .0 ∙ reply-with-room (start .args .file .now) (start .pre .0)
+
+read-box-requires : tie.Need-read-box-requires
+read-box-requires c κs = search needs
+
+enum-known-answer : tie.Need-enum-known-answer
+enum-known-answer c = search needs
+
+enum-known-answer-2 : tie.Need-enum-known-answer-2
+enum-known-answer-2 c = search needs
+
+enum-known-answer-3 : tie.Need-enum-known-answer-3
+enum-known-answer-3 c = search needs
+
+enum-told : tie.Need-enum-told
+enum-told c = search needs
+
+same-length : tie.Need-same-length
+same-length c = search needs
+
+returns : tie.Need-returns
+returns c = search needs
+
+slice-aggregate-put-line : tie.Need-slice-aggregate-put-line
+slice-aggregate-put-line c = search needs
+
+number-of-requires : tie.Need-number-of-requires
+number-of-requires c κs = search needs
+
+slice-aggregate-put-line-2 : tie.Need-slice-aggregate-put-line-2
+slice-aggregate-put-line-2 c = search needs
+
+put-line-requires : tie.Need-put-line-requires
+put-line-requires c κs = search needs
+
+same-length-2 : tie.Need-same-length-2
+same-length-2 c = search needs
+
+same-length-3 : tie.Need-same-length-3
+same-length-3 c = search needs
+
+returns-2 : tie.Need-returns-2
+returns-2 c =
+    let put = c .before .before in
+    let number = put .before .before in
+    let told = number .before .before .before .before in
+    let told-before = told .before .before .before in
+    let reading = told-before .before .before .before .before in
+    let start = reading .before .before .before .before .before in
+    let reply = sym (read reading) ∙ ap boxFile (told-before .answer2 .given .1 ∙ told .answer3 .given .1) ∙ ap refusal (sym (number .number-of .ensures)) in
+    wrote-refused (start .args .file .now) (start .args .text .now) reply (put .put-line .ensures .0) (put .put-line .ensures .1)
+
+slice-aggregate-put-line-3 : tie.Need-slice-aggregate-put-line-3
+slice-aggregate-put-line-3 c = search needs
+
+slice-aggregate-put-line-4 : tie.Need-slice-aggregate-put-line-4
+slice-aggregate-put-line-4 c = search needs
+
+put-line-requires-2 : tie.Need-put-line-requires-2
+put-line-requires-2 c κs = search needs
+
+write-from-nonlinearity-requires : tie.Need-write-from-nonlinearity-requires
+write-from-nonlinearity-requires c κs =
+    let put = c .before .before .before .before .put-line2 in
+    room-after 26 262 0 (line-few _ _) (put .ensures .0) (put .kept .0) (search needs)
+
+same-length-4 : tie.Need-same-length-4
+same-length-4 c = search needs
+
+same-length-5 : tie.Need-same-length-5
+same-length-5 c = search needs
+
+returns-3 : tie.Need-returns-3
+returns-3 c =
+    let done = c .before .before in
+    let put = done .before .before .before .before .before in
+    let told = put .before .before .before .before .before in
+    let reading = told .before .before .before .before in
+    let start = reading .before .before .before .before .before in
+    let file = start .args .file .now in
+    let reply = sym (read reading) ∙ ap boxFile (told .answer .given .1) in
+    let rows = reading .read-box .ensures .1 ∙ rows-with-room file (start .pre .0) reply (start .args .rows .now) in
+    wrote-box file (start .args .text .now) reply rows (put .put-line2 .ensures .0) (put .put-line2 .ensures .1) (done .write-from-nonlinearity .ensures)
+
+pub write-read-spec : {M : Type 1} → statement M
+write-read-spec =
+    tie.close
+    (tie.spec
+    read-box-requires
+    enum-known-answer
+    enum-known-answer-2
+    enum-known-answer-3
+    enum-told
+    same-length
+    returns
+    slice-aggregate-put-line
+    number-of-requires
+    slice-aggregate-put-line-2
+    put-line-requires
+    same-length-2
+    same-length-3
+    returns-2
+    slice-aggregate-put-line-3
+    slice-aggregate-put-line-4
+    put-line-requires-2
+    write-from-nonlinearity-requires
+    same-length-4
+    same-length-5
+    returns-3)

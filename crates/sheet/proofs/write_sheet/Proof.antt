@@ -1,0 +1,34 @@
+-- `sheet::write_sheet` meets its contract: the part of the rows that is lent is as long as the room. Assumes nothing.
+use mathlib.Core.Path.{sym, subst}
+use lib.Seq.{length-take-le}
+use Rattle.sheet.specs.Work.{Room}
+use borrow.Author.Needs.{needs}
+use Rattle.sheet.proofs.write_sheet.Statement.{statement}
+use Rattle.sheet.proofs.write_sheet.Tie as tie
+
+room-of-requires : tie.Need-room-of-requires
+room-of-requires c κs = search needs
+
+array-borrow-prefix-rows : tie.Need-array-borrow-prefix-rows
+array-borrow-prefix-rows c = search needs
+
+slice-aggregate-write-read : tie.Need-slice-aggregate-write-read
+slice-aggregate-write-read c = sym (length-take-le _ _ (c .before .room-of .ensures .small))
+
+write-read-requires : tie.Need-write-read-requires
+write-read-requires c κs =
+    let room = c .before .before .room-of .ensures in
+    (subst (Room (c .before .before .before .before .args .file .now)) (sym (length-take-le _ _ (room .small))) room, search needs)
+
+returns : tie.Need-returns
+returns c = search needs
+
+pub write-sheet-spec : {M : Type 1} → statement M
+write-sheet-spec =
+    tie.close
+    (tie.spec
+    room-of-requires
+    array-borrow-prefix-rows
+    slice-aggregate-write-read
+    write-read-requires
+    returns)
