@@ -26,6 +26,11 @@ box-some {n} b = lt-of-lt-of-le (pow-pos n) (le-of-eq (sym (b .size)))
 pub steps-few : {n m : ℕ} {rows : List ℕ} → Box n m rows → m * length rows ≤ 4096
 steps-few b = mul-le-mul (b .m-high) (b .small)
 
+-- what a step from component c − 1 to component c asks, of a box
+pub steps-ready : {n m : ℕ} {rows steps : List ℕ} {c : ℕ} {table : List ℕ} → Box n m rows → 1 ≤ c → c < 2 ^ m → steps ≡ stepTables m rows
+    → table ≡ listBelow (length rows) (λ x. component rows (c - 1) x) → Stepping m rows steps c table
+steps-ready b low high are is = record { m-high = b .m-high; few = b .small; some = box-some b; c-low = low; c-high = high; steps-are = are; table-is = is }
+
 -- one component is another with a third added, where its mask is
 component-xor : (rows : List ℕ) (a b x : ℕ) → bitXor (component rows a x) (component rows b x) ≡ component rows (bitXor a b) x
 component-xor rows a b x =

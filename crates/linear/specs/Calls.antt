@@ -39,11 +39,12 @@ pub record Swept (n m : ℕ) (rows table : List ℕ) (out : List ℤ) : Type 0 w
   pub table-size : length table ≡ 2 ^ n
   pub out-size : length out ≡ 2 ^ n
 
--- The step tables: the masks c − 1 and c differ in a run of ones from the lowest on, and table k is the component of k + 1 ones. Its value at x is
--- entry k · 2^n + x.
+-- a mask of k + 1 ones, from the lowest bit on
 abbrev pub run : ℕ → ℕ
 run k = 2 * 2 ^ k - 1
 
+-- The step tables: the masks c − 1 and c differ in a run of ones, and table k is the component of the run of k + 1 ones. Its value at x is entry
+-- k · 2^n + x.
 unfoldable pub stepTables : ℕ → List ℕ → List ℕ
 stepTables m rows = listBelow (m * length rows) (λ i. component rows (run (i / length rows)) (i % length rows))
 

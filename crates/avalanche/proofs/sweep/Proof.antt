@@ -7,7 +7,7 @@ use borrow.Author.Needs.{needs}
 use Rattle.boolean.specs.Sums.{listBelow}
 use Rattle.boolean.specs.Functions.{component}
 use Rattle.linear.proofs.Components.{written-is}
-use Rattle.linear.proofs.Stepped.{box-some}
+use Rattle.linear.proofs.Stepped.{box-some, steps-ready}
 use Rattle.avalanche.specs.Calls.{candidate}
 use Rattle.avalanche.proofs.Sweeps.{Sweeping, sweep-starts, sweep-next, sweep-ends}
 use Rattle.avalanche.proofs.sweep.Statement.{statement}
@@ -52,15 +52,8 @@ with-component-requires c κs =
     let box = start .pre .0 .box in (
       at-loop .loop .inv .arrays,
       start .pre .1,
-      record {
-        m-high = box .m-high;
-        few = box .small;
-        some = box-some box;
-        c-low = at-loop .loop .inv .c-low;
-        c-high = omega (arith, in-loop .loop-test .taken, power .power-of-two .ensures .0);
-        steps-are = power .before .before .before .before .before .before .before .write-steps .ensures;
-        table-is = at-loop .loop .inv .table-is ∙ ap (λ (k : ℕ). listBelow k (λ x. component (start .args .rows .now) (at-loop .loop .c - 1) x)) (sym (box .size));
-      },
+      steps-ready box (at-loop .loop .inv .c-low) (omega (arith, in-loop .loop-test .taken, power .power-of-two .ensures .0)) (power .before .before .before .before .before .before .before .write-steps .ensures)
+          (at-loop .loop .inv .table-is ∙ ap (λ (k : ℕ). listBelow k (λ x. component (start .args .rows .now) (at-loop .loop .c - 1) x)) (sym (box .size))),
     )
 
 add-c : tie.Need-add-c Inv-loop μ-loop

@@ -5,7 +5,7 @@ use mathlib.Core.Path.{sym, _∙_}
 use native.Mathlib.Omega.{arith}
 use borrow.Author.Needs.{needs}
 use Rattle.linear.specs.Calls.{candidate}
-use Rattle.linear.proofs.Stepped.{box-some}
+use Rattle.linear.proofs.Stepped.{box-some, steps-ready}
 use Rattle.linear.proofs.Nearest.{Sweeping, sweep-starts, sweep-next, sweep-ends}
 use Rattle.linear.proofs.sweep.Statement.{statement}
 use Rattle.linear.proofs.sweep.Tie as tie
@@ -54,15 +54,8 @@ next-spectrum-requires c κs =
     let box = start .pre .0 .box in (
       at-loop .loop .inv .arrays,
       start .pre .1,
-      record {
-        m-high = box .m-high;
-        few = box .small;
-        some = box-some box;
-        c-low = at-loop .loop .inv .c-low;
-        c-high = omega (arith, in-loop .loop-test .taken, power .power-of-two .ensures .0);
-        steps-are = power .before .before .before .before .before .before .before .write-steps .ensures;
-        table-is = at-loop .loop .inv .table-is;
-      },
+      steps-ready box (at-loop .loop .inv .c-low) (omega (arith, in-loop .loop-test .taken, power .power-of-two .ensures .0)) (power .before .before .before .before .before .before .before .write-steps .ensures)
+          (at-loop .loop .inv .table-is),
     )
 
 with-spectrum-requires : tie.Need-with-spectrum-requires Inv-loop μ-loop
