@@ -21,7 +21,7 @@ use Rattle.refusals.specs.Table.{Box, contentAfter}
 use Rattle.refusals.specs.declared.Checked.{Checked}
 use Rattle.refusals.specs.declared.Checked.the-variants.{Accepted, Refused}
 use Rattle.linear.specs.Nonlinearity.{nonlinearity}
-use Rattle.linear.proofs.Pairs.{IsPair}
+use Rattle.linear.specs.Statements.{IsPair}
 use Rattle.linear.proofs.Theorems.{least, reached}
 use Rattle.columns.proofs.Accepted.{accepts}
 use Rattle.columns.specs.Addition.{addedRow, addedRows, Addition, additionChecked, standing}

@@ -1,38 +1,25 @@
 -- Demand 3, sentence by sentence. d is `nonlinearity n m rows .figure`, which `nonlinearity-reported` shows to be what the call reports.
-use mathlib.Core.Path.{_≡_, sym, ap, _∙_}
+use mathlib.Core.Path.{_≡_, refl, sym, ap, _∙_}
 use mathlib.Core.Logic.{_↔_}
 use mathlib.Core.List.{List, [], _∷_}
 use Prim.Native.Nat.{ℕ, _*_, _-_, _^_, _<_, _≤_}
 use lib.Bits.{bitXor}
 use lib.ListN.{length}
 use Rattle.boolean.specs.Bits.{affine, bit}
-use Rattle.boolean.specs.Functions.{Bent, component, distance}
+use Rattle.boolean.specs.Functions.{Bent, component}
 use Rattle.boolean.specs.Selection.{Candidate, shown}
-use Rattle.refusals.specs.Table.{Box, figures, first, boxChecks}
-use Rattle.refusals.specs.declared.Checked.the-variants.{Accepted}
+use Rattle.refusals.specs.Table.{Box, figures, first, boxChecks, replyAfter, contentAfter, written}
+use Rattle.refusals.specs.declared.Refusal.{Refusal}
+use Rattle.refusals.specs.declared.Checked.{Checked}
+use Rattle.refusals.specs.declared.Checked.the-variants.{Accepted, Refused}
+use Rattle.refusals.specs.declared.Written.{Written}
+use Rattle.refusals.specs.declared.Written.the-variants.{Done, Declined}
 use Rattle.refusals.proofs.Checks.{box, box-accepted, reply-accepted, content-accepted}
 use Rattle.linear.specs.Nonlinearity.{nonlinearity, nonlinearityReply}
-use Rattle.linear.proofs.Pairs.{IsPair, Before}
 use Rattle.linear.proofs.Theorems as linear
-use Rattle.columns.specs.Addition.{Addition, additionChecked, standing, standingAfter}
+use Rattle.columns.specs.Addition.{Addition, additionChecks, additionChecked, standing, standingAfter}
+use Rattle.columns.specs.Statements.{Reported, ReportedAgain, Called}
 use Rattle.columns.proofs.Additions.{component-seen, component-unseen, accepted-fits, rowsWith, standing-keeps-box, standing-keeps-nonlinearity}
-
--- What is reported of an accepted table: d and the witness (c, w, b). A pair is a component from 1 to 2^m − 1 and an affine function (w, b).
-pub record Reported (n m : ℕ) (rows : List ℕ) (d : ℕ) : Type 0 where
-  pub c : ℕ
-  pub w : ℕ
-  pub b : ℕ
-  pub reply : nonlinearityReply n m rows ≡ figures (d ∷ c ∷ w ∷ b ∷ [])
-  pub least : (c′ w′ b′ : ℕ) → IsPair n m c′ w′ b′ → d ≤ distance n (component rows c′) w′ b′
-  pub is-pair : IsPair n m c w b
-  pub reached : distance n (component rows c) w b ≡ d
-  pub more-before : (c′ w′ b′ : ℕ) → IsPair n m c′ w′ b′ → Before c′ w′ b′ c w b → d < distance n (component rows c′) w′ b′
-
--- What is reported of the rows that stand later: the table is accepted, and d is the first figure.
-pub record ReportedAgain (n m : ℕ) (rows : List ℕ) (d : ℕ) : Type 0 where
-  pub accepted : first (boxChecks n m rows) ≡ Accepted
-  pub witness : List ℕ
-  pub reply : nonlinearityReply n m rows ≡ figures (d ∷ witness)
 
 module _ (n m : ℕ) (rows : List ℕ) (accepted : first (boxChecks n m rows) ≡ Accepted) where
   accepted-box : Box n m rows
@@ -55,6 +42,19 @@ module _ (n m : ℕ) (rows : List ℕ) (accepted : first (boxChecks n m rows) �
         reached = sym (ap (λ (p : Candidate). p .figure) (t .4));
         more-before = linear.first n m rows (accepted-box .m-low) (t .0) (t .1) (t .2) (t .4);
       }
+
+-- "After an accepted addition its new rows stand; a refused one leaves standing those it was given." Of a call of `columns::add_to_column`, by its
+-- contract: where it is done, what it left in the lent array stands, and where it is declined, the rows it was given.
+pub standing-is-content : (n m : ℕ) (rows : List ℕ) (a : Addition) (answer : Written) (left : List ℕ) → Called n m rows a answer left
+    → (answer ≡ Done → standing n m rows a ≡ left) × ((e : Refusal) → answer ≡ Declined e → standing n m rows a ≡ rows)
+unfolding standing additionChecked
+standing-is-content n m rows a answer left call =
+    found (first (additionChecks n m rows (a .column) (a .mask) (a .constant) (length (a .lent)))) (rowsWith a rows) (call .reply) (call .content)
+  where
+    found : (k : Checked) (new : List ℕ) → written answer ≡ replyAfter k [] → left ≡ contentAfter k new (a .lent)
+        → (answer ≡ Done → contentAfter k new rows ≡ left) × ((e : Refusal) → answer ≡ Declined e → contentAfter k new rows ≡ rows)
+    found Accepted new r l = (λ d. sym l, λ e d. cc)
+    found (Refused f) new r l = (λ d. cc, λ e d. refl)
 
 -- "After every list of column additions, refused ones included, the nonlinearity call accepts the standing rows and reports d again."
 pub additions-report-again : (n m : ℕ) (rows : List ℕ) → first (boxChecks n m rows) ≡ Accepted → (additions : List Addition)

@@ -1,6 +1,6 @@
 -- The list of pairs: which pairs it has, and that they stand in the order of c, then w, then b.
 use mathlib.Core.Path.{_≡_, refl, ap}
-use mathlib.Core.Logic.{_⊎_, inl, inr}
+use mathlib.Core.Logic.{inl, inr}
 use mathlib.Core.List.{List, [], _∷_, List·Memᴰ, List·Memᴰ·head, List·Memᴰ·tail, List·Memᴰ·not-nil}
 use Prim.Native.Nat.{ℕ, suc, _+_, _*_, _-_, _^_, _<_, _≤_}
 use native.Mathlib.Nat.{zero-lt-suc, le-refl, mul-le-mul-right, suc-mul}
@@ -13,23 +13,13 @@ use Rattle.boolean.proofs.Dots.{bit-cases}
 use Rattle.boolean.proofs.Selection.{Ascending, of-cons}
 use Rattle.boolean.proofs.Lists.{mem-listFrom, in-listFrom, mem-listBelow, in-listBelow, mem-each, in-each, ascending-listFrom, ascending-listBelow, ascending-blocks}
 use Rattle.linear.specs.Nonlinearity.{pair, pairsOf, pairs}
+use Rattle.linear.specs.Statements.{IsPair, Before}
 
--- component c and the affine function (w, b) are a pair of a box of n inputs and m outputs
-pub record IsPair (n m c w b : ℕ) : Type 0 where
-  pub c-low : 1 ≤ c
-  pub c-high : c < 2 ^ m
-  pub w-high : w < 2 ^ n
-  pub b-high : b < 2
-
--- there is one
+-- there is a pair
 pub first-pair : (n m : ℕ) → 1 ≤ m → IsPair n m 1 0 0
 first-pair n m h = record { c-low = le-refl 1; c-high = pow-lt h; w-high = pow-pos n; b-high = zero-lt-suc 1 }
 
--- (c′, w′, b′) comes before (c, w, b): by c, then w, then b
-abbrev pub Before : (c′ w′ b′ c w b : ℕ) → Type 0
-Before c′ w′ b′ c w b = (c′ < c) ⊎ (((c′ ≡ c) × (w′ < w)) ⊎ ((c′ ≡ c) × (w′ ≡ w) × (b′ < b)))
-
--- a pair's number in that order
+-- a pair's number in the order of c, then w, then b
 abbrev pub pairRank : ℕ → Candidate → ℕ
 pairRank n p = at (p .witness) 0 * (2 * 2 ^ n) + at (p .witness) 1 * 2 + at (p .witness) 2
 

@@ -1,2 +1,3 @@
 pub mod Nonlinearity
 pub mod Calls
+pub mod Statements

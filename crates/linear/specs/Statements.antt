@@ -1,0 +1,15 @@
+-- What the theorems on pairs speak of.
+use Prim.Native.Nat.{ℕ, _^_, _≤_, _<_}
+use mathlib.Core.Path.{_≡_}
+use mathlib.Core.Logic.{_⊎_}
+
+-- component c and the affine function (w, b) are a pair of a box of n inputs and m outputs
+pub record IsPair (n m c w b : ℕ) : Type 0 where
+  pub c-low : 1 ≤ c
+  pub c-high : c < 2 ^ m
+  pub w-high : w < 2 ^ n
+  pub b-high : b < 2
+
+-- (c′, w′, b′) comes before (c, w, b): by c, then w, then b
+abbrev pub Before : (c′ w′ b′ c w b : ℕ) → Type 0
+Before c′ w′ b′ c w b = (c′ < c) ⊎ (((c′ ≡ c) × (w′ < w)) ⊎ ((c′ ≡ c) × (w′ ≡ w) × (b′ < b)))
