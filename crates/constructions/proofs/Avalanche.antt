@@ -133,7 +133,7 @@ unfolding column bit
 table-column table x h = ap (λ (z : ℕ). z % 2) (div-one (at table x)) ∙ mod-eq-of-lt h
 
 -- 2^n rows of m bits are a box
-box-of : (n m : ℕ) (rows : List ℕ) → 1 ≤ n → n ≤ 8 → 1 ≤ m → m ≤ 16 → length rows ≡ 2 ^ n → ((x : ℕ) → x < 2 ^ n → at rows x < 2 ^ m) → Box n m rows
+pub box-of : (n m : ℕ) (rows : List ℕ) → 1 ≤ n → n ≤ 8 → 1 ≤ m → m ≤ 16 → length rows ≡ 2 ^ n → ((x : ℕ) → x < 2 ^ n → at rows x < 2 ^ m) → Box n m rows
 box-of n m rows nl nh ml mh size below = record {
   n-low = nl;
   n-high = nh;
@@ -163,22 +163,26 @@ module _ (n : ℕ) (table : List ℕ) (k : ℕ) (t : Table n table) (small : n �
       sym (changes-cong n (column table 1) (at table) (2 ^ (i - 1)) (λ x. table-column table x (t .bits x)))
       ∙ strict-avalanche n 1 table (box-of n 1 table (t .n-low) (t .n-high) (le-refl 1) (omega arith) (t .size) table-bits) .0 e 1 i (le-refl 1) (le-refl 1) il ih
 
-  -- a table that meets the strict avalanche criterion makes, with either constant, a table that meets it
-  pub enlarged-table-avalanche : (a : ℕ) → a < 2 → dynamicDistance n 1 table 1 1 .figure ≡ 0 → dynamicDistance (suc n) 1 (enlargedTable n table k a) 1 1 .figure ≡ 0
-  enlarged-table-avalanche a ha e =
-      strict-avalanche (suc n) 1 (enlargedTable n table k a)
-      (box-of (suc n) 1 (enlargedTable n table k a) (omega arith) (omega arith) (le-refl 1) (omega arith) (length-enlarged-table n table k a) new-bits) .1 meets
-    where
-      new-bits : Boolean (suc n) (at (enlargedTable n table k a))
-      new-bits x l = subst (λ (z : ℕ). z < 2) (sym (at-enlarged-table n table k a x l)) (enlarged-lt n (at table) k a 1 table-bits ha lo hi x l)
+  module _ (a : ℕ) (ha : a < 2) where
+    -- the enlarged table's entries are bits
+    new-bits : Boolean (suc n) (at (enlargedTable n table k a))
+    new-bits x l = subst (λ (z : ℕ). z < 2) (sym (at-enlarged-table n table k a x l)) (enlarged-lt n (at table) k a 1 table-bits ha lo hi x l)
 
-      meets : (j i : ℕ) → 1 ≤ j → j ≤ 1 → 1 ≤ i → i ≤ suc n → changes (suc n) (column (enlargedTable n table k a) j) (2 ^ (i - 1)) ≡ 2 ^ (suc n - 1)
-      meets j i jl jh il ih =
-          let one : j ≡ 1 = omega arith in
-          ap (λ (z : ℕ). changes (suc n) (column (enlargedTable n table k a) z) (2 ^ (i - 1))) one
-          ∙ changes-below (suc n) (column (enlargedTable n table k a) 1) (enlarged n (at table) k a) (2 ^ (i - 1)) (input-bit-lt (suc n) i il ih)
-          (λ x l. table-column (enlargedTable n table k a) x (new-bits x l) ∙ at-enlarged-table n table k a x l)
-          ∙ enlarged-avalanche n (at table) k a table-bits ha lo hi (table-changes e) i il ih ∙ ap (λ (z : ℕ). 2 ^ z) (last n)
+    -- so it is a box of one output
+    pub enlarged-table-box : Box (suc n) 1 (enlargedTable n table k a)
+    enlarged-table-box = box-of (suc n) 1 (enlargedTable n table k a) (omega arith) (omega arith) (le-refl 1) (omega arith) (length-enlarged-table n table k a) new-bits
+
+    -- a table that meets the strict avalanche criterion makes, with either constant, a table that meets it
+    pub table-avalanche : dynamicDistance n 1 table 1 1 .figure ≡ 0 → dynamicDistance (suc n) 1 (enlargedTable n table k a) 1 1 .figure ≡ 0
+    table-avalanche e = strict-avalanche (suc n) 1 (enlargedTable n table k a) enlarged-table-box .1 meets
+      where
+        meets : (j i : ℕ) → 1 ≤ j → j ≤ 1 → 1 ≤ i → i ≤ suc n → changes (suc n) (column (enlargedTable n table k a) j) (2 ^ (i - 1)) ≡ 2 ^ (suc n - 1)
+        meets j i jl jh il ih =
+            let one : j ≡ 1 = omega arith in
+            ap (λ (z : ℕ). changes (suc n) (column (enlargedTable n table k a) z) (2 ^ (i - 1))) one
+            ∙ changes-below (suc n) (column (enlargedTable n table k a) 1) (enlarged n (at table) k a) (2 ^ (i - 1)) (input-bit-lt (suc n) i il ih)
+            (λ x l. table-column (enlargedTable n table k a) x (new-bits x l) ∙ at-enlarged-table n table k a x l)
+            ∙ enlarged-avalanche n (at table) k a table-bits ha lo hi (table-changes e) i il ih ∙ ap (λ (z : ℕ). 2 ^ z) (last n)
 
 module _ (n : ℕ) (rows table : List ℕ) (k : ℕ) (b : Box n n rows) (t : Table n table) (small : n ≤ 7) (lo : 1 ≤ k) (hi : k ≤ n) where
   -- the rows are below 2^n
@@ -196,9 +200,9 @@ module _ (n : ℕ) (rows table : List ℕ) (k : ℕ) (b : Box n n rows) (t : Tab
       (length-enlarged-rows n rows table k) (enlarged-rows-lt n rows table k row-below bits lo hi)
 
   -- a box and a table that meet the strict avalanche criterion make a box that meets it
-  pub enlarged-box-avalanche : dynamicDistance n n rows 1 1 .figure ≡ 0 → dynamicDistance n 1 table 1 1 .figure ≡ 0
+  pub box-avalanche : dynamicDistance n n rows 1 1 .figure ≡ 0 → dynamicDistance n 1 table 1 1 .figure ≡ 0
       → dynamicDistance (suc n) (suc n) (enlargedRows n rows table k) 1 1 .figure ≡ 0
-  enlarged-box-avalanche er et = strict-avalanche (suc n) (suc n) (enlargedRows n rows table k) enlarged-box .1 (λ j i jl jh il ih. pick j i jl jh il ih (decLe j n))
+  box-avalanche er et = strict-avalanche (suc n) (suc n) (enlargedRows n rows table k) enlarged-box .1 (λ j i jl jh il ih. pick j i jl jh il ih (decLe j n))
     where
       pick : (j i : ℕ) → 1 ≤ j → j ≤ suc n → 1 ≤ i → i ≤ suc n → Dec (j ≤ n)
           → changes (suc n) (column (enlargedRows n rows table k) j) (2 ^ (i - 1)) ≡ 2 ^ (suc n - 1)

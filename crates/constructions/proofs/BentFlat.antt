@@ -1,4 +1,4 @@
--- The Maiorana-McFarland form is bent, so its nonlinearity is 2^(n − 1) − 2^(n / 2 − 1); and no function is bent at odd n.
+-- The Maiorana-McFarland form of 2h inputs is bent, so its nonlinearity is 2^(2h − 1) − 2^(h − 1).
 use mathlib.Core.Path.{_≡_, sym, ap, ap₂, _∙_, subst}
 use mathlib.Core.Logic.{_⊎_}
 use mathlib.Core.Bool.{true}
@@ -128,8 +128,8 @@ module _ (h : ℕ) (permutation table : List ℕ) where
     bent-form-boolean z l = xor-lt 1 (dot (at permutation (z / 2 ^ h)) (z % 2 ^ h)) (at table (z / 2 ^ h)) (dot-bit (at permutation (z / 2 ^ h)) (z % 2 ^ h)) (bits (z / 2 ^ h) (outer z l))
 
     -- so are the table's entries
-    pub bent-table-boolean : Boolean (h + h) (at (bentTable (h + h) permutation table))
-    bent-table-boolean z l = subst (λ (v : ℕ). v < 2) (sym (at-bent-table z l)) (bent-form-boolean z l)
+    pub table-boolean : Boolean (h + h) (at (bentTable (h + h) permutation table))
+    table-boolean z l = subst (λ (v : ℕ). v < 2) (sym (at-bent-table z l)) (bent-form-boolean z l)
 
     -- the part of a spectrum value that one x gives
     part : (u v x : ℕ) → ℤ
@@ -169,20 +169,20 @@ module _ (h : ℕ) (permutation table : List ℕ) where
         (parts-small (w / 2 ^ h) (w % 2 ^ h) l)
 
     -- the form is bent
-    pub bent-table-bent : Bent (h + h) (at (bentTable (h + h) permutation table))
+    pub table-bent : Bent (h + h) (at (bentTable (h + h) permutation table))
     unfolding square
-    bent-table-bent = bent-of-squares (h + h) (at (bentTable (h + h) permutation table)) bent-table-boolean (λ w l.
+    table-bent = bent-of-squares (h + h) (at (bentTable (h + h) permutation table)) table-boolean (λ w l.
         let s : natAbs (walsh (h + h) (at (bentTable (h + h) permutation table)) w) ≤ 2 ^ h =
         subst (λ (z : ℤ). natAbs z ≤ 2 ^ h) (sym (walsh-cong (h + h) _ _ w at-bent-table)) (walsh-small w) in
         le-trans (mul-le-mul s s) (le-of-eq (even-is-square h)))
 
     -- every value of its spectrum is 2^h or −2^h
-    pub bent-table-flat : (w : ℕ) → w < 2 ^ (h + h)
+    pub table-flat : (w : ℕ) → w < 2 ^ (h + h)
         → (walsh (h + h) (at (bentTable (h + h) permutation table)) w ≡ pos (2 ^ h)) ⊎ (walsh (h + h) (at (bentTable (h + h) permutation table)) w ≡ negℤ (pos (2 ^ h)))
-    bent-table-flat w l =
-        let same : bent-table-bent .half ≡ h = omega (arith, bent-table-bent .even) in
+    table-flat w l =
+        let same : table-bent .half ≡ h = omega (arith, table-bent .even) in
         subst (λ (i : ℕ). (walsh (h + h) (at (bentTable (h + h) permutation table)) w ≡ pos (2 ^ i)) ⊎ (walsh (h + h) (at (bentTable (h + h) permutation table)) w ≡ negℤ (pos (2 ^ i))))
-        same (bent-table-bent .flat w l)
+        same (table-bent .flat w l)
 
 -- ---- the nonlinearity of a bent table
 component-one : (table : List ℕ) (x : ℕ) → at table x < 2 → at table x ≡ component table 1 x
@@ -214,32 +214,7 @@ module _ (h : ℕ) (table : List ℕ) (lo : 1 ≤ h) (bits : Boolean (h + h) (at
       omega (arith, covering (h + h) 1 table (le-refl 1) .0)
 
 -- so of the form
-pub bent-table-nonlinearity : (h : ℕ) (permutation table : List ℕ) → length permutation ≡ 2 ^ h → isPermutation (2 ^ h) permutation ≡ true → Boolean h (at table) → 1 ≤ h
+pub table-nonlinearity : (h : ℕ) (permutation table : List ℕ) → length permutation ≡ 2 ^ h → isPermutation (2 ^ h) permutation ≡ true → Boolean h (at table) → 1 ≤ h
     → nonlinearity (h + h) 1 (bentTable (h + h) permutation table) .figure ≡ 2 ^ (h + h - 1) - 2 ^ (h - 1)
-bent-table-nonlinearity h permutation table size p bits lo =
-    bent-nonlinearity h (bentTable (h + h) permutation table) lo (bent-table-boolean h permutation table size p bits) (bent-table-bent h permutation table size p bits)
-
--- the same by n, as the call takes it
-module _ (n : ℕ) (permutation table : List ℕ) (even : n % 2 ≡ 0) (size : length permutation ≡ 2 ^ (n / 2)) (p : isPermutation (2 ^ (n / 2)) permutation ≡ true) (bits : Boolean (n / 2) (at table)) where
-  -- an even n is twice its half
-  halves : n / 2 + n / 2 ≡ n
-  halves = omega arith
-
-  -- the form is bent
-  pub even-table-bent : Bent n (at (bentTable n permutation table))
-  even-table-bent = subst (λ (i : ℕ). Bent i (at (bentTable i permutation table))) halves (bent-table-bent (n / 2) permutation table size p bits)
-
-  -- and its nonlinearity is that of a bent function
-  pub even-table-nonlinearity : 2 ≤ n → nonlinearity n 1 (bentTable n permutation table) .figure ≡ 2 ^ (n - 1) - 2 ^ (n / 2 - 1)
-  even-table-nonlinearity lo =
-      subst (λ (i : ℕ). nonlinearity i 1 (bentTable i permutation table) .figure ≡ 2 ^ (i - 1) - 2 ^ (n / 2 - 1)) halves
-      (bent-table-nonlinearity (n / 2) permutation table size p bits (omega arith))
-
--- ---- odd n
--- no function is bent
-pub odd-not-bent : (n : ℕ) (f : ℕ → ℕ) → n % 2 ≡ 1 → Bent n f → ⊥
-odd-not-bent n f o b = omega (arith, b .even)
-
--- and the spectrum of each has a value whose square is over 2^n
-pub odd-not-flat : (n : ℕ) (f : ℕ → ℕ) → n % 2 ≡ 1 → Boolean n f → ((w : ℕ) → w < 2 ^ n → square (walsh n f w) ≤ 2 ^ n) → ⊥
-odd-not-flat n f o bits s = odd-not-bent n f o (bent-of-squares n f bits s)
+table-nonlinearity h permutation table size p bits lo =
+    bent-nonlinearity h (bentTable (h + h) permutation table) lo (table-boolean h permutation table size p bits) (table-bent h permutation table size p bits)

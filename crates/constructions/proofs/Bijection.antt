@@ -75,8 +75,8 @@ module _ (n : ℕ) (rows table : List ℕ) (k : ℕ) (size : length rows ≡ 2 ^
         (λ y hy p q. ap (λ (z : ℕ). 2 ^ n + z) (both-upper x y hx hy p)))
 
   -- a bijective box makes a bijective box
-  pub enlarged-bijective : bijective n n rows ≡ true → bijective (suc n) (suc n) (enlargedRows n rows table k) ≡ true
-  enlarged-bijective h =
+  pub rows-bijective : bijective n n rows ≡ true → bijective (suc n) (suc n) (enlargedRows n rows table k) ≡ true
+  rows-bijective h =
       let injective = bijective-iff n n rows size .0 h .1 in
       bijective-iff (suc n) (suc n) (enlargedRows n rows table k) (length-enlarged-rows n rows table k) .1
       (refl, λ x y hx hy q. parts-injective injective x hx y hy (same-low x hx y hy q) (same-top x hx y hy q))

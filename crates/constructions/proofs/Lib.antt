@@ -6,3 +6,4 @@ pub mod Avalanche
 pub mod Bijection
 pub mod WorstCell
 pub mod BentFlat
+pub mod Theorems

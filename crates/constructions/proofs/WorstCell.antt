@@ -78,8 +78,8 @@ module _ (n : ℕ) (rows table : List ℕ) (k : ℕ) (below : (x : ℕ) → x < 
       (λ x l. eq-eqb (difference (enlargedRows n rows table k) (2 ^ n + e) x) (2 ^ n) (constant-difference x l))
 
   -- and is the largest
-  pub enlarged-largest-cell : largestCell (suc n) (suc n) (enlargedRows n rows table k) .figure ≡ 2 ^ suc n
-  enlarged-largest-cell =
+  pub full-cell-largest : largestCell (suc n) (suc n) (enlargedRows n rows table k) .figure ≡ 2 ^ suc n
+  full-cell-largest =
       let r = reached (suc n) (suc n) (enlargedRows n rows table k) (omega arith) in
       let at-least = most (suc n) (suc n) (enlargedRows n rows table k) (2 ^ n + e) (2 ^ n)
       (record { a-low = omega (arith, pow-pos n); a-high = upper-lt n e e-lt; β-high = omega (arith, pow-pos n, two-pow-succ n) }) in

@@ -15,12 +15,12 @@ ghost use Rattle.constructions.specs.Enlargement.{enlarged, enlargedTabl
 ghost use Rattle.constructions.specs.BentForm.{isPermutation, bentForm, bentTable};
 ghost use Rattle.constructions.specs.Calls.{columnChecks, enlargeChecks, bentChecks, sourceOf, Enlarges, EnlargesColumn, EnlargesBox, MakesBent};
 
-// Whether an array is as long as a table of n inputs.
-fn has_inputs(length: usize, n: u32) -> bool
+// Whether an array with so many entries is as long as a table of n inputs.
+fn has_inputs(count: usize, n: u32) -> bool
     requires { ⌜ n ≤ 16 ⌝ }
-    ensures { λ r. ⌜ r ≡ eqb length (2 ^ n) ⌝ }
+    ensures { λ r. ⌜ r ≡ eqb count (2 ^ n) ⌝ }
 {
-    length == boolean::power_of_two(n)
+    count == boolean::power_of_two(n)
 }
 
 // Whether one input more still makes a width that the calls accept.

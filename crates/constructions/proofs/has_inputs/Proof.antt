@@ -9,7 +9,7 @@ power-of-two-requires : tie.Need-power-of-two-requires
 power-of-two-requires c κs = search needs
 
 returns : tie.Need-returns
-returns c = ap (eqb (c .before .args .length)) (c .power-of-two .ensures .0)
+returns c = ap (eqb (c .before .args .count)) (c .power-of-two .ensures .0)
 
 pub has-inputs-spec : {M : Type 1} → statement M
 has-inputs-spec =
