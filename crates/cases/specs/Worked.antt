@@ -16,7 +16,7 @@ use Rattle.linear.specs.Nonlinearity.{pairsOf, pairs, nonlinearity, nonlinearit
 use Rattle.differential.specs.XorTable.{difference, cell, cellsOf, cells, largestCell}
 use Rattle.differential.specs.Calls.{xorReply}
 use Rattle.avalanche.specs.Avalanche.{shifts, atMost, measured, boxAutocorrelation, imbalance, dynamicDistance}
-use Rattle.avalanche.specs.Calls.{distanceChecks, autocorrelationReply}
+use Rattle.avalanche.specs.Calls.{distanceChecks, distanceReply, autocorrelationReply}
 use Rattle.algebraic.specs.Algebraic.{boxDegree}
 use Rattle.algebraic.specs.Calls.{boxDegreeReply}
 use Rattle.constructions.specs.Enlargement.{enlarged, enlargedTable, enlargedRows}
@@ -66,7 +66,7 @@ abbrev pub nonlinearityOf : ℕ → ℕ → List ℕ → Outcome
 nonlinearityOf n m rows = says (nonlinearityReply n m rows)
 
 abbrev pub distanceOf : ℕ → ℕ → List ℕ → ℕ → ℕ → Outcome
-distanceOf n m rows i j = says (replyAfter (first (distanceChecks n m rows i j)) (dynamicDistance n m rows i j .figure ∷ []))
+distanceOf n m rows i j = says (distanceReply n m rows i j)
 
 abbrev pub degreeOf : ℕ → ℕ → List ℕ → Outcome
 degreeOf n m rows = says (boxDegreeReply n m rows)
@@ -95,6 +95,9 @@ columnReply n table k a old = says (replyAfter (first (columnChecks n table k a 
 abbrev pub boxOf : ℕ → List ℕ → List ℕ → ℕ → List ℕ → List ℕ
 boxOf n rows table k old = contentAfter (first (enlargeChecks n rows table k (length old))) (enlargedRows n rows table k) old
 
+abbrev pub boxReply : ℕ → List ℕ → List ℕ → ℕ → List ℕ → Outcome
+boxReply n rows table k old = says (replyAfter (first (enlargeChecks n rows table k (length old))) [])
+
 abbrev pub bentOf : ℕ → List ℕ → List ℕ → List ℕ → List ℕ
 bentOf n permutation table old = contentAfter (first (bentChecks n permutation table (length old))) (bentTable n permutation table) old
 
@@ -106,8 +109,14 @@ sixteen = 9 ∷ 9 ∷ 9 ∷ 9 ∷ 9 ∷ 9 ∷ 9 ∷ 9 ∷ 9 ∷ 9 ∷ 9 ∷ 9 �
 abbrev pub case8 : List ℕ
 case8 = 1 ∷ 1 ∷ 0 ∷ 0 ∷ 0 ∷ 1 ∷ 0 ∷ 1 ∷ []
 
+abbrev pub case9Rows : List ℕ
+case9Rows = 3 ∷ 1 ∷ 4 ∷ 0 ∷ 2 ∷ 5 ∷ 6 ∷ 7 ∷ []
+
+abbrev pub case9Table : List ℕ
+case9Table = 1 ∷ 0 ∷ 0 ∷ 0 ∷ 1 ∷ 1 ∷ 0 ∷ 1 ∷ []
+
 abbrev pub case9 : List ℕ
-case9 = boxOf 3 (3 ∷ 1 ∷ 4 ∷ 0 ∷ 2 ∷ 5 ∷ 6 ∷ 7 ∷ []) (1 ∷ 0 ∷ 0 ∷ 0 ∷ 1 ∷ 1 ∷ 0 ∷ 1 ∷ []) 1 sixteen
+case9 = boxOf 3 case9Rows case9Table 1 sixteen
 
 abbrev pub case10 : List ℕ
 case10 = bentOf 4 (0 ∷ 1 ∷ 2 ∷ 3 ∷ []) (0 ∷ 0 ∷ 0 ∷ 0 ∷ []) sixteen
@@ -116,7 +125,7 @@ abbrev pub cases : List Case
 cases =
     -- 1
     (nonlinearityOf 1 1 (0 ∷ 1 ∷ []) is says (figures (0 ∷ 1 ∷ 1 ∷ 0 ∷ [])))
-    ∷ (distanceOf 1 1 (0 ∷ 1 ∷ []) 1 1 is says (figures (1 ∷ [])))
+    ∷ (distanceOf 1 1 (0 ∷ 1 ∷ []) 1 1 is says (figures (1 ∷ 1 ∷ 1 ∷ [])))
     ∷ (degreeOf 1 1 (0 ∷ 1 ∷ []) is says (figures (1 ∷ [])))
     -- 2
     ∷ (nonlinearityOf 1 1 (0 ∷ 0 ∷ []) is says (figures (0 ∷ 1 ∷ 0 ∷ 0 ∷ [])))
@@ -124,7 +133,7 @@ cases =
     -- 3
     ∷ (spectrumOf 2 (0 ∷ 0 ∷ 0 ∷ 1 ∷ []) (pos 0 ∷ pos 0 ∷ pos 0 ∷ pos 0 ∷ []) is holdsSigned (pos 2 ∷ pos 2 ∷ pos 2 ∷ negsuc 1 ∷ []))
     ∷ (nonlinearityOf 2 1 (0 ∷ 0 ∷ 0 ∷ 1 ∷ []) is says (figures (1 ∷ 1 ∷ 0 ∷ 0 ∷ [])))
-    ∷ (distanceOf 2 1 (0 ∷ 0 ∷ 0 ∷ 1 ∷ []) 1 2 is says (figures (0 ∷ [])))
+    ∷ (distanceOf 2 1 (0 ∷ 0 ∷ 0 ∷ 1 ∷ []) 1 2 is says (figures (0 ∷ 1 ∷ 1 ∷ [])))
     -- 4
     ∷ (inverseOf 2 (pos 2 ∷ pos 2 ∷ pos 2 ∷ negsuc 1 ∷ []) (9 ∷ 9 ∷ 9 ∷ 9 ∷ []) is holds (0 ∷ 0 ∷ 0 ∷ 1 ∷ []))
     -- 5
@@ -146,6 +155,13 @@ cases =
     ∷ (nonlinearityOf 4 1 (0 ∷ 0 ∷ 0 ∷ 0 ∷ 0 ∷ 1 ∷ 0 ∷ 1 ∷ 0 ∷ 0 ∷ 1 ∷ 1 ∷ 0 ∷ 1 ∷ 1 ∷ 0 ∷ []) is says (figures (6 ∷ 1 ∷ 0 ∷ 0 ∷ [])))
     ∷ []
 
+-- a truth table of n inputs that is 0 everywhere, and the rows 0, 1, .., 2^n − 1
+abbrev pub zeros : ℕ → List ℕ
+zeros n = listBelow (2 ^ n) (λ x. 0)
+
+abbrev pub identity : ℕ → List ℕ
+identity n = listBelow (2 ^ n) (λ x. x)
+
 -- each bound from both sides
 abbrev pub bounds : List Case
 bounds =
@@ -156,12 +172,21 @@ bounds =
     ∷ (nonlinearityOf 1 3 (7 ∷ 7 ∷ []) is says (figures (0 ∷ 1 ∷ 0 ∷ 1 ∷ [])))
     ∷ (nonlinearityOf 1 3 (7 ∷ 8 ∷ []) is says (refusal 4))
     ∷ (distanceOf 1 1 (0 ∷ 1 ∷ []) 2 1 is says (refusal 6))
-    ∷ (columnReply 8 [] 1 0 [] is says (refusal 1))
-    ∷ (columnReply 7 [] 1 0 [] is says (refusal 3))
+    -- enlarging a column: the width, the input, the constant, and the written array
+    ∷ (columnReply 7 (zeros 7) 7 0 (zeros 8) is says (figures []))
+    ∷ (columnReply 8 (zeros 8) 7 0 (zeros 9) is says (refusal 1))
+    ∷ (columnReply 7 (zeros 7) 8 0 (zeros 8) is says (refusal 6))
     ∷ (columnReply 3 case8 3 1 sixteen is says (figures []))
     ∷ (columnReply 3 case8 4 1 sixteen is says (refusal 6))
     ∷ (columnReply 3 case8 3 2 sixteen is says (refusal 6))
     ∷ (columnReply 3 case8 3 1 case8 is says (refusal 7))
+    -- enlarging a box: the same, but for the constant
+    ∷ (boxReply 7 (identity 7) (zeros 7) 7 (zeros 8) is says (figures []))
+    ∷ (boxReply 8 (identity 8) (zeros 8) 7 (zeros 9) is says (refusal 1))
+    ∷ (boxReply 7 (identity 7) (zeros 7) 8 (zeros 8) is says (refusal 6))
+    ∷ (boxReply 3 case9Rows case9Table 3 sixteen is says (figures []))
+    ∷ (boxReply 3 case9Rows case9Table 4 sixteen is says (refusal 6))
+    ∷ (boxReply 3 case9Rows case9Table 3 case8 is says (refusal 7))
     ∷ []
 
 pub worked : T (right cases && right bounds)
