@@ -60,8 +60,8 @@ def function_fault(crate, name, lines, found):
 
 
 def law_fault(name, found):
-    """What is wrong with the refusal of a law, or None."""
-    own = [message for file, declaration, message in found if declaration == name and "/proofs/" in file]
+    """What is wrong with the refusal of a law, or None. A law may stand in specs/ too: the worked cases do."""
+    own = [message for file, declaration, message in found if declaration == name and re.search("/(proofs|specs)/", file)]
     if not own:
         return "no error is in its proof"
     kind = unfit(own[0])

@@ -62,6 +62,13 @@ class Held(unittest.TestCase):
         self.assertEqual(self.faults([error], law), (1, []))
         self.assertEqual(len(self.faults([SWEEP], law)[1]), 1)
 
+    def test_a_law_in_the_specs(self):
+        law = "# a printed figure\nlaw: worked\nfile: specs/A.antt\nold: a\nnew: b\n"
+        error = "/t/linear/both/specs/Worked.antt:3:1: error: `worked`: expected type `T (right cases)`, but this has type `Unit`"
+        self.assertEqual(self.faults([error], law), (1, []))
+        self.assertEqual(len(self.faults([error.replace("`worked`", "`cases`")], law)[1]), 1)
+        self.assertEqual(len(self.faults([error.replace("/specs/", "/src/")], law)[1]), 1)
+
     def test_an_edit_that_names_nothing_fails(self):
         self.assertEqual(len(self.faults([SWEEP], "file: src/lib.rt\nold: a\nnew: b\n")[1]), 1)
 

@@ -1,6 +1,7 @@
 -- `boxfile::check_file` meets its contract: a file of 2 bytes or more has its n and m. Assumes nothing.
 use mathlib.Core.Path.{sym, ap₂, _∙_}
 use Prim.Native.Nat.{ℕ}
+use native.Mathlib.Omega.{arith}
 use borrow.Author.Tests.{le-leb, lt-leb}
 use lib.ListN.{length}
 use Rattle.refusals.specs.Table.{first}
@@ -13,7 +14,7 @@ use Rattle.boxfile.proofs.check_file.Tie as tie
 
 returns : tie.Need-returns
 unfolding fileChecks
-returns c = found (stop (lt-leb _ _ (c .if1 .taken)))
+returns c = found (stop (lt-leb 2 (length (c .before .before .args .file .now)) (omega arith)))
 
 shared-slice-read-wide : tie.Need-shared-slice-read-wide
 shared-slice-read-wide c = search needs
