@@ -12,8 +12,8 @@
  *
  * ANSWERS. Every function returns 0, or the number of a refusal. A refused call has
  * written to no array. Figures are written to an array lent by the caller, which must be
- * exactly as long as the number of figures. The checks run in this order, and the first
- * that applies gives the number:
+ * exactly as long as the number of figures. The checks run in this order (those of a box
+ * file in their own, which is given there), and the first that applies gives the number:
  *
  *    1  n is not 1 to 8 (in the two enlargements not 1 to 7, in the bent form not 2, 4,
  *       6 or 8)
@@ -38,6 +38,10 @@
 #ifdef __cplusplus
 extern "C" {
 #endif
+
+/* STACK. No proof speaks of the machine's stack. Measured on x86-64 (examples/stack.c, at
+ * the widest boxes), no call needs more than this many bytes of it. */
+#define SATMEGWO_STACK 140000u
 
 /* ---- Spectrum ---------------------------------------------------------- */
 
@@ -115,7 +119,7 @@ uint32_t satmegwo_largest_cells(uint32_t n, uint32_t m, const uint16_t *rows, si
 
 /* ---- Autocorrelation and dynamic distance ------------------------------- */
 
-/* The largest |r(s)| over all combinations c and all s from 1 to 2^n - 1, r(s) being the
+/* The largest |r(s)| over all combinations c from 1 and all s from 1 to 2^n - 1, r(s) being the
  * sum over x of +1 where the combination is equal at x and x XOR s, and -1 elsewhere.
  *   rows     read, 2^n elements below 2^m
  *   figures  written, 3 elements:

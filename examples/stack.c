@@ -1,0 +1,106 @@
+/* How much stack the calls of the library need: each is run on a stack that was painted
+ * before, and what is no longer painted was used. Prints the largest need in bytes, and
+ * the call that has it; fails if it is above SATMEGWO_STACK, which the header states.
+ *
+ * No proof speaks of the machine's stack, so this is measured.
+ */
+#define _GNU_SOURCE
+#include <pthread.h>
+#include <stdint.h>
+#include <stdio.h>
+#include <string.h>
+#include <sys/mman.h>
+#include "satmegwo.h"
+
+#define SIZE (1u << 20)
+#define PAINT 0xA5
+
+static uint16_t rows[256], half_rows[128], out_rows[256], counts[65536];
+static uint8_t table[256], out_table[256], permutation[16], file[514];
+static int32_t values[256];
+static uint32_t list[32640], figures[4];
+
+static uint32_t spectrum(void) { return satmegwo_spectrum(8, table, 256, values, 256); }
+static uint32_t inverse(void) { return satmegwo_inverse_spectrum(8, values, 256, out_table, 256); }
+static uint32_t component(void) { return satmegwo_component_spectrum(8, 16, rows, 256, 65535, values, 256); }
+static uint32_t nonlinearity(void) { return satmegwo_nonlinearity(8, 16, rows, 256, figures, 4); }
+static uint32_t add_to_column(void) { return satmegwo_add_to_column(8, 16, rows, 256, 16, 255, 1, out_rows, 256); }
+static uint32_t xor_row(void) { return satmegwo_xor_row(8, 16, rows, 256, 255, counts, 65536); }
+static uint32_t largest_cell(void) { return satmegwo_largest_cell(8, 16, rows, 256, figures, 3); }
+static uint32_t largest_cells(void) { return satmegwo_largest_cells(8, 16, rows, 256, list, 32640, figures, 1); }
+static uint32_t autocorrelation(void) { return satmegwo_autocorrelation(8, 16, rows, 256, figures, 3); }
+static uint32_t distance(void) { return satmegwo_dynamic_distance(8, 16, rows, 256, 2, 8, figures, 3); }
+static uint32_t normal_form(void) { return satmegwo_normal_form(8, table, 256, out_table, 256); }
+static uint32_t degree(void) { return satmegwo_degree(8, 16, rows, 256, figures, 1); }
+static uint32_t complete(void) { return satmegwo_complete(8, 16, rows, 256, figures, 1); }
+static uint32_t bijective(void) { return satmegwo_bijective(8, 16, rows, 256, figures, 1); }
+static uint32_t enlarge_column(void) { return satmegwo_enlarge_column(7, table, 128, 7, 1, out_table, 256); }
+static uint32_t enlarge_box(void) { return satmegwo_enlarge_box(7, half_rows, 128, table, 128, 7, out_rows, 256); }
+static uint32_t bent_function(void) { return satmegwo_bent_function(8, permutation, 16, table, 16, out_table, 256); }
+static uint32_t read_box(void) { return satmegwo_read_box(file, 514, out_rows, 256, figures, 2); }
+
+static const struct { const char *name; uint32_t (*call)(void); } calls[] = {
+    {"spectrum", spectrum}, {"inverse_spectrum", inverse}, {"component_spectrum", component}, {"nonlinearity", nonlinearity},
+    {"add_to_column", add_to_column}, {"xor_row", xor_row}, {"largest_cell", largest_cell}, {"largest_cells", largest_cells},
+    {"autocorrelation", autocorrelation}, {"dynamic_distance", distance}, {"normal_form", normal_form}, {"degree", degree},
+    {"complete", complete}, {"bijective", bijective}, {"enlarge_column", enlarge_column}, {"enlarge_box", enlarge_box},
+    {"bent_function", bent_function}, {"read_box", read_box},
+};
+
+static uint32_t (*current)(void);
+static uint8_t *top;
+static uint32_t reply;
+
+static void *run(void *unused)
+{
+    uint8_t here;
+    top = &here;
+    reply = current();
+    return unused;
+}
+
+/* The bytes of a painted stack that a call uses, or 0 where the call could not be run. */
+static size_t need(uint8_t *stack, uint32_t (*call)(void))
+{
+    pthread_attr_t attributes;
+    pthread_t thread;
+    size_t at = 0;
+    memset(stack, PAINT, SIZE);
+    current = call;
+    if (pthread_attr_init(&attributes) != 0 || pthread_attr_setstack(&attributes, stack, SIZE) != 0
+        || pthread_create(&thread, &attributes, run, NULL) != 0 || pthread_join(thread, NULL) != 0 || reply != 0)
+        return 0;
+    while (stack[at] == PAINT)
+        at++;
+    return (size_t)(top - (stack + at));
+}
+
+int main(void)
+{
+    size_t largest = 0, which = 0;
+    uint8_t *stack = mmap(NULL, SIZE, PROT_READ | PROT_WRITE, MAP_PRIVATE | MAP_ANONYMOUS, -1, 0);
+    if (stack == MAP_FAILED)
+        return 1;
+    file[0] = 8;
+    file[1] = 16;
+    for (uint32_t x = 0; x < 256; x++) {
+        rows[x] = (uint16_t)(x * 40503u);
+        half_rows[x % 128] = (uint16_t)(x % 128);
+        table[x] = (uint8_t)((x * x / 8) % 2);
+        permutation[x % 16] = (uint8_t)(x % 16);
+    }
+    for (size_t i = 0; i < sizeof calls / sizeof calls[0]; i++) {
+        size_t bytes = need(stack, calls[i].call);
+        if (bytes == 0) {
+            printf("%s could not be run\n", calls[i].name);
+            return 1;
+        }
+        printf("%-20s %zu\n", calls[i].name, bytes);
+        if (largest < bytes) {
+            largest = bytes;
+            which = i;
+        }
+    }
+    printf("the largest need of stack is %zu bytes (%s); the header states %u\n", largest, calls[which].name, SATMEGWO_STACK);
+    return largest <= SATMEGWO_STACK ? 0 : 1;
+}
