@@ -1,9 +1,9 @@
 -- A list of integers is the spectrum of a function exactly when its transform is 2^n or −2^n everywhere; and of one function only.
 use mathlib.Core.Path.{_≡_, refl, sym, ap, _∙_, subst}
-use mathlib.Core.Bool.{Bool, true, false}
+use mathlib.Core.Bool.{Bool, true, false, true≢false}
+use mathlib.Core.Logic.{_↔_}
 use mathlib.Core.List.{List, [], _∷_}
 use Prim.Native.Nat.{ℕ, _^_, _<_, _≤_}
-use native.Mathlib.Omega.{arith}
 use lib.Dec.{T}
 use lib.ListN.{length}
 use lib.Pow.{pow-pos}
@@ -13,7 +13,7 @@ use Rattle.boolean.specs.Sums.{listBelow}
 use Rattle.boolean.specs.Functions.{Boolean, valueAt, walsh, spectrum, signBit, transform, inverse, sameValue, sameValues, isSpectrum}
 use Rattle.boolean.proofs.Cases.{same-value}
 use Rattle.boolean.proofs.Every.{both, both-true}
-use Rattle.boolean.proofs.Lists.{list-is, getD-listBelow}
+use Rattle.boolean.proofs.Lists.{list-is, length-listBelow, getD-listBelow}
 use Rattle.boolean.proofs.Sizes.{abs-cases, cases-abs}
 use Rattle.boolean.proofs.Transform.{transform-cong}
 use Rattle.boolean.proofs.Walsh.{walsh-le}
@@ -45,6 +45,21 @@ pub inverse-boolean : (n : ℕ) (F : ℕ → ℤ) → Boolean n (inverse n F)
 unfolding inverse
 inverse-boolean n F x l = sign-bit-lt (transform n F x)
 
+module _ (n : ℕ) (values : List ℤ) where
+  -- what a function that has the values says of them: there are 2^n, each its Walsh value
+  spectrum-length : (f : ℕ → ℕ) → spectrum n f ≡ values → length values ≡ 2 ^ n
+  unfolding spectrum
+  spectrum-length f has = ap length (sym has) ∙ length-listBelow (2 ^ n) (walsh n f)
+
+  spectrum-value : (f : ℕ → ℕ) → spectrum n f ≡ values → (w : ℕ) → w < 2 ^ n → valueAt values w ≡ walsh n f w
+  unfolding spectrum
+  spectrum-value f has w l = ap (λ (vs : List ℤ). valueAt vs w) (sym has) ∙ getD-listBelow (2 ^ n) (walsh n f) w (pos 0) l
+
+  -- where the test holds the inverse has them
+  inverse-has : isSpectrum n values ≡ true → spectrum n (inverse n (valueAt values)) ≡ values
+  unfolding isSpectrum
+  inverse-has = same-values (spectrum n (inverse n (valueAt values))) values
+
 module _ (n : ℕ) (values : List ℤ) (size : length values ≡ 2 ^ n) where
   -- the values of f, if it has them, show f
   pub inverse-is : (f : ℕ → ℕ) → Boolean n f → ((w : ℕ) → w < 2 ^ n → walsh n f w ≡ valueAt values w)
@@ -59,12 +74,8 @@ module _ (n : ℕ) (values : List ℤ) (size : length values ≡ 2 ^ n) where
       ap (λ (l : List ℤ). sameValues l values) (sym (list-is (pos 0) (2 ^ n) (λ w. walsh n (inverse n (valueAt values)) w) values size h))
       ∙ same-values-refl values
 
-  -- where the test holds, the inverse has the values
   pub has-values : isSpectrum n values ≡ true → (w : ℕ) → w < 2 ^ n → walsh n (inverse n (valueAt values)) w ≡ valueAt values w
-  unfolding isSpectrum spectrum
-  has-values e w l =
-      sym (getD-listBelow (2 ^ n) (λ v. walsh n (inverse n (valueAt values)) v) w (pos 0) l)
-      ∙ ap (λ (l : List ℤ). valueAt l w) (same-values (listBelow (2 ^ n) (λ v. walsh n (inverse n (valueAt values)) v)) values e)
+  has-values e w l = sym (spectrum-value n values (inverse n (valueAt values)) (inverse-has n values e) w l)
 
   pub full-is-spectrum : ((x : ℕ) → x < 2 ^ n → natAbs (transform n (valueAt values) x) ≡ 2 ^ n) → isSpectrum n values ≡ true
   full-is-spectrum full =
@@ -78,13 +89,21 @@ module _ (n : ℕ) (values : List ℤ) (size : length values ≡ 2 ^ n) where
   pub is-spectrum-small : isSpectrum n values ≡ true → (w : ℕ) → w < 2 ^ n → natAbs (valueAt values w) ≤ 2 ^ n
   is-spectrum-small e w l = subst (λ (z : ℤ). natAbs z ≤ 2 ^ n) (has-values e w l) (walsh-le n (inverse n (valueAt values)) w)
 
-  -- refused exactly when no function has the values
-  pub has-function : (f : ℕ → ℕ) → Boolean n f → ((w : ℕ) → w < 2 ^ n → walsh n f w ≡ valueAt values w) → isSpectrum n values ≡ true
+module _ (n : ℕ) (values : List ℤ) where
+  -- a function that has the values passes the test
+  has-function : (f : ℕ → ℕ) → Boolean n f → spectrum n f ≡ values → isSpectrum n values ≡ true
   has-function f bits has =
-      full-is-spectrum (λ x l. cases-abs (transform n (valueAt values) x) (2 ^ n) (spectrum-forth n (valueAt values) f bits (λ w k. sym (has w k)) x l))
+      full-is-spectrum n values (spectrum-length n values f has)
+      (λ x l. cases-abs (transform n (valueAt values) x) (2 ^ n) (spectrum-forth n (valueAt values) f bits (spectrum-value n values f has) x l))
 
-  pub no-function : isSpectrum n values ≡ false → (f : ℕ → ℕ) → Boolean n f → ((w : ℕ) → w < 2 ^ n → walsh n f w ≡ valueAt values w) → ⊥
-  no-function e f bits has = let t : true ≡ false = sym (has-function f bits has) ∙ e in let z : _≡_ {A = ℕ} 0 1 = cc in absurd-path z
+  -- "A spectrum is turned back into its function, and refused exactly when no function has it." It holds of any list; one of another length than
+  -- 2^n is no function's spectrum.
+  pub no-function : isSpectrum n values ≡ false ↔ ((f : ℕ → ℕ) → Boolean n f → spectrum n f ≡ values → ⊥)
+  no-function = (
+    λ e f bits has. true≢false (sym (has-function f bits has) ∙ e),
+    λ none. fails none (isSpectrum n values) refl,
+  )
     where
-      absurd-path : _≡_ {A = ℕ} 0 1 → ⊥
-      absurd-path z = omega arith
+      fails : ((f : ℕ → ℕ) → Boolean n f → spectrum n f ≡ values → ⊥) → (t : Bool) → isSpectrum n values ≡ t → isSpectrum n values ≡ false
+      fails none true e = absurd (none (inverse n (valueAt values)) (inverse-boolean n (valueAt values)) (inverse-has n values e))
+      fails none false e = e
