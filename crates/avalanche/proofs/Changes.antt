@@ -9,14 +9,14 @@ use lib.Count.{ones}
 use lib.Dec.{leb}
 use lib.Pow.{pow-pos, pow-mono}
 use Rattle.boolean.specs.Sums.{listFrom, each}
-use Rattle.boolean.specs.Functions.{at, components}
-use Rattle.boolean.specs.Selection.{Candidate}
-use Rattle.boolean.proofs.Selection.{Ascending}
+use Rattle.boolean.specs.Functions.{components}
+use Rattle.boolean.specs.Selection.{Candidate, Ascending}
 use Rattle.boolean.proofs.Lists.{mem-listFrom, in-listFrom, mem-each, in-each, ascending-listFrom, ascending-each, ascending-blocks}
 use Rattle.boolean.proofs.Kept.{keep-takes, mem-keep, in-keep, ascending-keep, each-cong}
 use Rattle.boolean.proofs.OneBit.{ones-one}
 use Rattle.avalanche.specs.Avalanche.{shifts, atMost, measured}
 use Rattle.avalanche.specs.Calls.{change, changesOf, Within}
+use Rattle.avalanche.specs.Statements.{changeRank}
 
 -- the numbers from 1 to 2^k − 1
 abbrev pub masks : ℕ → List ℕ
@@ -48,10 +48,6 @@ module _ (k j : ℕ) where
         ap (λ (z : ℕ). atMost j (listFrom 1 z (λ s. s))) more
             ∙ keep-takes (λ v. leb (ones v) j) 1 (listFrom 2 (2 ^ k - 2) (λ s. s)) (le-leb (ones 1) j (le-trans (le-of-eq ones-one) lj)),
       )
-
--- a change's number in the order of c, then s
-abbrev pub changeRank : ℕ → Candidate → ℕ
-changeRank n p = at (p .witness) 0 * 2 ^ n + at (p .witness) 1
 
 -- ---- the changes of one component
 module _ (n j : ℕ) (figure : ℕ → ℕ → ℕ) (c : ℕ) where

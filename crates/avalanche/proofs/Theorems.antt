@@ -1,8 +1,8 @@
 -- The autocorrelation and the dynamic distance: the largest figure, the first change that has it, and (1, 1) where it is 0. The strict
 -- avalanche criterion as document 000 defines it.
 use mathlib.Core.Path.{_≡_, sym, ap, _∙_, subst}
-use mathlib.Core.Logic.{_⊎_, inl, inr, _↔_}
-use mathlib.Core.List.{List, [], _∷_, List·Memᴰ}
+use mathlib.Core.Logic.{inl, inr, _↔_}
+use mathlib.Core.List.{List, List·Memᴰ}
 use Prim.Native.Nat.{ℕ, suc, _+_, _*_, _-_, _^_, _<_, _≤_}
 use native.Mathlib.Nat.{le-refl, le-of-eq, mul-le-mul-right, suc-mul}
 use native.Mathlib.Omega.{arith}
@@ -19,30 +19,13 @@ use Rattle.boolean.proofs.Selection.{firstLargest-ge, firstLargest-mem, firstLa
 use Rattle.refusals.specs.Table.{Box}
 use Rattle.avalanche.specs.Avalanche.{measured, boxAutocorrelation, imbalance, dynamicDistance}
 use Rattle.avalanche.specs.Calls.{correlated, change, Within}
-use Rattle.avalanche.proofs.Changes.{changeRank, in-measured, mem-measured, ascending-measured, measured-first}
+use Rattle.avalanche.specs.Statements.{Before, changeRank, Widest, distanceOf}
+use Rattle.avalanche.proofs.Changes.{in-measured, mem-measured, ascending-measured, measured-first}
 
--- (c′, s′) comes before (c, s): by c, then s
-abbrev pub Before : (c′ s′ c s : ℕ) → Type 0
-Before c′ s′ c s = (c′ < c) ⊎ ((c′ ≡ c) × (s′ < s))
-
+-- a change before another has a lower number
 before-rank : (n c′ s′ c s : ℕ) → s′ < 2 ^ n → Before c′ s′ c s → c′ * 2 ^ n + s′ < c * 2 ^ n + s
 before-rank n c′ s′ c s h (inl l) = omega (arith, suc-mul c′ (2 ^ n), mul-le-mul-right (2 ^ n) l)
 before-rank n c′ s′ c s h (inr l) = omega (arith, ap (λ (z : ℕ). z * 2 ^ n) (l .0))
-
--- r is the first of the largest figures over components with at most i ones and changes with at most j
-pub record Widest (n m i j : ℕ) (figure : ℕ → ℕ → ℕ) (r : Candidate) : Type 0 where
-  -- no figure is larger
-  pub most : (c s : ℕ) → Within i (2 ^ m) c → Within j (2 ^ n) s → figure c s ≤ r .figure
-  -- it is that of its witness
-  pub c : ℕ
-  pub s : ℕ
-  pub c-within : Within i (2 ^ m) c
-  pub s-within : Within j (2 ^ n) s
-  pub reached : r ≡ change figure c s
-  -- each before it is smaller
-  pub first : (c′ s′ : ℕ) → Within i (2 ^ m) c′ → Within j (2 ^ n) s′ → Before c′ s′ c s → figure c′ s′ < r .figure
-  -- a figure of 0 is that of (1, 1)
-  pub none : r .figure ≡ 0 → r .witness ≡ 1 ∷ 1 ∷ []
 
 module _ (n m i j : ℕ) (figure : ℕ → ℕ → ℕ) (n-low : 1 ≤ n) (m-low : 1 ≤ m) (i-low : 1 ≤ i) (j-low : 1 ≤ j) where
   widest : Widest n m i j figure (firstLargest (measured n m i j figure))
@@ -80,12 +63,9 @@ module _ (n m : ℕ) (rows : List ℕ) (b : Box n m rows) where
   autocorrelation-most c s lc hc ls hs = autocorrelation-widest .most c s (all-within m c lc hc) (all-within n s ls hs)
 
   -- ---- the dynamic distance
-  abbrev pub distanceOf : ℕ → ℕ → ℕ
-  distanceOf c d = imbalance n (component rows c) d
-
-  pub distance-widest : (i j : ℕ) → 1 ≤ i → 1 ≤ j → Widest n m i j distanceOf (dynamicDistance n m rows i j)
+  pub distance-widest : (i j : ℕ) → 1 ≤ i → 1 ≤ j → Widest n m i j (distanceOf n rows) (dynamicDistance n m rows i j)
   unfolding dynamicDistance
-  distance-widest i j i-low j-low = widest n m i j distanceOf (b .n-low) (b .m-low) i-low j-low
+  distance-widest i j i-low j-low = widest n m i j (distanceOf n rows) (b .n-low) (b .m-low) i-low j-low
 
   -- ---- the criterion: each single input change alters each column at half of the inputs
   no-size : (z : ℤ) → natAbs z ≡ 0 → z ≡ pos 0
@@ -122,7 +102,7 @@ module _ (n m : ℕ) (rows : List ℕ) (b : Box n m rows) where
     λ e j k lj hj lk hk.
         let t = distance-widest 1 1 (le-refl 1) (le-refl 1) in
         let low = t .most (2 ^ (j - 1)) (2 ^ (k - 1)) (single m j lj hj) (single n k lk hk) in
-        let z : distanceOf (2 ^ (j - 1)) (2 ^ (k - 1)) ≡ 0 = omega arith in
+        let z : distanceOf n rows (2 ^ (j - 1)) (2 ^ (k - 1)) ≡ 0 = omega arith in
         sym (by-column j (2 ^ (k - 1))) ∙ balanced (component rows (2 ^ (j - 1))) (2 ^ (k - 1)) z,
     λ h.
         let t = distance-widest 1 1 (le-refl 1) (le-refl 1) in

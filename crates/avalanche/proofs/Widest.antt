@@ -16,7 +16,8 @@ use Rattle.boolean.proofs.Lists.{length-listBelow, getD-listBelow}
 use Rattle.boolean.proofs.Products.{abs-multiple}
 use Rattle.boolean.proofs.Selection.{best-stays, best-is, ranked-first}
 use Rattle.avalanche.specs.Calls.{correlations, correlated, change, changesOf, Within, LargestWithin, FirstWithin}
-use Rattle.avalanche.proofs.Changes.{changeRank, in-changesOf, mem-changesOf, ascending-changesOf}
+use Rattle.avalanche.specs.Statements.{changeRank}
+use Rattle.avalanche.proofs.Changes.{in-changesOf, mem-changesOf, ascending-changesOf}
 
 module _ (n : ℕ) (rows : List ℕ) (c j : ℕ) {values : List ℤ} (e : values ≡ correlations n rows c) where
   pub values-length : length values ≡ 2 ^ n

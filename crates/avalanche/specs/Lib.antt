@@ -1,2 +1,3 @@
 pub mod Avalanche
 pub mod Calls
+pub mod Statements

@@ -9,7 +9,6 @@ use lib.ListN.{length}
 use lib.Pow.{pow-pos}
 use lib.IntN.{ℤ, pos, negsuc, natAbs}
 use borrow.Author.Tests.{eq-eqb}
-use Rattle.boolean.specs.Sums.{listBelow}
 use Rattle.boolean.specs.Functions.{Boolean, valueAt, walsh, spectrum, signBit, transform, inverse, sameValue, sameValues, isSpectrum}
 use Rattle.boolean.proofs.Cases.{same-value}
 use Rattle.boolean.proofs.Every.{both, both-true}

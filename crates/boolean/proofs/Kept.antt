@@ -4,7 +4,7 @@ use mathlib.Core.Bool.{Bool, true, false}
 use mathlib.Core.List.{List, [], _∷_, _++_, List·Memᴰ, List·Memᴰ·head, List·Memᴰ·not-nil, List·Memᴰ·eq-of-singleton}
 use Prim.Native.Nat.{ℕ, _<_}
 use Rattle.boolean.specs.Sums.{each, keep}
-use Rattle.boolean.proofs.Selection.{Ascending}
+use Rattle.boolean.specs.Selection.{Ascending}
 use Rattle.boolean.proofs.Lists.{each-append, mem-each, in-each, ascending-each}
 
 module _ {A B : Type 0} where

@@ -11,7 +11,8 @@ use native.Mathlib.Decide.{ℕ-discrete}
 use lib.ListN.{length, getD, take, drop, length-append, length-drop}
 use lib.Seq.{ext-getD, take-at, take-all}
 use Rattle.boolean.specs.Sums.{countBelow, one-if, listFrom, listBelow, each}
-use Rattle.boolean.proofs.Selection.{Ascending, of-cons}
+use Rattle.boolean.specs.Selection.{Ascending}
+use Rattle.boolean.proofs.Selection.{of-cons}
 
 shift : (i k : ℕ) → suc i + k ≡ i + suc k
 shift i k = omega arith

@@ -8,8 +8,8 @@ use native.Mathlib.Nat.{le-antisymm, not-suc-le-zero, le-of-suc-le-suc}
 use native.Mathlib.Omega.{arith}
 use lib.ListN.{length, getD}
 use Rattle.boolean.specs.Sums.{each}
+use Rattle.boolean.specs.Selection.{Ascending}
 use Rattle.boolean.proofs.Lists.{mem-each}
-use Rattle.boolean.proofs.Selection.{Ascending}
 
 -- ---- one member where a test passes, and none elsewhere
 module _ {A : Type 0} where

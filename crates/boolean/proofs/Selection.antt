@@ -8,12 +8,7 @@ use native.Mathlib.Nat.{le-refl, le-antisymm}
 use native.Mathlib.Omega.{arith}
 use borrow.Author.Tests.{ltb-true, ltb-false, eqb-true, eqb-false, lt-ltb, le-ltb}
 use lib.Dec.{ltb, eqb}
-use Rattle.boolean.specs.Selection.{Candidate, best, lower, higher, firstLeast, firstLargest, lowerRanked, First, here, there}
-
--- the ranks rise along a list
-abbrev pub Ascending : {C : Type 0} → (C → ℕ) → List C → Type 0
-Ascending rank [] = Unit {0}
-Ascending {C} rank (c ∷ cs) = ((d : C) → List·Memᴰ d cs → rank c < rank d) × Ascending rank cs
+use Rattle.boolean.specs.Selection.{Candidate, best, lower, higher, firstLeast, firstLargest, Ascending, lowerRanked, First, here, there}
 
 -- a member of a list is its head or a member of the rest
 pub of-cons : {C : Type 0} (P : C → Type 0) {c d : C} {cs : List C} → P d → (List·Memᴰ c cs → P c) → List·Memᴰ c (d ∷ cs) → P c

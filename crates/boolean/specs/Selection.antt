@@ -1,7 +1,7 @@
 -- The first best of candidates in order: of those that are as good, the one that comes first.
-use Prim.Native.Nat.{ℕ}
+use Prim.Native.Nat.{ℕ, _<_}
 use mathlib.Core.Bool.{Bool, true, false, _&&_, _||_}
-use mathlib.Core.List.{List, [], _∷_}
+use mathlib.Core.List.{List, [], _∷_, List·Memᴰ}
 use lib.Dec.{ltb, eqb}
 
 -- a figure, and the numbers that reach it
@@ -40,6 +40,13 @@ unfoldable pub firstLargest : List Candidate → Candidate
 unfolding best
 firstLargest [] = nothing
 firstLargest (c ∷ cs) = best higher c cs
+
+-- What the laws of a selection say; no contract needs it.
+
+-- the ranks rise along a list
+abbrev pub Ascending : {C : Type 0} → (C → ℕ) → List C → Type 0
+Ascending rank [] = Unit {0}
+Ascending {C} rank (c ∷ cs) = ((d : C) → List·Memᴰ d cs → rank c < rank d) × Ascending rank cs
 
 -- of a lower value, or of the same value and a lower rank: with ranks, the order of visiting does not matter
 abbrev pub lowerRanked : {C : Type 0} → (C → ℕ) → (C → ℕ) → C → C → Bool

@@ -1,43 +1,25 @@
 -- The list of cells: which cells it has, and that they stand in the order of a, then β. Assumes nothing.
 use mathlib.Core.Path.{_≡_, refl, ap}
-use mathlib.Core.Logic.{_⊎_, inl, inr}
+use mathlib.Core.Logic.{inl, inr}
 use mathlib.Core.List.{List, [], _∷_, List·Memᴰ, List·Memᴰ·not-nil}
 use Prim.Native.Nat.{ℕ, suc, _+_, _*_, _-_, _^_, _<_, _≤_}
 use native.Mathlib.Nat.{le-refl, mul-le-mul-right, suc-mul}
 use native.Mathlib.Omega.{arith}
 use lib.Pow.{pow-pos, pow-lt}
 use Rattle.boolean.specs.Sums.{listFrom}
-use Rattle.boolean.specs.Functions.{at}
-use Rattle.boolean.specs.Selection.{Candidate}
-use Rattle.boolean.proofs.Selection.{Ascending}
+use Rattle.boolean.specs.Selection.{Candidate, Ascending}
 use Rattle.boolean.proofs.Lists.{mem-listFrom, in-listFrom, mem-listBelow, in-listBelow, mem-each, in-each, ascending-listFrom, ascending-listBelow, ascending-blocks}
-use Rattle.differential.specs.XorTable.{cell, cellsOf, cells}
+use Rattle.differential.specs.XorTable.{cellsOf, cells}
+use Rattle.differential.specs.Statements.{IsCell, cellOf, Before, rank}
 
--- a and β are a cell of a box of n inputs and m outputs
-pub record IsCell (n m a β : ℕ) : Type 0 where
-  pub a-low : 1 ≤ a
-  pub a-high : a < 2 ^ n
-  pub β-high : β < 2 ^ m
-
--- there is one
+-- a box with an input has a cell
 pub first-cell : (n m : ℕ) → 1 ≤ n → IsCell n m 1 0
 first-cell n m h = record { a-low = le-refl 1; a-high = pow-lt h; β-high = pow-pos m }
 
--- (a′, β′) comes before (a, β): by a, then β
-abbrev pub Before : (a′ β′ a β : ℕ) → Type 0
-Before a′ β′ a β = (a′ < a) ⊎ ((a′ ≡ a) × (β′ < β))
-
--- a cell's number in that order, by rows of a size
-abbrev pub rank : ℕ → Candidate → ℕ
-rank size c = at (c .witness) 0 * size + at (c .witness) 1
-
+-- a cell before another has a lower number
 pub before-rank : (size a′ β′ a β : ℕ) → β′ < size → Before a′ β′ a β → a′ * size + β′ < a * size + β
 before-rank size a′ β′ a β h (inl l) = omega (arith, suc-mul a′ size, mul-le-mul-right size l)
 before-rank size a′ β′ a β h (inr t) = omega (arith, ap (λ (z : ℕ). z * size) (t .0))
-
--- the cell of a and β, as a candidate
-abbrev pub cellOf : ℕ → List ℕ → ℕ → ℕ → Candidate
-cellOf n rows a β = record { figure = cell n rows a β; witness = a ∷ β ∷ [] }
 
 module _ (n m : ℕ) (rows : List ℕ) where
   -- ---- the cells of one row

@@ -28,7 +28,8 @@ use Rattle.refusals.specs.declared.Checked.the-variants.{Accepted, Refused}
 use Rattle.refusals.proofs.Checks.{found-after, skip, stop, end, box-accepted}
 use Rattle.differential.specs.XorTable.{cells, largestCell, largestCells, coded, Holds}
 use Rattle.differential.specs.Calls.{listChecks, ListAfter, differencesOf, occurrences, isListed, listedAt, listedRow, listed}
-use Rattle.differential.proofs.Cells.{IsCell, cellOf, in-cells, mem-cells, ascending-cells}
+use Rattle.differential.specs.Statements.{IsCell, cellOf}
+use Rattle.differential.proofs.Cells.{in-cells, mem-cells, ascending-cells}
 use Rattle.differential.proofs.RowBest.{value-small, occurrences-cell}
 use Rattle.differential.proofs.Sweeps.{some-cell}
 

@@ -21,7 +21,8 @@ use Rattle.refusals.specs.Table.{Box}
 use Rattle.differential.specs.XorTable.{difference, cell, cellsOf}
 use Rattle.differential.specs.Calls.{differencesOf, occurrences, Paired, RowLargest, AfterRow}
 use Rattle.differential.proofs.Pairs.{pair-small, cell-twice}
-use Rattle.differential.proofs.Cells.{rank, cellOf, in-cellsOf, mem-cellsOf, ascending-cellsOf}
+use Rattle.differential.specs.Statements.{rank, cellOf}
+use Rattle.differential.proofs.Cells.{in-cellsOf, mem-cellsOf, ascending-cellsOf}
 
 -- ---- how often a value stands among others
 pub occurs : (values : List ℕ) (x : ℕ) → x < length values → 0 < occurrences values (at values x)

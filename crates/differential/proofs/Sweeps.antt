@@ -16,7 +16,8 @@ use Rattle.boolean.proofs.Selection.{best-append, firstLargest-above}
 use Rattle.refusals.specs.Table.{Box}
 use Rattle.differential.specs.XorTable.{cellsOf, cells, largestCell}
 use Rattle.differential.specs.Calls.{Swept, Inside, differencesOf, Paired, AfterRow}
-use Rattle.differential.proofs.Cells.{IsCell, cellOf, in-cells}
+use Rattle.differential.specs.Statements.{IsCell, cellOf}
+use Rattle.differential.proofs.Cells.{in-cells}
 use Rattle.differential.proofs.RowBest.{values-length, value-small, occurrences-cell, occurs, row-best}
 use Rattle.differential.proofs.Pairs.{pairs-length, pair-small}
 

@@ -7,7 +7,8 @@ use native.Mathlib.Omega.{arith}
 use Rattle.boolean.specs.Selection.{Candidate, firstLargest, First}
 use Rattle.boolean.proofs.Selection.{firstLargest-ge, firstLargest-mem, firstLargest-first, first-ranked}
 use Rattle.differential.specs.XorTable.{cell, cells, largestCell}
-use Rattle.differential.proofs.Cells.{IsCell, Before, rank, before-rank, cellOf, in-cells, mem-cells, ascending-cells, cells-nonempty}
+use Rattle.differential.specs.Statements.{IsCell, cellOf, Before, rank}
+use Rattle.differential.proofs.Cells.{before-rank, in-cells, mem-cells, ascending-cells, cells-nonempty}
 
 module _ (n m : ℕ) (rows : List ℕ) where
   -- every cell counts at most the figure

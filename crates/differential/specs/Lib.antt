@@ -1,2 +1,3 @@
 pub mod XorTable
 pub mod Calls
+pub mod Statements

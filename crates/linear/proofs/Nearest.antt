@@ -23,7 +23,8 @@ use Rattle.boolean.proofs.Walsh.{walsh-le}
 use Rattle.refusals.specs.Table.{Box}
 use Rattle.linear.specs.Nonlinearity.{pair, pairsOf, pairs, nonlinearity}
 use Rattle.linear.specs.Calls.{Largest, FirstPlace, Swept}
-use Rattle.linear.proofs.Pairs.{pairRank, in-pairsOf, mem-pairsOf, ascending-pairsOf, mem-pairs, pairs-nonempty}
+use Rattle.linear.specs.Statements.{pairRank}
+use Rattle.linear.proofs.Pairs.{in-pairsOf, mem-pairsOf, ascending-pairsOf, mem-pairs, pairs-nonempty}
 
 -- ---- one component
 module _ (n : ℕ) (rows : List ℕ) (c : ℕ) {values : List ℤ} (e : values ≡ spectrum n (component rows c)) where

@@ -7,22 +7,19 @@ use native.Mathlib.Nat.{zero-lt-suc, le-refl, mul-le-mul-right, suc-mul}
 use native.Mathlib.Omega.{arith}
 use lib.Pow.{pow-pos, pow-lt}
 use Rattle.boolean.specs.Sums.{listBelow}
-use Rattle.boolean.specs.Functions.{at, components}
-use Rattle.boolean.specs.Selection.{Candidate}
+use Rattle.boolean.specs.Functions.{components}
+use Rattle.boolean.specs.Selection.{Candidate, Ascending}
 use Rattle.boolean.proofs.Dots.{bit-cases}
-use Rattle.boolean.proofs.Selection.{Ascending, of-cons}
+use Rattle.boolean.proofs.Selection.{of-cons}
 use Rattle.boolean.proofs.Lists.{mem-listFrom, in-listFrom, mem-listBelow, in-listBelow, mem-each, in-each, ascending-listFrom, ascending-listBelow, ascending-blocks}
 use Rattle.linear.specs.Nonlinearity.{pair, pairsOf, pairs}
-use Rattle.linear.specs.Statements.{IsPair, Before}
+use Rattle.linear.specs.Statements.{IsPair, Before, pairRank}
 
--- there is a pair
+-- a box with an output has a pair
 pub first-pair : (n m : ℕ) → 1 ≤ m → IsPair n m 1 0 0
 first-pair n m h = record { c-low = le-refl 1; c-high = pow-lt h; w-high = pow-pos n; b-high = zero-lt-suc 1 }
 
--- a pair's number in the order of c, then w, then b
-abbrev pub pairRank : ℕ → Candidate → ℕ
-pairRank n p = at (p .witness) 0 * (2 * 2 ^ n) + at (p .witness) 1 * 2 + at (p .witness) 2
-
+-- a pair before another has a lower number
 pub before-rank : (n c′ w′ b′ c w b : ℕ) → w′ < 2 ^ n → b′ < 2 → Before c′ w′ b′ c w b
     → c′ * (2 * 2 ^ n) + w′ * 2 + b′ < c * (2 * 2 ^ n) + w * 2 + b
 before-rank n c′ w′ b′ c w b hw hb (inl l) = omega (arith, suc-mul c′ (2 * 2 ^ n), mul-le-mul-right (2 * 2 ^ n) l)

@@ -15,8 +15,8 @@ use Rattle.boolean.proofs.Spectrum.{some-walsh-large}
 use Rattle.boolean.proofs.Bent.{bent-of-squares, bent-squares}
 use Rattle.boolean.proofs.Selection.{firstLeast-le, firstLeast-mem, firstLeast-first, first-ranked}
 use Rattle.linear.specs.Nonlinearity.{pair, pairs, nonlinearity}
-use Rattle.linear.specs.Statements.{IsPair, Before}
-use Rattle.linear.proofs.Pairs.{pairRank, before-rank, first-pair, in-pairs, mem-pairs, ascending-pairs, pairs-nonempty}
+use Rattle.linear.specs.Statements.{IsPair, Before, pairRank}
+use Rattle.linear.proofs.Pairs.{before-rank, first-pair, in-pairs, mem-pairs, ascending-pairs, pairs-nonempty}
 
 module _ (n m : ℕ) (rows : List ℕ) where
   -- every pair differs at d inputs or more

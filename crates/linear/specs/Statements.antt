@@ -1,7 +1,9 @@
--- What the theorems on pairs speak of.
-use Prim.Native.Nat.{ℕ, _^_, _≤_, _<_}
+-- What the theorems beside the contracts say; no contract needs it.
+use Prim.Native.Nat.{ℕ, _+_, _*_, _^_, _<_, _≤_}
 use mathlib.Core.Path.{_≡_}
 use mathlib.Core.Logic.{_⊎_}
+use Rattle.boolean.specs.Functions.{at}
+use Rattle.boolean.specs.Selection.{Candidate}
 
 -- component c and the affine function (w, b) are a pair of a box of n inputs and m outputs
 pub record IsPair (n m c w b : ℕ) : Type 0 where
@@ -13,3 +15,7 @@ pub record IsPair (n m c w b : ℕ) : Type 0 where
 -- (c′, w′, b′) comes before (c, w, b): by c, then w, then b
 abbrev pub Before : (c′ w′ b′ c w b : ℕ) → Type 0
 Before c′ w′ b′ c w b = (c′ < c) ⊎ (((c′ ≡ c) × (w′ < w)) ⊎ ((c′ ≡ c) × (w′ ≡ w) × (b′ < b)))
+
+-- a pair's number in that order
+abbrev pub pairRank : ℕ → Candidate → ℕ
+pairRank n p = at (p .witness) 0 * (2 * 2 ^ n) + at (p .witness) 1 * 2 + at (p .witness) 2

@@ -1,0 +1,26 @@
+-- What the theorems beside the contracts say; no contract needs it.
+use Prim.Native.Nat.{ℕ, _+_, _*_, _^_, _<_, _≤_}
+use mathlib.Core.Path.{_≡_}
+use mathlib.Core.Logic.{_⊎_}
+use mathlib.Core.List.{List, [], _∷_}
+use Rattle.boolean.specs.Functions.{at}
+use Rattle.boolean.specs.Selection.{Candidate}
+use Rattle.differential.specs.XorTable.{cell}
+
+-- a and β are a cell of a box of n inputs and m outputs
+pub record IsCell (n m a β : ℕ) : Type 0 where
+  pub a-low : 1 ≤ a
+  pub a-high : a < 2 ^ n
+  pub β-high : β < 2 ^ m
+
+-- that cell as a candidate: its count, with a and β
+abbrev pub cellOf : ℕ → List ℕ → ℕ → ℕ → Candidate
+cellOf n rows a β = record { figure = cell n rows a β; witness = a ∷ β ∷ [] }
+
+-- (a′, β′) comes before (a, β): by a, then β
+abbrev pub Before : (a′ β′ a β : ℕ) → Type 0
+Before a′ β′ a β = (a′ < a) ⊎ ((a′ ≡ a) × (β′ < β))
+
+-- a cell's number in that order, by rows of a size
+abbrev pub rank : ℕ → Candidate → ℕ
+rank size c = at (c .witness) 0 * size + at (c .witness) 1
