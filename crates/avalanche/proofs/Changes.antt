@@ -10,9 +10,9 @@ use lib.Dec.{leb}
 use lib.Pow.{pow-pos, pow-mono}
 use Rattle.boolean.specs.Sums.{listFrom, each}
 use Rattle.boolean.specs.Functions.{components}
-use Rattle.boolean.specs.Selection.{Candidate, Ascending}
-use Rattle.boolean.proofs.Lists.{mem-listFrom, in-listFrom, mem-each, in-each, ascending-listFrom, ascending-each, ascending-blocks}
-use Rattle.boolean.proofs.Kept.{keep-takes, mem-keep, in-keep, ascending-keep, each-cong}
+use Rattle.boolean.specs.Selection.{Candidate, Ascending, SameMembers}
+use Rattle.boolean.proofs.Lists.{mem-listFrom, in-listFrom, mem-each, in-each, each-same, ascending-listFrom, ascending-each, ascending-blocks}
+use Rattle.boolean.proofs.Kept.{keep-takes, mem-keep, in-keep, keep-same, ascending-keep, each-cong}
 use Rattle.boolean.proofs.OneBit.{ones-one}
 use Rattle.avalanche.specs.Avalanche.{shifts, atMost, measured}
 use Rattle.avalanche.specs.Calls.{change, changesOf, Within}
@@ -105,6 +105,12 @@ module _ (n m i j : ℕ) (figure : ℕ → ℕ → ℕ) where
         ap (λ (l : List ℕ). each l (λ c. each (atMost j (masks n)) (λ s. change figure c s ∷ []))) (cs .1)
             ∙ ap (λ (l : List ℕ). each l (λ s. change figure 1 s ∷ []) ++ each (cs .0) (λ c. each (atMost j (masks n)) (λ s. change figure c s ∷ []))) (ss .1),
       )
+
+  -- the components in any order
+  pub measured-same : (order : List ℕ) → SameMembers order (components m) → SameMembers (each (atMost i order) (changesOf n j figure)) (measured n m i j figure)
+  unfolding measured changesOf atMost
+  measured-same order same =
+      each-same (atMost i order) (atMost i (components m)) (changesOf n j figure) (keep-same (λ v. leb (ones v) i) order (components m) same)
 
   -- equal figures make equal lists
   pub measured-cong : (other : ℕ → ℕ → ℕ) → ((c s : ℕ) → figure c s ≡ other c s) → measured n m i j figure ≡ measured n m i j other

@@ -9,18 +9,19 @@ use native.Mathlib.Omega.{arith}
 use lib.Count.{ones-le}
 use lib.IntN.{ℤ, pos, negsuc, _+ℤ_, _-ℤ_, natAbs, +ℤ-idl, +ℤ-invr, -ℤ-+ℤ-cancel}
 use lib.Pow.{pow-pos, pow-lt}
-use Rattle.boolean.specs.Functions.{changes, component, column}
-use Rattle.boolean.specs.Selection.{Candidate, firstLargest, First}
+use Rattle.boolean.specs.Sums.{each}
+use Rattle.boolean.specs.Functions.{changes, component, components, column}
+use Rattle.boolean.specs.Selection.{Candidate, higher, firstBest, firstLargest, SameMembers, ranked, First}
 use Rattle.boolean.proofs.Correlation.{changes-cong}
 use Rattle.boolean.proofs.FirstLargest.{firstLargest-none}
 use Rattle.boolean.proofs.OneBit.{ones-power, power-of-ones}
 use Rattle.boolean.proofs.Columns.{component-column}
-use Rattle.boolean.proofs.Selection.{firstLargest-ge, firstLargest-mem, firstLargest-first, first-ranked}
+use Rattle.boolean.proofs.Selection.{firstLargest-ge, firstLargest-mem, firstLargest-first, firstLargest-any-order, first-ranked}
 use Rattle.refusals.specs.Table.{Box}
-use Rattle.avalanche.specs.Avalanche.{measured, boxAutocorrelation, imbalance, dynamicDistance}
-use Rattle.avalanche.specs.Calls.{correlated, change, Within}
+use Rattle.avalanche.specs.Avalanche.{atMost, measured, boxAutocorrelation, imbalance, dynamicDistance}
+use Rattle.avalanche.specs.Calls.{correlated, change, changesOf, Within}
 use Rattle.avalanche.specs.Statements.{Before, changeRank, Widest, distanceOf}
-use Rattle.avalanche.proofs.Changes.{in-measured, mem-measured, ascending-measured, measured-first}
+use Rattle.avalanche.proofs.Changes.{in-measured, mem-measured, ascending-measured, measured-first, measured-same}
 
 -- a change before another has a lower number
 before-rank : (n c′ s′ c s : ℕ) → s′ < 2 ^ n → Before c′ s′ c s → c′ * 2 ^ n + s′ < c * 2 ^ n + s
@@ -49,6 +50,32 @@ module _ (n m i j : ℕ) (figure : ℕ → ℕ → ℕ) (n-low : 1 ≤ n) (m-low
             ap (λ (p : Candidate). p .witness)
             (ap firstLargest (head .1) ∙ firstLargest-none (change figure 1 1) (head .0) (sym (ap (λ (l : List Candidate). firstLargest l .figure) (head .1)) ∙ e));
       }
+
+-- ---- "Combinations may be visited in any order without effect on any answer." Over any list with the members of `measured`, in any order and some
+-- of them more than once, the largest figure, and of its changes the one of the lowest rank, is the box's figure with its witness.
+module _ (n m : ℕ) (rows : List ℕ) where
+  pub autocorrelation-any-order : (visited : List Candidate) → SameMembers visited (measured n m m n (correlated n rows))
+      → firstBest (ranked higher (changeRank n)) visited ≡ boxAutocorrelation n m rows
+  unfolding boxAutocorrelation
+  autocorrelation-any-order visited =
+      firstLargest-any-order (changeRank n) (measured n m m n (correlated n rows)) visited (ascending-measured n m m n (correlated n rows))
+
+  pub distance-any-order : (i j : ℕ) (visited : List Candidate) → SameMembers visited (measured n m i j (distanceOf n rows))
+      → firstBest (ranked higher (changeRank n)) visited ≡ dynamicDistance n m rows i j
+  unfolding dynamicDistance
+  distance-any-order i j visited =
+      firstLargest-any-order (changeRank n) (measured n m i j (distanceOf n rows)) visited (ascending-measured n m i j (distanceOf n rows))
+
+  -- so where the components are visited in any order, each with its changes
+  pub autocorrelation-any-component-order : (order : List ℕ) → SameMembers order (components m)
+      → firstBest (ranked higher (changeRank n)) (each (atMost m order) (changesOf n n (correlated n rows))) ≡ boxAutocorrelation n m rows
+  autocorrelation-any-component-order order same =
+      autocorrelation-any-order (each (atMost m order) (changesOf n n (correlated n rows))) (measured-same n m m n (correlated n rows) order same)
+
+  pub distance-any-component-order : (i j : ℕ) (order : List ℕ) → SameMembers order (components m)
+      → firstBest (ranked higher (changeRank n)) (each (atMost i order) (changesOf n j (distanceOf n rows))) ≡ dynamicDistance n m rows i j
+  distance-any-component-order i j order same =
+      distance-any-order i j (each (atMost i order) (changesOf n j (distanceOf n rows))) (measured-same n m i j (distanceOf n rows) order same)
 
 module _ (n m : ℕ) (rows : List ℕ) (b : Box n m rows) where
   -- ---- the autocorrelation: no component and no change from 1 is left out

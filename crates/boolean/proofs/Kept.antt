@@ -4,8 +4,8 @@ use mathlib.Core.Bool.{Bool, true, false}
 use mathlib.Core.List.{List, [], _∷_, _++_, List·Memᴰ, List·Memᴰ·head, List·Memᴰ·not-nil, List·Memᴰ·eq-of-singleton}
 use Prim.Native.Nat.{ℕ, _<_}
 use Rattle.boolean.specs.Sums.{each, keep}
-use Rattle.boolean.specs.Selection.{Ascending}
-use Rattle.boolean.proofs.Lists.{each-append, mem-each, in-each, ascending-each}
+use Rattle.boolean.specs.Selection.{Ascending, SameMembers}
+use Rattle.boolean.proofs.Lists.{each-append, mem-each, in-each, each-same, ascending-each}
 
 module _ {A B : Type 0} where
   -- equal rules give equal lists
@@ -53,6 +53,11 @@ module _ {A : Type 0} (p : A → Bool) where
   pub in-keep : (xs : List A) (x : A) → List·Memᴰ x xs → p x ≡ true → List·Memᴰ x (keep p xs)
   unfolding keep
   in-keep xs x m e = in-each xs (λ x. kept x (p x)) x x m (subst (λ (t : Bool). List·Memᴰ x (kept x t)) (sym e) (List·Memᴰ·head refl))
+
+  -- lists with the same members keep the same
+  pub keep-same : (xs ys : List A) → SameMembers xs ys → SameMembers (keep p xs) (keep p ys)
+  unfolding keep
+  keep-same xs ys same = each-same xs ys (λ x. kept x (p x)) same
 
   -- ranks that rise along a list rise along what is kept
   pub ascending-keep : (rank : A → ℕ) (xs : List A) → Ascending rank xs → Ascending rank (keep p xs)

@@ -11,7 +11,7 @@ use native.Mathlib.Decide.{ℕ-discrete}
 use lib.ListN.{length, getD, take, drop, length-append, length-drop}
 use lib.Seq.{ext-getD, take-at, take-all}
 use Rattle.boolean.specs.Sums.{countBelow, one-if, listFrom, listBelow, each}
-use Rattle.boolean.specs.Selection.{Ascending}
+use Rattle.boolean.specs.Selection.{Ascending, SameMembers}
 use Rattle.boolean.proofs.Selection.{of-cons}
 
 shift : (i k : ℕ) → suc i + k ≡ i + suc k
@@ -135,6 +135,13 @@ module _ {A B : Type 0} where
   in-each [] f x y m n = absurd (List·Memᴰ·not-nil m)
   in-each (z ∷ xs) f x y m n = of-cons (λ w. List·Memᴰ y (f w) → List·Memᴰ y (f z ++ each xs f)) (λ k. Memᴰ·append-left (each xs f) k)
       (λ l k. Memᴰ·append-right (f z) (in-each xs f x y l k)) m n
+
+  -- lists with the same members give lists with the same members
+  pub each-same : (xs ys : List A) (f : A → List B) → SameMembers xs ys → SameMembers (each xs f) (each ys f)
+  each-same xs ys f same y = (move xs ys (λ x. same x .0), move ys xs (λ x. same x .1))
+    where
+      move : (us vs : List A) → ((x : A) → List·Memᴰ x us → List·Memᴰ x vs) → List·Memᴰ y (each us f) → List·Memᴰ y (each vs f)
+      move us vs h m = let t = mem-each us f y m in in-each vs f (t .0) y (h (t .0) (t .1)) (t .2)
 
   -- ascending lists of an ascending list's members, each ranking below those after it, make an ascending list
   pub ascending-each : (rank : A → ℕ) (sub : B → ℕ) (xs : List A) (f : A → List B)

@@ -1,14 +1,14 @@
 -- Lists of one member or none; and lists without repetition: how they arise, and that two of them with the same members are as long.
 use mathlib.Core.Path.{_≡_, refl, sym, ap, _∙_, subst}
 use mathlib.Core.Bool.{Bool, true, false, false≢true}
-use mathlib.Core.Logic.{_↔_, _⊎_, inl, inr, ⊎-elim}
+use mathlib.Core.Logic.{_⊎_, inl, inr, ⊎-elim}
 use mathlib.Core.List.{List, [], _∷_, _++_, map, List·Memᴰ, List·Memᴰ·head, List·Memᴰ·tail, List·Memᴰ·not-nil, List·Memᴰ·append-cases, List·Memᴰ·eq-of-singleton, List·Memᴰ·cases-cons, Memᴰ·cast, Memᴰ·of-map}
 use Prim.Native.Nat.{ℕ, zero, suc, _<_, _≤_, zero-le}
 use native.Mathlib.Nat.{le-antisymm, not-suc-le-zero, le-of-suc-le-suc}
 use native.Mathlib.Omega.{arith}
 use lib.ListN.{length, getD}
 use Rattle.boolean.specs.Sums.{each}
-use Rattle.boolean.specs.Selection.{Ascending}
+use Rattle.boolean.specs.Selection.{Ascending, SameMembers}
 use Rattle.boolean.proofs.Lists.{mem-each}
 
 -- ---- one member where a test passes, and none elsewhere
@@ -96,7 +96,7 @@ module _ {A : Type 0} where
       omega (arith, t .one-less, distinct-le xs (t .rest) (p .1) (λ v m. ⊎-elim (λ e. absurd (p .0 (Memᴰ·cast (sym e) m))) (λ n. n) (t .others v (h v (List·Memᴰ·tail m)))))
 
   -- so two lists with the same members, each without repetition, are as long
-  pub distinct-same : (xs ys : List A) → Distinct xs → Distinct ys → ((v : A) → List·Memᴰ v xs ↔ List·Memᴰ v ys) → length xs ≡ length ys
+  pub distinct-same : (xs ys : List A) → Distinct xs → Distinct ys → SameMembers xs ys → length xs ≡ length ys
   distinct-same xs ys p q h = le-antisymm (distinct-le xs ys p (λ v. h v .0)) (distinct-le ys xs q (λ v. h v .1))
 
 -- lists without repetition that share no member make one

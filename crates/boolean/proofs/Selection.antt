@@ -8,7 +8,7 @@ use native.Mathlib.Nat.{le-refl, le-antisymm}
 use native.Mathlib.Omega.{arith}
 use borrow.Author.Tests.{ltb-true, ltb-false, eqb-true, eqb-false, lt-ltb, le-ltb}
 use lib.Dec.{ltb, eqb}
-use Rattle.boolean.specs.Selection.{Candidate, best, lower, higher, firstLeast, firstLargest, Ascending, lowerRanked, First, here, there}
+use Rattle.boolean.specs.Selection.{Candidate, best, lower, higher, firstBest, firstLeast, firstLargest, Ascending, SameMembers, ranked, First, here, there}
 
 -- a member of a list is its head or a member of the rest
 pub of-cons : {C : Type 0} (P : C → Type 0) {c d : C} {cs : List C} → P d → (List·Memᴰ c cs → P c) → List·Memᴰ c (d ∷ cs) → P c
@@ -201,42 +201,83 @@ firstLargest-above b (x ∷ cs) e c m l =
     best-same b x cs (omega arith) c (of-cons (λ d. 0 < d .figure → List·Memᴰ d cs) (λ k. absurd (omega arith)) (λ n k. n) m l) (omega arith))
 
 -- ---- ties broken by a rank
-module _ {C : Type 0} (value rank : C → ℕ) where
-  -- of a lower value, or of the same and no higher rank
-  abbrev pub Lex : C → C → Type 0
-  Lex a b = (value a < value b) ⊎ ((value a ≡ value b) × (rank a ≤ rank b))
+-- along rising ranks, no two of one rank
+pub ascending-one : {C : Type 0} (rank : C → ℕ) (cs : List C) → Ascending rank cs → (x y : C) → List·Memᴰ x cs → List·Memᴰ y cs → rank x ≡ rank y → x ≡ y
+ascending-one rank [] a x y p q e = absurd (List·Memᴰ·not-nil p)
+ascending-one rank (c ∷ cs) a x y (List·Memᴰ·head u) (List·Memᴰ·head v) e = u ∙ sym v
+ascending-one rank (c ∷ cs) a x y (List·Memᴰ·head u) (List·Memᴰ·tail q) e = absurd (omega (arith, ap rank u, a .0 y q))
+ascending-one rank (c ∷ cs) a x y (List·Memᴰ·tail p) (List·Memᴰ·head v) e = absurd (omega (arith, ap rank v, a .0 x p))
+ascending-one rank (c ∷ cs) a x y (List·Memᴰ·tail p) (List·Memᴰ·tail q) e = ascending-one rank cs (a .1) x y p q e
 
-  lex-trans : (a b c : C) → Lex a b → Lex b c → Lex a c
-  lex-trans a b c (inl p) (inl q) = inl (omega arith)
-  lex-trans a b c (inl p) (inr q) = inl (omega arith)
-  lex-trans a b c (inr p) (inl q) = inl (omega arith)
+-- along rising ranks the first best is the ranked choice
+module _ (beats : Candidate → Candidate → Bool) (rank : Candidate → ℕ) where
+  agree : (b c : Candidate) → rank b < rank c → ranked beats rank c b ≡ beats c b
+  agree b c h =
+      ap (λ (z : Bool). beats c b || (eqb (c .figure) (b .figure) && z)) (le-ltb (rank c) (rank b) (omega arith))
+      ∙ tidy (beats c b) (eqb (c .figure) (b .figure))
+    where
+      tidy : (x y : Bool) → (x || (y && false)) ≡ x
+      tidy true y = refl
+      tidy false true = refl
+      tidy false false = refl
+
+  best-is-ranked : (b : Candidate) (cs : List Candidate) → Ascending rank (b ∷ cs) → best beats b cs ≡ best (ranked beats rank) b cs
+  unfolding best
+  best-is-ranked b [] a = refl
+  best-is-ranked b (c ∷ cs) a =
+      let same = agree b c (a .0 c (List·Memᴰ·head refl)) in
+      best-step beats (λ z. z ≡ best (ranked beats rank) b (c ∷ cs)) b c cs
+      (λ e. best-is-ranked c cs (a .1) ∙ sym (best-takes (ranked beats rank) b c cs (same ∙ e)))
+      (λ e. best-is-ranked b cs (λ d m. a .0 d (List·Memᴰ·tail m), a .1 .1) ∙ sym (best-keeps (ranked beats rank) b c cs (same ∙ e)))
+
+  pub first-is-ranked : (cs : List Candidate) → Ascending rank cs → firstBest beats cs ≡ firstBest (ranked beats rank) cs
+  first-is-ranked [] a = refl
+  first-is-ranked (c ∷ cs) a = best-is-ranked c cs a
+
+-- an order of candidates that goes by their figures alone
+pub record ByFigure (R S : Candidate → Candidate → Type 0) : Type 0 where
+  pub equal : (a b : Candidate) → a .figure ≡ b .figure → R a b
+  pub unequal : (a b : Candidate) → R a b → (a .figure ≡ b .figure → ⊥) → S a b
+  pub strict : (a b : Candidate) → S a b → R b a → ⊥
+
+by-least : ByFigure Le Lt
+by-least = omega arith
+
+by-largest : ByFigure Ge Gt
+by-largest = omega arith
+
+module _ {beats : Candidate → Candidate → Bool} {R S : Candidate → Candidate → Type 0} (o : Ordered beats R S) (f : ByFigure R S) (rank : Candidate → ℕ) where
+  -- better, or of the same figure and no higher rank
+  abbrev Lex : Candidate → Candidate → Type 0
+  Lex a b = S a b ⊎ ((a .figure ≡ b .figure) × (rank a ≤ rank b))
+
+  lex-trans : (a b c : Candidate) → Lex a b → Lex b c → Lex a c
+  lex-trans a b c (inl p) (inl q) = inl (o .right a b c p (o .weak b c q))
+  lex-trans a b c (inl p) (inr q) = inl (o .right a b c p (f .equal b c (q .0)))
+  lex-trans a b c (inr p) (inl q) = inl (o .left a b c (f .equal a b (p .0)) q)
   lex-trans a b c (inr p) (inr q) = inr (omega arith)
 
-  lex-wins : (c b : C) → lowerRanked value rank c b ≡ true → Lex c b
-  lex-wins c b = go (ltb (value c) (value b)) (eqb (value c) (value b)) (ltb (rank c) (rank b)) (ltb-true _ _) (eqb-true _ _) (ltb-true _ _)
+  lex-wins : (c b : Candidate) → ranked beats rank c b ≡ true → Lex c b
+  lex-wins c b = go (beats c b) (eqb (c .figure) (b .figure)) (ltb (rank c) (rank b)) (o .wins c b) (eqb-true _ _) (ltb-true _ _)
     where
-      go : (x y z : Bool) → (x ≡ true → value c < value b) → (y ≡ true → value c ≡ value b) → (z ≡ true → rank c < rank b) → (x || (y && z)) ≡ true → Lex c b
+      go : (x y z : Bool) → (x ≡ true → S c b) → (y ≡ true → c .figure ≡ b .figure) → (z ≡ true → rank c < rank b) → (x || (y && z)) ≡ true → Lex c b
       go true y z p q r t = inl (p refl)
       go false true true p q r t = let h = r refl in inr (q refl, omega arith)
       go false true false p q r t = absurd (false≢true t)
       go false false z p q r t = absurd (false≢true t)
 
-  lex-loses : (c b : C) → lowerRanked value rank c b ≡ false → Lex b c
-  lex-loses c b =
-      go (ltb (value c) (value b)) (eqb (value c) (value b)) (ltb (rank c) (rank b)) (ltb-false _ _) (eqb-true _ _) (eqb-false _ _) (ltb-false _ _)
+  lex-loses : (c b : Candidate) → ranked beats rank c b ≡ false → Lex b c
+  lex-loses c b = go (beats c b) (eqb (c .figure) (b .figure)) (ltb (rank c) (rank b)) (o .loses c b) (eqb-true _ _) (eqb-false _ _) (ltb-false _ _)
     where
-      go : (x y z : Bool) → (x ≡ false → value b ≤ value c) → (y ≡ true → value c ≡ value b) → (y ≡ false → value c ≡ value b → ⊥) → (z ≡ false → rank b ≤ rank c)
+      go : (x y z : Bool) → (x ≡ false → R b c) → (y ≡ true → c .figure ≡ b .figure) → (y ≡ false → c .figure ≡ b .figure → ⊥) → (z ≡ false → rank b ≤ rank c)
           → (x || (y && z)) ≡ false → Lex b c
       go true y z p q n r t = absurd (true≢false t)
       go false true true p q n r t = absurd (true≢false t)
       go false true false p q n r t = inr (sym (q refl), r refl)
-      go false false z p q n r t =
-          let le = p refl in
-          let d : ¬ (value c ≡ value b) = n refl in
-          inl (omega arith)
+      go false false z p q n r t = inl (f .unequal b c (p refl) (λ e. n refl (sym e)))
 
-  pub ranked : Ordered (lowerRanked value rank) Lex Lex
-  ranked = record {
+  ranked-ordered : Ordered (ranked beats rank) Lex Lex
+  ranked-ordered = record {
     same = λ a. inr (refl, le-refl (rank a));
     trans = lex-trans;
     weak = λ a b h. h;
@@ -247,47 +288,49 @@ module _ {C : Type 0} (value rank : C → ℕ) where
   }
 
   -- the same candidates in any order, repeated or not, no two of one rank
-  pub ranked-order : (b : C) (cs : List C) (d : C) (ds : List C)
-      → ((x y : C) → List·Memᴰ x (b ∷ cs) → List·Memᴰ y (b ∷ cs) → rank x ≡ rank y → x ≡ y)
-      → ((x : C) → List·Memᴰ x (b ∷ cs) → List·Memᴰ x (d ∷ ds)) → ((x : C) → List·Memᴰ x (d ∷ ds) → List·Memᴰ x (b ∷ cs))
-      → best (lowerRanked value rank) b cs ≡ best (lowerRanked value rank) d ds
-  ranked-order b cs d ds one p q =
-      let beats : C → C → Bool = lowerRanked value rank in
-      let r = best beats b cs in
-      let s = best beats d ds in
-      anti r s (one r s (best-mem beats b cs) (q s (best-mem beats d ds)))
-      (best-below ranked b cs d ds (λ y m. (y, q y m, ranked .same y))) (best-below ranked d ds b cs (λ x m. (x, p x m, ranked .same x)))
+  pub ranked-order : (cs ds : List Candidate) → ((x y : Candidate) → List·Memᴰ x cs → List·Memᴰ y cs → rank x ≡ rank y → x ≡ y) → SameMembers cs ds
+      → firstBest (ranked beats rank) cs ≡ firstBest (ranked beats rank) ds
+  ranked-order [] [] one same = refl
+  ranked-order [] (d ∷ ds) one same = absurd (List·Memᴰ·not-nil (same d .1 (List·Memᴰ·head refl)))
+  ranked-order (c ∷ cs) [] one same = absurd (List·Memᴰ·not-nil (same c .0 (List·Memᴰ·head refl)))
+  ranked-order (c ∷ cs) (d ∷ ds) one same =
+      let by : Candidate → Candidate → Bool = ranked beats rank in
+      let r = best by c cs in
+      let s = best by d ds in
+      anti r s (one r s (best-mem by c cs) (same s .1 (best-mem by d ds)))
+      (best-below ranked-ordered c cs d ds (λ y m. (y, same y .1 m, ranked-ordered .same y)))
+      (best-below ranked-ordered d ds c cs (λ x m. (x, same x .0 m, ranked-ordered .same x)))
     where
-      anti : (r s : C) → (rank r ≡ rank s → r ≡ s) → Lex r s → Lex s r → r ≡ s
-      anti r s e (inl h) (inl k) = absurd (omega arith)
-      anti r s e (inl h) (inr k) = absurd (omega arith)
-      anti r s e (inr h) (inl k) = absurd (omega arith)
+      anti : (r s : Candidate) → (rank r ≡ rank s → r ≡ s) → Lex r s → Lex s r → r ≡ s
+      anti r s e (inl h) (inl k) = absurd (f .strict r s h (o .weak s r k))
+      anti r s e (inl h) (inr k) = absurd (f .strict r s h (f .equal s r (k .0)))
+      anti r s e (inr h) (inl k) = absurd (f .strict s r k (f .equal r s (h .0)))
       anti r s e (inr h) (inr k) = e (omega arith)
 
-  -- along rising ranks the first of the least value is the ranked choice
-  pub first-is-ranked : (b : C) (cs : List C) → Ascending rank (b ∷ cs) → best (λ c a. ltb (value c) (value a)) b cs ≡ best (lowerRanked value rank) b cs
-  unfolding best
-  first-is-ranked b [] a = refl
-  first-is-ranked b (c ∷ cs) a =
-      best-step (λ c a. ltb (value c) (value a)) (λ z. z ≡ best (lowerRanked value rank) b (c ∷ cs)) b c cs
-      (λ e. first-is-ranked c cs (a .1) ∙ sym (best-takes (lowerRanked value rank) b c cs (agree ∙ e)))
-      (λ e. first-is-ranked b cs (λ d m. a .0 d (List·Memᴰ·tail m), a .1 .1) ∙ sym (best-keeps (lowerRanked value rank) b c cs (agree ∙ e)))
-    where
-      tidy : (x y : Bool) → (x || (y && false)) ≡ x
-      tidy true y = refl
-      tidy false true = refl
-      tidy false false = refl
+  -- candidates with rising ranks, visited in any order: the ranked choice is the first best
+  pub any-order : (cs visited : List Candidate) → Ascending rank cs → SameMembers visited cs → firstBest (ranked beats rank) visited ≡ firstBest beats cs
+  any-order cs visited a same =
+      sym (first-is-ranked beats rank cs a ∙ ranked-order cs visited (ascending-one rank cs a) (λ x. (same x .1, same x .0)))
 
-      agree : lowerRanked value rank c b ≡ ltb (value c) (value b)
-      agree =
-          let h = a .0 c (List·Memᴰ·head refl) in
-          ap (λ (z : Bool). ltb (value c) (value b) || (eqb (value c) (value b) && z)) (le-ltb (rank c) (rank b) (omega arith))
-          ∙ tidy (ltb (value c) (value b)) (eqb (value c) (value b))
-
-pub firstLeast-ranked : (rank : Candidate → ℕ) (c : Candidate) (cs : List Candidate) → Ascending rank (c ∷ cs)
-    → firstLeast (c ∷ cs) ≡ best (lowerRanked (λ c. c .figure) rank) c cs
+-- the first least
+pub firstLeast-ranked : (rank : Candidate → ℕ) (cs : List Candidate) → Ascending rank cs → firstLeast cs ≡ firstBest (ranked lower rank) cs
 unfolding firstLeast
-firstLeast-ranked = first-is-ranked (λ c. c .figure)
+firstLeast-ranked = first-is-ranked lower
+
+pub firstLeast-any-order : (rank : Candidate → ℕ) (cs visited : List Candidate) → Ascending rank cs → SameMembers visited cs
+    → firstBest (ranked lower rank) visited ≡ firstLeast cs
+unfolding firstLeast
+firstLeast-any-order = any-order least by-least
+
+-- the first largest
+pub firstLargest-ranked : (rank : Candidate → ℕ) (cs : List Candidate) → Ascending rank cs → firstLargest cs ≡ firstBest (ranked higher rank) cs
+unfolding firstLargest
+firstLargest-ranked = first-is-ranked higher
+
+pub firstLargest-any-order : (rank : Candidate → ℕ) (cs visited : List Candidate) → Ascending rank cs → SameMembers visited cs
+    → firstBest (ranked higher rank) visited ≡ firstLargest cs
+unfolding firstLargest
+firstLargest-any-order = any-order largest by-largest
 
 -- what is first along rising ranks stands to each candidate of a lower rank as to those before it
 pub first-ranked : {C : Type 0} (rank : C → ℕ) (S : C → C → Type 0) {r : C} {cs : List C} → Ascending rank cs → First S r cs

@@ -1,6 +1,7 @@
 -- The first best of candidates in order: of those that are as good, the one that comes first.
 use Prim.Native.Nat.{ℕ, _<_}
 use mathlib.Core.Bool.{Bool, true, false, _&&_, _||_}
+use mathlib.Core.Logic.{_↔_}
 use mathlib.Core.List.{List, [], _∷_, List·Memᴰ}
 use lib.Dec.{ltb, eqb}
 
@@ -29,28 +30,35 @@ higher c b = ltb (b .figure) (c .figure)
 abbrev pub nothing : Candidate
 nothing = record { figure = 0; witness = [] }
 
+-- the first best by a comparison, the last one that beat all before it
+abbrev pub firstBest : (Candidate → Candidate → Bool) → List Candidate → Candidate
+firstBest beats [] = nothing
+firstBest beats (c ∷ cs) = best beats c cs
+
 -- the first candidate of the least figure
 unfoldable pub firstLeast : List Candidate → Candidate
 unfolding best
-firstLeast [] = nothing
-firstLeast (c ∷ cs) = best lower c cs
+firstLeast cs = firstBest lower cs
 
 -- the first candidate of the largest figure
 unfoldable pub firstLargest : List Candidate → Candidate
 unfolding best
-firstLargest [] = nothing
-firstLargest (c ∷ cs) = best higher c cs
+firstLargest cs = firstBest higher cs
 
--- What the laws of a selection say; no contract needs it.
+-- What the laws of a selection and the theorems on figures say; no contract needs it.
 
 -- the ranks rise along a list
 abbrev pub Ascending : {C : Type 0} → (C → ℕ) → List C → Type 0
 Ascending rank [] = Unit {0}
 Ascending {C} rank (c ∷ cs) = ((d : C) → List·Memᴰ d cs → rank c < rank d) × Ascending rank cs
 
--- of a lower value, or of the same value and a lower rank: with ranks, the order of visiting does not matter
-abbrev pub lowerRanked : {C : Type 0} → (C → ℕ) → (C → ℕ) → C → C → Bool
-lowerRanked value rank c b = ltb (value c) (value b) || (eqb (value c) (value b) && ltb (rank c) (rank b))
+-- the same members, in any order, once or more often
+abbrev pub SameMembers : {C : Type 0} → List C → List C → Type 0
+SameMembers {C} xs ys = (x : C) → List·Memᴰ x xs ↔ List·Memᴰ x ys
+
+-- c beats b, or has the same figure and a lower rank: with ranks, the order of visiting does not matter
+abbrev pub ranked : (Candidate → Candidate → Bool) → (Candidate → ℕ) → Candidate → Candidate → Bool
+ranked beats rank c b = beats c b || (eqb (c .figure) (b .figure) && ltb (rank c) (rank b))
 
 -- r stands in the list, and S holds of it and each candidate before it
 pub data First {C : Type 0} (S : C → C → Type 0) (r : C) : List C → Type 0 where

@@ -1,4 +1,5 @@
--- The nonlinearity d: the least distance, the first pair that has it, the covering bound, and where that is met.
+-- The nonlinearity d: the least distance, the first pair that has it, in whichever order the pairs are visited; the covering bound, and where that
+-- is met.
 use mathlib.Core.Path.{_≡_, sym, ap, ap₂, _∙_, subst}
 use mathlib.Core.Logic.{_↔_}
 use mathlib.Core.List.{List, List·Memᴰ}
@@ -6,15 +7,17 @@ use Prim.Native.Nat.{ℕ, _+_, _*_, _-_, _^_, _<_, _≤_}
 use native.Mathlib.Nat.{le-trans, le-of-eq, zero-lt-suc, le-refl, mul-le-mul}
 use native.Mathlib.Omega.{arith}
 use lib.IntN.{natAbs}
-use Rattle.boolean.specs.Functions.{Bent, component, distance, walsh, square}
-use Rattle.boolean.specs.Selection.{Candidate, firstLeast, First}
+use Rattle.boolean.specs.Sums.{each}
+use Rattle.boolean.specs.Functions.{Bent, component, components, distance, walsh, square}
+use Rattle.boolean.specs.Selection.{Candidate, lower, firstBest, firstLeast, SameMembers, ranked, First}
 use Rattle.boolean.proofs.Digits.{component-lt}
 use Rattle.boolean.proofs.Dots.{bit-cases}
 use Rattle.boolean.proofs.Distances.{distance-walsh}
 use Rattle.boolean.proofs.Spectrum.{some-walsh-large}
 use Rattle.boolean.proofs.Bent.{bent-of-squares, bent-squares}
-use Rattle.boolean.proofs.Selection.{firstLeast-le, firstLeast-mem, firstLeast-first, first-ranked}
-use Rattle.linear.specs.Nonlinearity.{pair, pairs, nonlinearity}
+use Rattle.boolean.proofs.Lists.{each-same}
+use Rattle.boolean.proofs.Selection.{firstLeast-le, firstLeast-mem, firstLeast-first, firstLeast-any-order, first-ranked}
+use Rattle.linear.specs.Nonlinearity.{pair, pairsOf, pairs, nonlinearity}
 use Rattle.linear.specs.Statements.{IsPair, Before, pairRank}
 use Rattle.linear.proofs.Pairs.{before-rank, first-pair, in-pairs, mem-pairs, ascending-pairs, pairs-nonempty}
 
@@ -23,6 +26,20 @@ module _ (n m : ℕ) (rows : List ℕ) where
   pub least : (c w b : ℕ) → IsPair n m c w b → nonlinearity n m rows .figure ≤ distance n (component rows c) w b
   unfolding nonlinearity
   least c w b h = firstLeast-le (pairs n m rows) (pair n rows c w b) (in-pairs n m rows c w b h)
+
+  -- "Combinations may be visited in any order without effect on any answer." Over any list with the members of `pairs`, in any order and some of
+  -- them more than once, the pair that differs at the fewest inputs, and of those the one of the lowest rank, is the nonlinearity with its witness.
+  pub nonlinearity-any-order : (visited : List Candidate) → SameMembers visited (pairs n m rows)
+      → firstBest (ranked lower (pairRank n)) visited ≡ nonlinearity n m rows
+  unfolding nonlinearity
+  nonlinearity-any-order visited = firstLeast-any-order (pairRank n) (pairs n m rows) visited (ascending-pairs n m rows)
+
+  -- so where the components are visited in any order, each with its pairs
+  pub nonlinearity-any-component-order : (order : List ℕ) → SameMembers order (components m)
+      → firstBest (ranked lower (pairRank n)) (each order (pairsOf n rows)) ≡ nonlinearity n m rows
+  unfolding pairs
+  nonlinearity-any-component-order order same =
+      nonlinearity-any-order (each order (pairsOf n rows)) (each-same order (components m) (pairsOf n rows) same)
 
   module _ (m-low : 1 ≤ m) where
     -- a pair differs at exactly d
