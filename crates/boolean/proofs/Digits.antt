@@ -11,7 +11,7 @@ use lib.Bits.{bitAnd, bitXor, and-comm, and-mask, xor-lt, xor-shr, xor-mod}
 use lib.Count.{ones, onesIn}
 use Rattle.boolean.specs.Bits.{dot, affine, bit}
 use Rattle.boolean.specs.Functions.{at, component}
-use Rattle.boolean.proofs.Dots.{bit-cases, dot-bit, dot-zero, dot-block, ones-bit}
+use Rattle.boolean.proofs.Dots.{bit-cases, dot-bit, dot-zero, dot-xor-r, dot-block, ones-bit}
 
 pub bit-lt : (j v : ℕ) → bit j v < 2
 unfolding bit
@@ -28,6 +28,11 @@ component-dot rows c x = refl
 pub component-lt : (rows : List ℕ) (c x : ℕ) → component rows c x < 2
 unfolding component dot
 component-lt rows c x = dot-bit (at rows x) c
+
+-- XORed masks give the XOR of the components
+pub component-xor : (rows : List ℕ) (a b x : ℕ) → bitXor (component rows a x) (component rows b x) ≡ component rows (bitXor a b) x
+component-xor rows a b x =
+    ap₂ bitXor (component-dot rows a x) (component-dot rows b x) ∙ sym (dot-xor-r (at rows x) a b) ∙ sym (component-dot rows (bitXor a b) x)
 
 -- the bits of an XOR are the XORs of the bits
 pub bit-xor : (j a b : ℕ) → bit j (bitXor a b) ≡ bitXor (bit j a) (bit j b)

@@ -6,6 +6,7 @@ pub mod Dots
 pub mod Digits
 pub mod Columns
 pub mod OneBit
+pub mod TwoBits
 pub mod Sums
 pub mod Counts
 pub mod Counted

@@ -1,18 +1,17 @@
 -- The masks with a single 1: the powers of two.
 use mathlib.Core.Path.{_≡_, refl, sym, ap, _∙_}
-use Prim.Native.Nat.{ℕ, zero, suc, _+_, _*_, _-_, _/_, _%_, _^_, _<_, _≤_}
+use Prim.Native.Nat.{ℕ, zero, suc, _+_, _*_, _/_, _%_, _^_, _<_, _≤_}
 use native.Mathlib.Nat.{add-zero, one-mul, mod-lt, zero-lt-suc, two-pow-succ}
 use native.Mathlib.Omega.{arith}
 use lib.Pow.{pow-pos}
 use lib.Count.{ones, onesIn, ones-step, ones-cat}
-use Rattle.boolean.specs.Functions.{at}
 use Rattle.boolean.proofs.Dots.{bit-cases}
 
 pub ones-one : ones 1 ≡ 1
 unfolding ones onesIn
 ones-one = refl
 
-ones-none : ones 0 ≡ 0
+pub ones-none : ones 0 ≡ 0
 unfolding ones onesIn
 ones-none = refl
 

@@ -11,8 +11,7 @@ use lib.Pow.{pow-mono, pow-pos}
 use lib.Seq.{getD-take, getD-drop, length-take-le}
 use Rattle.boolean.specs.Sums.{listBelow}
 use Rattle.boolean.specs.Functions.{at, component}
-use Rattle.boolean.proofs.Digits.{component-dot}
-use Rattle.boolean.proofs.Dots.{dot-xor-r}
+use Rattle.boolean.proofs.Digits.{component-xor}
 use Rattle.boolean.proofs.Lists.{length-listBelow, getD-listBelow, listBelow-cong}
 use Rattle.refusals.specs.Table.{Box}
 use Rattle.linear.specs.Calls.{run, stepTables, Stepping}
@@ -30,11 +29,6 @@ steps-few b = mul-le-mul (b .m-high) (b .small)
 pub steps-ready : {n m : ℕ} {rows steps : List ℕ} {c : ℕ} {table : List ℕ} → Box n m rows → 1 ≤ c → c < 2 ^ m → steps ≡ stepTables m rows
     → table ≡ listBelow (length rows) (λ x. component rows (c - 1) x) → Stepping m rows steps c table
 steps-ready b low high are is = record { m-high = b .m-high; few = b .small; some = box-some b; c-low = low; c-high = high; steps-are = are; table-is = is }
-
--- one component is another with a third added, where its mask is
-component-xor : (rows : List ℕ) (a b x : ℕ) → bitXor (component rows a x) (component rows b x) ≡ component rows (bitXor a b) x
-component-xor rows a b x =
-    ap₂ bitXor (component-dot rows a x) (component-dot rows b x) ∙ sym (dot-xor-r (at rows x) a b) ∙ sym (component-dot rows (bitXor a b) x)
 
 module _ {m : ℕ} {rows steps : List ℕ} {c : ℕ} {table : List ℕ} (s : Stepping m rows steps c table) where
   small : c < 2 ^ 32
