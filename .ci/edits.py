@@ -18,6 +18,7 @@ UNFIT = (
     "was not admitted",
     "`rw`: no occurrence",
     "`rw`: no part of the goal",
+    "` has no field `",
     "but this has type `tie.Need-",
 )
 ERROR = re.compile(r"^(\S+): error: `([^`]*)`: ")

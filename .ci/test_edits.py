@@ -52,6 +52,10 @@ class Held(unittest.TestCase):
         self.assertEqual(len(self.faults([UNFIT_NEED, SWEEP, PLACE] + REFUSED)[1]), 1)
         self.assertEqual(len(self.faults([UNFIT, PLACE] + REFUSED)[1]), 1)
 
+    def test_a_place_that_has_moved_fails(self):
+        moved = "/t/linear/both/proofs/sweep/Proof.antt:28:5: error: `returns`: record `linear.sweep.Lts.After-clear` has no field `next`"
+        self.assertEqual(len(self.faults([moved, SWEEP, PLACE] + REFUSED)[1]), 1)
+
     def test_no_proof_found_is_a_refusal(self):
         log = [PLACE, "fn linear::sweep: no proof: expected `sweep-spec` in ..; `search` does not close `returns-7`", REFUSED[1]]
         self.assertEqual(self.faults(log), (2, []))

@@ -1,6 +1,7 @@
 -- `avalanche::check_distance` meets its contract: the lines of a box's checks, then the order. Assumes nothing.
+use mathlib.Core.Bool.{true}
 use mathlib.Core.Path.{_≡_, sym, _∙_}
-use Rattle.refusals.specs.Table.{first, boxChecks}
+use Rattle.refusals.specs.Table.{first, inRange, boxChecks}
 use Rattle.refusals.specs.declared.Checked.the-variants.{Accepted}
 use Rattle.refusals.proofs.Checks.{fails, holds, found-before, found-after, skip, stop, end}
 use Rattle.avalanche.specs.Calls.{distanceChecks}
@@ -13,6 +14,13 @@ ok-box : (c : tie.After-enum-told) →
     let a = c .before .before .before .before .args in
     first (boxChecks (a .n) (a .m) (a .rows .now)) ≡ Accepted
 ok-box c = sym (c .before .before .check-box .ensures) ∙ c .enum-told .given .1
+
+-- and the order's, where each was passed
+outputs : (c : tie.Else1) → let a = c .before .before .before .before .before .before .args in inRange 1 (a .m) (a .i) ≡ true
+outputs c = holds (c .before .in-range .ensures) (c .if1 .left)
+
+inputs : (c : tie.Else2) → let a = c .before .before .before .before .before .before .before .before .args in inRange 1 (a .n) (a .j) ≡ true
+inputs c = holds (c .before .in-range2 .ensures) (c .if2 .left)
 
 check-box-requires : tie.Need-check-box-requires
 check-box-requires c κs = search needs
@@ -44,15 +52,14 @@ returns-3 : tie.Need-returns-3
 unfolding distanceChecks
 returns-3 c =
     let else = c .before .before in
-    found-after _ (ok-box (else .before .before)) (skip (holds (else .before .in-range .ensures) (else .if1 .left))
+    found-after _ (ok-box (else .before .before)) (skip (outputs else)
     (stop (fails (c .before .in-range2 .ensures) (c .if2 .taken))))
 
 returns-4 : tie.Need-returns-4
 unfolding distanceChecks
 returns-4 c =
     let else = c .before .before in
-    found-after _ (ok-box (else .before .before)) (skip (holds (else .before .in-range .ensures) (else .if1 .left))
-    (skip (holds (c .before .in-range2 .ensures) (c .if2 .left)) end))
+    found-after _ (ok-box (else .before .before)) (skip (outputs else) (skip (inputs c) end))
 
 pub check-distance-spec : {M : Type 1} → statement M
 check-distance-spec =

@@ -1,7 +1,7 @@
 -- `refusals::check_box` meets its contract: each test that was passed is one line of the table that does not apply.
 -- Assumes nothing.
-use Prim.Native.Nat.{_^_}
-use mathlib.Core.Path.{_≡_}
+use Prim.Native.Nat.{ℕ, _^_}
+use mathlib.Core.Path.{_≡_, ap, _∙_}
 use mathlib.Core.Bool.{true}
 use native.Mathlib.Nat.{le-trans}
 use borrow.Author.Needs.{needs}
@@ -29,7 +29,9 @@ size c = equals (c .before .power-of-two .ensures .0) (c .if3 .left)
 answer : (c : tie.After-rows-below) →
     let a = c .before .before .before .before .before .before .before .before .before .args in
     c .rows-below .result ≡ allBelow (2 ^ a .m) (a .rows .now)
-answer c = rw (← c .before .power-of-two2 .ensures .0) (c .rows-below .ensures)
+answer c =
+    let a = c .before .before .before .before .before .before .before .before .before .args in
+    c .rows-below .ensures ∙ ap (λ (k : ℕ). allBelow k (a .rows .now)) (c .before .power-of-two2 .ensures .0)
 
 in-range-requires : tie.Need-in-range-requires
 in-range-requires c κs = search needs

@@ -7,7 +7,7 @@ use native.Mathlib.Nat.{le-trans}
 use borrow.Author.Needs.{needs}
 use lib.Dec.{eqb, lit≤}
 use lib.ListN.{length}
-use Rattle.refusals.specs.Table.{inRange}
+use Rattle.refusals.specs.Table.{inRange, allBelow}
 use Rattle.refusals.proofs.Bounds.{range-high}
 use Rattle.refusals.proofs.Checks.{fails, holds, differs, equals, found, skip, stop, end}
 use Rattle.refusals.proofs.check_table.Statement.{statement}
@@ -21,6 +21,9 @@ size : (c : tie.Else2) →
     let a = c .before .before .before .before .before .args in
     eqb (length (a .table .now)) (2 ^ a .n) ≡ true
 size c = equals (c .before .power-of-two .ensures .0) (c .if2 .left)
+
+bits : (c : tie.Else3) → allBelow 2 (c .before .before .before .before .before .before .before .args .table .now) ≡ true
+bits c = holds (c .before .values-below .ensures) (c .if3 .left)
 
 in-range-requires : tie.Need-in-range-requires
 in-range-requires c κs = search needs
@@ -48,7 +51,7 @@ returns-4 : tie.Need-returns-4
 returns-4 c =
     let p = c .before .before in
     found (skip (inputs (p .before .before)) (skip (size p)
-    (skip (holds (c .before .values-below .ensures) (c .if3 .left)) end)))
+    (skip (bits c) end)))
 
 pub check-table-spec : {M : Type 1} → statement M
 check-table-spec =

@@ -1,9 +1,11 @@
 -- `refusals::check_table_call` meets its contract: the lines of a truth table's checks, then its own. Assumes nothing.
+use Prim.Native.Nat.{_^_}
+use mathlib.Core.Bool.{true}
 use mathlib.Core.List.{[]}
 use mathlib.Core.Path.{_≡_, _∙_, sym}
 use native.Mathlib.Nat.{le-trans}
 use borrow.Author.Needs.{needs}
-use lib.Dec.{lit≤}
+use lib.Dec.{eqb, lit≤}
 use Rattle.refusals.specs.Table.{first, tableChecks, tableCallChecks}
 use Rattle.refusals.specs.declared.Checked.the-variants.{Accepted}
 use Rattle.refusals.proofs.Checks.{differs, equals, found-before, found-after, skip, stop, end, table}
@@ -15,6 +17,10 @@ ok-table : (c : tie.After-enum-told) →
     let a = c .before .before .before .before .args in
     first (tableChecks (a .n) (a .table .now)) ≡ Accepted
 ok-table c = sym (c .before .before .check-table .ensures) ∙ c .enum-told .given .1
+
+-- and the written array's, where it was passed
+size : (c : tie.Else1) → let a = c .before .before .before .before .before .before .args in eqb (a .room) (2 ^ a .n) ≡ true
+size c = equals (c .before .power-of-two .ensures .0) (c .if1 .left)
 
 check-table-requires : tie.Need-check-table-requires
 check-table-requires c κs = search needs
@@ -43,7 +49,7 @@ returns-2 c = found-after _ (ok-table (c .before .before)) (stop (differs (c .be
 
 returns-3 : tie.Need-returns-3
 unfolding tableCallChecks
-returns-3 c = found-after _ (ok-table (c .before .before)) (skip (equals (c .before .power-of-two .ensures .0) (c .if1 .left)) end)
+returns-3 c = found-after _ (ok-table (c .before .before)) (skip (size c) end)
 
 pub check-table-call-spec : {M : Type 1} → statement M
 check-table-call-spec =

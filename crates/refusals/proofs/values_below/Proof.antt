@@ -7,6 +7,7 @@ use native.Mathlib.Omega.{arith}
 use borrow.Author.Tests.{lt-ltb, le-ltb}
 use lib.Dec.{ltb}
 use lib.ListN.{length}
+use Rattle.boolean.specs.Functions.{at}
 use Rattle.boolean.proofs.Every.{Rest, rest-all, rest-next, rest-fails, rest-none}
 use Rattle.refusals.proofs.values_below.Statement.{statement}
 use Rattle.refusals.proofs.values_below.Tie as tie
@@ -30,7 +31,10 @@ cast-if1 : tie.Need-cast-if1 Inv-loop μ-loop
 cast-if1 c = omega (arith, c .shared-slice-known .given (c .before .before .loop .i))
 
 returns : tie.Need-returns Inv-loop μ-loop
-returns c = rest-fails _ _ (c .before .before .before .loop .inv) (omega arith) (le-ltb _ _ (c .if1 .taken))
+returns c =
+    let at-loop = c .before .before .before in
+    let a = at-loop .before .args in
+    rest-fails _ _ (at-loop .loop .inv) (omega arith) (le-ltb (at (a .table .now) (at-loop .loop .i)) (a .limit) (omega arith))
 
 add-i : tie.Need-add-i Inv-loop μ-loop
 add-i c = search needs
