@@ -1,8 +1,8 @@
--- The spectrum above width 3, cut in two at h: what each call on a half asks, and what the butterfly then has made. Assumes nothing.
+-- The spectrum above width 3, cut in two: what each call on a half asks, and what the butterfly then has made. Assumes nothing.
 use mathlib.Core.Path.{_≡_, sym, ap, ap₂, _∙_, subst}
 use mathlib.Core.List.{List, _++_}
 use Prim.Native.Nat.{ℕ, suc, _+_, _-_, _/_, _^_, _≤_, _<_}
-use native.Mathlib.Nat.{le-trans, zero-lt-suc, two-pow-succ}
+use native.Mathlib.Nat.{le-trans, zero-lt-suc}
 use native.Mathlib.Omega.{arith}
 use lib.ListN.{length, take, drop, length-drop}
 use lib.Seq.{length-take-le}
@@ -16,49 +16,46 @@ use Rattle.boolean.proofs.Walsh.{walsh-cong, walsh-le, walsh-low, walsh-high}
 use Rattle.walsh.specs.Work.{Ready, Halves, Crossed}
 use Rattle.walsh.proofs.Step as step
 
--- half of the length
-pub middle : (n : ℕ) (table : List ℕ) (out : List ℤ) → Ready n table out → 3 ≤ n → length table / 2 ≡ 2 ^ (n - 1)
-middle n table out r ge =
-    let is-suc : n ≡ suc (n - 1) = omega arith in
-    step.half-is (n - 1) table (r .read .size ∙ ap (λ (k : ℕ). 2 ^ k) is-suc)
+-- a table of width n and its array, each to be cut in two halves of width m
+pub record Cut (n m : ℕ) (table : List ℕ) (out : List ℤ) : Type 0 where
+  pub ready : Ready n table out
+  pub one-less : n ≡ suc m
+  pub low : 1 ≤ m
 
-module _ (n h : ℕ) (table : List ℕ) (out : List ℤ) (r : Ready n table out) (ge : 3 ≤ n) (half : h ≡ 2 ^ (n - 1)) where
-  is-suc : n ≡ suc (n - 1)
-  is-suc = omega arith
+module _ {n m : ℕ} {table : List ℕ} {out : List ℤ} (c : Cut n m table out) where
+  abbrev pub h : ℕ
+  h = length table / 2
 
-  halves-whole : 2 ^ n ≡ h + h
-  halves-whole = ap (λ (k : ℕ). 2 ^ k) is-suc ∙ omega (arith, half, two-pow-succ (n - 1))
+  size : length table ≡ 2 ^ suc m
+  size = c .ready .read .size ∙ ap (λ (k : ℕ). 2 ^ k) (c .one-less)
 
-  size : length table ≡ h + h
-  size = r .read .size ∙ halves-whole
+  half : h ≡ 2 ^ m
+  half = step.half-is m table size
 
   room : length out ≡ h + h
-  room = r .room ∙ halves-whole
+  room = c .ready .room ∙ sym (c .ready .read .size) ∙ step.two-halves m table size
+
+  few : m ≤ 8
+  few = omega (arith, c .one-less, c .ready .read .n-high)
 
   abbrev pub lower : ℕ → ℤ
-  lower w = walsh (n - 1) (at (take h table)) w
+  lower w = walsh m (at (take h table)) w
 
   abbrev upper : ℕ → ℤ
-  upper w = walsh (n - 1) (at (drop h table)) w
+  upper w = walsh m (at (drop h table)) w
 
-  pub lower-ready : Ready (n - 1) (take h table) (take h out)
+  pub lower-ready : Ready m (take h table) (take h out)
   lower-ready = record {
     read = record {
-      n-low = omega arith;
-      n-high = omega (arith, r .read .n-high);
-      size = length-take-le h table (omega (arith, size)) ∙ half;
-      bits = step.take-entries 0 (λ b. b < 2) h table (zero-lt-suc 1) (r .read .bits);
+      n-low = c .low;
+      n-high = few;
+      size = step.lower-length m table size ∙ half;
+      bits = step.take-entries 0 (λ b. b < 2) h table (zero-lt-suc 1) (c .ready .read .bits);
     };
     room = length-take-le h out (omega (arith, room)) ∙ half;
   }
 
-  pub lower-table-length : h ≡ length (take h table)
-  lower-table-length = sym (length-take-le h table (omega (arith, size)))
-
-  pub lower-out-length : h ≡ length (take h out)
-  lower-out-length = sym (length-take-le h out (omega (arith, room)))
-
-  module _ (l₁ : List ℤ) (e₁ : l₁ ≡ spectrum (n - 1) (at (take h table))) where
+  module _ (l₁ : List ℤ) (e₁ : l₁ ≡ spectrum m (at (take h table))) where
     as-lower : l₁ ≡ listBelow h lower
     unfolding spectrum
     as-lower = e₁ ∙ ap (λ (k : ℕ). listBelow k lower) (sym half)
@@ -66,30 +63,30 @@ module _ (n h : ℕ) (table : List ℕ) (out : List ℤ) (r : Ready n table out)
     abbrev pub after-lower : List ℤ
     after-lower = l₁ ++ drop h out
 
-    pub upper-ready : Ready (n - 1) (take (length table - h) (drop h table)) (take (length after-lower - h) (drop h after-lower))
+    pub upper-ready : Ready m (take (length table - h) (drop h table)) (take (length after-lower - h) (drop h after-lower))
     upper-ready =
-        subst (λ (t : List ℕ). Ready (n - 1) t (take (length after-lower - h) (drop h after-lower))) (sym (upper-part h table))
+        subst (λ (t : List ℕ). Ready m t (take (length after-lower - h) (drop h after-lower))) (sym (upper-part h table))
         (record {
           read = record {
-            n-low = omega arith;
-            n-high = omega (arith, r .read .n-high);
-            size = omega (arith, length-drop h table, size, half);
-            bits = step.drop-entries 0 (λ b. b < 2) h table (r .read .bits);
+            n-low = c .low;
+            n-high = few;
+            size = step.upper-length m table size ∙ half;
+            bits = step.drop-entries 0 (λ b. b < 2) h table (c .ready .read .bits);
           };
           room = ap length (step.upper-kept h out room lower l₁ as-lower) ∙ omega (arith, length-drop h out, room, half);
         })
 
-    module _ (l₂ : List ℤ) (e₂ : l₂ ≡ spectrum (n - 1) (at (take (length table - h) (drop h table)))) where
+    module _ (l₂ : List ℤ) (e₂ : l₂ ≡ spectrum m (at (take (length table - h) (drop h table)))) where
       as-upper : l₂ ≡ listBelow h upper
       unfolding spectrum
       as-upper =
-          e₂ ∙ ap (λ (t : List ℕ). spectrum (n - 1) (at t)) (upper-part h table) ∙ ap (λ (k : ℕ). listBelow k upper) (sym half)
+          e₂ ∙ ap (λ (t : List ℕ). spectrum m (at t)) (upper-part h table) ∙ ap (λ (k : ℕ). listBelow k upper) (sym half)
 
       abbrev pub after-upper : List ℤ
       after-upper = putMid h (length after-lower - h) after-lower l₂
 
-      small : (f : ℕ → ℕ) (w : ℕ) → natAbs (walsh (n - 1) f w) ≤ 2 ^ 29
-      small f w = le-trans (walsh-le (n - 1) f w) (pow-mono {j = 29} (omega (arith, r .read .n-high)))
+      small : (f : ℕ → ℕ) (w : ℕ) → natAbs (walsh m f w) ≤ 2 ^ 29
+      small f w = le-trans (walsh-le m f w) (pow-mono {j = 29} (le-trans few (omega arith)))
 
       pub crossing : Halves h after-upper
       crossing = step.halves h out room lower l₁ as-lower upper l₂ as-upper (λ k lt. small (at (take h table)) k) (λ k lt. small (at (drop h table)) k)
@@ -97,17 +94,17 @@ module _ (n h : ℕ) (table : List ℕ) (out : List ℤ) (r : Ready n table out)
       pub same-long : length after-upper ≡ length out
       same-long = step.length-after-upper h out room lower l₁ as-lower upper l₂ as-upper ∙ sym room
 
-      lower-is : (w : ℕ) → walsh (n - 1) (at table) w ≡ lower w
-      lower-is w = walsh-cong (n - 1) _ _ w (λ x lt. step.lower-entry 0 h table x (omega (arith, half)))
+      lower-is : (w : ℕ) → walsh m (at table) w ≡ lower w
+      lower-is w = walsh-cong m _ _ w (λ x lt. step.lower-entry 0 h table x (omega (arith, half)))
 
-      upper-is : (w : ℕ) → walsh (n - 1) (λ x. at table (2 ^ (n - 1) + x)) w ≡ upper w
-      upper-is w = walsh-cong (n - 1) _ _ w (λ x lt. step.upper-entry 0 h table x (2 ^ (n - 1)) half)
+      upper-is : (w : ℕ) → walsh m (λ x. at table (2 ^ m + x)) w ≡ upper w
+      upper-is w = walsh-cong m _ _ w (λ x lt. step.upper-entry 0 h table x (2 ^ m) half)
 
       pub right : (new : List ℤ) → length new ≡ length after-upper → Crossed h after-upper new → new ≡ spectrum n (at table)
       unfolding spectrum
       right new kept crossed =
-          step.crossed-is h out room lower l₁ as-lower upper l₂ as-upper new kept crossed (λ w. walsh (suc (n - 1)) (at table) w)
-          (λ k lt. walsh-low (n - 1) (at table) k (λ x l. r .read .bits x) (omega (arith, half)) ∙ ap₂ (λ (a b : ℤ). a +ℤ b) (lower-is k) (upper-is k))
-          (λ k lt. ap (λ (j : ℕ). walsh (suc (n - 1)) (at table) (j + k)) half
-          ∙ walsh-high (n - 1) (at table) k (λ x l. r .read .bits x) (omega (arith, half)) ∙ ap₂ (λ (a b : ℤ). a -ℤ b) (lower-is k) (upper-is k))
-          ∙ ap₂ (λ (j k : ℕ). listBelow j (λ w. walsh k (at table) w)) (sym halves-whole) (sym is-suc)
+          step.crossed-is h out room lower l₁ as-lower upper l₂ as-upper new kept crossed (λ w. walsh (suc m) (at table) w)
+          (λ k lt. walsh-low m (at table) k (λ x l. c .ready .read .bits x) (omega (arith, half)) ∙ ap₂ (λ (a b : ℤ). a +ℤ b) (lower-is k) (upper-is k))
+          (λ k lt. ap (λ (j : ℕ). walsh (suc m) (at table) (j + k)) half
+          ∙ walsh-high m (at table) k (λ x l. c .ready .read .bits x) (omega (arith, half)) ∙ ap₂ (λ (a b : ℤ). a -ℤ b) (lower-is k) (upper-is k))
+          ∙ ap₂ (λ (j k : ℕ). listBelow j (λ w. walsh k (at table) w)) (sym (step.two-halves m table size) ∙ c .ready .read .size) (sym (c .one-less))

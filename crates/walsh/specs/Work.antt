@@ -1,4 +1,4 @@
--- What the functions behind the spectrum calls ask and leave.
+-- What the functions behind the spectrum calls ask and leave. The sweeps of the crates above ask them too, and meet the same conditions.
 use Prim.Native.Nat.{ℕ, _+_, _*_, _/_, _%_, _^_, _≤_, _<_}
 use mathlib.Core.Path.{_≡_}
 use mathlib.Core.List.{List}
@@ -15,7 +15,7 @@ numbered t x = t / 2 ^ x % 2
 pub record Spectra (fixed : List ℤ) : Type 0 where
   pub rule : (k : ℕ) → k < 2048 → valueAt fixed k ≡ walsh 3 (numbered (k / 8)) (k % 8)
 
--- an array, with four entries of the fixed table from one place on written to it from another on
+-- the array, with the four entries of the fixed table from one place on written to it from the other place on
 unfoldable pub withFour : List ℤ → ℕ → List ℤ → ℕ → List ℤ
 withFour out to fixed from =
     set (set (set (set out to (valueAt fixed from)) (to + 1) (valueAt fixed (from + 1))) (to + 2) (valueAt fixed (from + 2))) (to + 3) (valueAt fixed (from + 3))
@@ -25,7 +25,7 @@ pub record Ready (n : ℕ) (table : List ℕ) (out : List ℤ) : Type 0 where
   pub read : Table n table
   pub room : length out ≡ 2 ^ n
 
--- two halves of h numbers, none so large that a sum of two would not fit
+-- two halves of h numbers, none so large that the sum or the difference of two would not fit
 pub record Halves (h : ℕ) (values : List ℤ) : Type 0 where
   pub size : length values ≡ h + h
   pub small : (k : ℕ) → natAbs (valueAt values k) ≤ 2 ^ 29
@@ -35,7 +35,7 @@ pub record Crossed (h : ℕ) (old new : List ℤ) : Type 0 where
   pub sums : (k : ℕ) → k < h → valueAt new k ≡ valueAt old k +ℤ valueAt old (h + k)
   pub differences : (k : ℕ) → k < h → valueAt new (h + k) ≡ valueAt old k -ℤ valueAt old (h + k)
 
--- 2^n numbers, so small that no sum of all of them is too large
+-- 2^n numbers, up to 2^8 of them, all within a bound so small that the transform's sums over all of them fit
 pub record Summable (n : ℕ) (values : List ℤ) : Type 0 where
   pub few : n ≤ 8
   pub size : length values ≡ 2 ^ n

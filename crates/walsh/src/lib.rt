@@ -65,16 +65,6 @@ fn by_table(fixed: &[i32; 2048], table: &[u8], out: &mut [i32])
     copy_four(fixed, first + 4, out, 4);
 }
 
-// Four inputs: the table is cut, and the fixed table is read for each half. The lengths are written out, so that neither a loop nor a call is left.
-fn by_two_rows(fixed: &[i32; 2048], table: &[u8], out: &mut [i32])
-    requires { ⌜ Ready 4 (now table) (now out) × Spectra (now fixed) ⌝ }
-    ensures { λ _. ⌜ now (out .exit) ≡ functions.spectrum 4 (at (now (table .entry))) ⌝ }
-{
-    by_table(fixed, &table[..8], &mut out[..8]);
-    by_table(fixed, &table[8..], &mut out[8..]);
-    butterfly(out, 8);
-}
-
 // One spectrum value by its definition: +1 where the table equals w·x, and −1 elsewhere.
 fn value(table: &[u8], w: u32) -> i32
     requires { ⌜ length (now table) ≤ 256 ⌝ }
@@ -122,8 +112,9 @@ fn butterfly(values: &mut [i32], h: usize)
     }
 }
 
-// The spectrum of an accepted table, with the fixed table lent. Above width 3 the table and the array are cut in halves; the width
-// falls by one at each cut.
+// The spectrum of an accepted table, with the fixed table lent. Above width 3 the table and the array are cut in halves, and the transform
+// calls itself on each; the width falls by one at each cut. At width 4 the width of the halves is written out: the compiler then puts the
+// look-up in place of the two calls.
 pub fn descend(fixed: &[i32; 2048], n: u32, table: &[u8], out: &mut [i32])
     requires { ⌜ Ready n (now table) (now out) × Spectra (now fixed) ⌝ }
     ensures { λ _. ⌜ now (out .exit) ≡ functions.spectrum n (at (now (table .entry))) ⌝ }
@@ -133,7 +124,10 @@ pub fn descend(fixed: &[i32; 2048], n: u32, table: &[u8], out: &mut [i32])
     } else if n == 3 {
         by_table(fixed, table, out);
     } else if n == 4 {
-        by_two_rows(fixed, table, out);
+        let h = table.len() / 2; // 8
+        descend(fixed, 3, &table[..h], &mut out[..h]);
+        descend(fixed, 3, &table[h..], &mut out[h..]);
+        butterfly(out, h);
     } else {
         let h = table.len() / 2;
         descend(fixed, n - 1, &table[..h], &mut out[..h]);
@@ -187,7 +181,8 @@ fn transform_of_sixteen(values: &mut [i32])
     butterfly(values, 8);
 }
 
-// The Walsh-Hadamard transform of any integers that are small enough, in place. Halves are cut until sixteen values are left.
+// The Walsh-Hadamard transform of any integers that are small enough, in place. Halves are cut until sixteen values are left, or, where there
+// were fewer, until one is left, which is its own transform.
 pub fn transform(n: u32, values: &mut [i32])
     requires { ⌜ Summable n (now values) ⌝ }
     ensures { λ _. ⌜ now (values .exit) ≡ listBelow (2 ^ n) (λ w. functions.transform n (valueAt (now (values .entry))) w) ⌝ }

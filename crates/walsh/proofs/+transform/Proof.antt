@@ -4,6 +4,7 @@ use mathlib.Core.Path.{_≡_, sym, _∙_, subst}
 use Prim.Native.Nat.{ℕ, _-_, _/_, _^_, _<_}
 use native.Mathlib.Omega.{arith}
 use lib.ListN.{length}
+use lib.Seq.{length-take-le}
 use borrow.Author.Needs.{needs}
 use borrow.Fn.Kinds.{In}
 use borrow.Fn.PlainCycle.{Measures, is, falls, and}
@@ -54,10 +55,7 @@ module _ (t : ℕ) where
   slice-relend-prefix-transform c = search needs
 
   slice-aggregate-transform : lts.Need-slice-aggregate-transform (calls t) (given t) transform.Post
-  slice-aggregate-transform c =
-      let e = c .before in
-      let s = e .before .before in
-      halves.lower-length (s .args .n) _ (s .args .values .now) (s .pre .1) (e .if2 .taken) (middle e)
+  slice-aggregate-transform c = sym (length-take-le _ _ (omega arith))
 
   transform-requires : lts.Need-transform-requires (calls t) (given t) transform.Post
   transform-requires c κs =
