@@ -16,6 +16,7 @@ pub mod FirstLargest
 pub mod Lists
 pub mod Kept
 pub mod Members
+pub mod Masks
 pub mod Every
 pub mod Ranges
 pub mod Distinct
@@ -34,4 +35,5 @@ pub mod Bent
 pub mod Correlation
 pub mod NormalForm
 pub mod Degrees
+pub mod AffineForms
 pub mod Shifts

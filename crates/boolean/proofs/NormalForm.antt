@@ -1,16 +1,19 @@
--- The normal form's coefficients: they are bits, and the coefficients of the coefficients are the function.
+-- The normal form's coefficients: they are bits, a component's are parities, and the coefficients of the coefficients are the function.
 use mathlib.Core.Path.{_≡_, refl, sym, ap, ap₂, _∙_}
 use mathlib.Core.Bool.{Bool, true, false, cond}
+use mathlib.Core.List.{List}
 use Prim.Native.Nat.{ℕ, zero, suc, _+_, _*_, _^_, _<_}
 use native.Mathlib.Nat.{one-mul, zero-add, zero-lt-suc, zero-mul}
 use native.Mathlib.Omega.{arith}
 use borrow.Author.Tests.{eq-eqb, eqb-false, eqb-true, ne-eqb}
 use lib.Arith.{lt-one as below-one}
-use lib.Bits.{and-block, and-le-r, bitAnd, bitXor, xor-zero-r}
+use lib.Bits.{and-block, and-le-r, bitAnd, bitXor, xor-self, xor-zero-r}
 use lib.Dec.{eqb}
-use Rattle.boolean.specs.Bits.{within}
-use Rattle.boolean.specs.Functions.{Boolean, coefficient}
+use Rattle.boolean.specs.Bits.{dot, within}
+use Rattle.boolean.specs.Functions.{Boolean, at, coefficient, component}
 use Rattle.boolean.specs.Sums.{xorBelow}
+use Rattle.boolean.proofs.Digits.{component-dot}
+use Rattle.boolean.proofs.Dots.{dot-xor, dot-zero}
 use Rattle.boolean.proofs.Transform.{half-cases}
 use Rattle.boolean.proofs.Xor.{xor-cancel-left, xorBelow-cong, xorBelow-halves, xorBelow-lt, xorBelow-xor, xorBelow-zero}
 
@@ -67,6 +70,29 @@ coefficient-boolean n f u h = xorBelow-lt 1 (2 ^ n) (λ x. cond (within u x) (f 
     pick true k = k
     pick false k = zero-lt-suc 1
 
+-- of nothing
+pub coefficient-none : (n u : ℕ) → coefficient n (λ x. 0) u ≡ 0
+unfolding coefficient
+coefficient-none n u = xorBelow-zero (2 ^ n) _ (λ x l. pick (within u x))
+  where
+    pick : (t : Bool) → _≡_ {A = ℕ} (cond t 0 0) 0
+    pick true = refl
+    pick false = refl
+
+-- of a component: the parity of the word that the rows have there
+dot-xorBelow : (k : ℕ) (f : ℕ → ℕ) (c : ℕ) → dot (xorBelow k f) c ≡ xorBelow k (λ x. dot (f x) c)
+unfolding xorBelow
+dot-xorBelow zero f c = dot-zero c
+dot-xorBelow (suc k) f c = dot-xor (xorBelow k f) (f k) c ∙ ap (λ (z : ℕ). bitXor z (dot (f k) c)) (dot-xorBelow k f c)
+
+pub coefficient-component : (n : ℕ) (rows : List ℕ) (c u : ℕ) → dot (coefficient n (at rows) u) c ≡ coefficient n (component rows c) u
+unfolding coefficient
+coefficient-component n rows c u = dot-xorBelow (2 ^ n) _ c ∙ xorBelow-cong (2 ^ n) _ _ (λ x l. pick (within u x) (at rows x) (component rows c x) (sym (component-dot rows c x)))
+  where
+    pick : (t : Bool) (a b : ℕ) → dot a c ≡ b → dot (cond t a 0) c ≡ cond t b 0
+    pick true a b e = e
+    pick false a b e = dot-zero c
+
 -- halving
 pub coefficient-low : (n : ℕ) (f : ℕ → ℕ) (u : ℕ) → u < 2 ^ n → coefficient (suc n) f u ≡ coefficient n f u
 unfolding coefficient
@@ -81,6 +107,19 @@ coefficient-high n f u h =
     xorBelow-halves n (λ x. cond (within (2 ^ n + u) x) (f x) 0)
     ∙ ap₂ bitXor (xorBelow-cong (2 ^ n) _ _ (λ x l. ap (λ (t : Bool). cond t (f x) 0) (within-10 n u x h l)))
     (xorBelow-cong (2 ^ n) _ _ (λ x l. ap (λ (t : Bool). cond t (f (2 ^ n + x)) 0) (within-11 n u x h l)))
+
+-- the upper half of the normal form is that of the difference between the halves
+abbrev pub difference : ℕ → (ℕ → ℕ) → ℕ → ℕ
+difference n f x = bitXor (f x) (f (2 ^ n + x))
+
+pub coefficient-difference : (n : ℕ) (f : ℕ → ℕ) (u : ℕ) → u < 2 ^ n → coefficient (suc n) f (2 ^ n + u) ≡ coefficient n (difference n f) u
+coefficient-difference n f u h = coefficient-high n f u h ∙ sym (coefficient-xor n f (λ x. f (2 ^ n + x)) u)
+
+pub coefficient-constant : (n t u : ℕ) → u < 2 ^ n → (u ≡ 0 → ⊥) → coefficient n (λ x. t) u ≡ 0
+coefficient-constant zero t u h ne = absurd (ne (below-one h))
+coefficient-constant (suc n) t u h ne =
+    half-cases n (λ u. (u ≡ 0 → ⊥) → coefficient (suc n) (λ x. t) u ≡ 0) (λ u l e. coefficient-low n (λ x. t) u l ∙ coefficient-constant n t u l e)
+    (λ u l e. coefficient-high n (λ x. t) u l ∙ xor-self (coefficient n (λ x. t) u)) u h ne
 
 pub coefficient-zero : (f : ℕ → ℕ) → coefficient 0 f 0 ≡ f 0
 unfolding coefficient xorBelow within

@@ -31,6 +31,10 @@ xor-cancel v w = xor-assoc v w w ∙ ap (bitXor v) (xor-self w) ∙ xor-zero-r v
 pub xor-cancel-left : (v w : ℕ) → bitXor v (bitXor v w) ≡ w
 xor-cancel-left v w = xor-comm v (bitXor v w) ∙ ap (λ (z : ℕ). bitXor z v) (xor-comm v w) ∙ xor-cancel w v
 
+-- what has no difference is equal
+pub xor-equal : (v w : ℕ) → bitXor v w ≡ 0 → w ≡ v
+xor-equal v w e = sym (xor-cancel-left v w) ∙ ap (bitXor v) e ∙ xor-zero-r v
+
 pub xor-interchange : (a b c d : ℕ) → bitXor (bitXor a b) (bitXor c d) ≡ bitXor (bitXor a c) (bitXor b d)
 xor-interchange a b c d = xor-assoc a b (bitXor c d) ∙ ap (bitXor a) (xor-left-comm b c d) ∙ sym (xor-assoc a c (bitXor b d))
 
