@@ -152,9 +152,13 @@ uint32_t satmegwo_dynamic_distance(uint32_t n, uint32_t m, const uint16_t *rows,
  * Refusals: 1, 3, 4, 7. */
 uint32_t satmegwo_normal_form(uint32_t n, const uint8_t *table, size_t table_len, uint8_t *out, size_t out_len);
 
-/* The degree: the largest among the columns of the box. A constant column has degree 0.
+/* The degree: the least of all nonzero combinations. The degree of a combination is the
+ * most ones in any u at which its normal form has the coefficient 1, and 0 if there is
+ * none: a constant has degree 0.
  *   rows     read, 2^n elements below 2^m
- *   figures  written, 1 element: the degree
+ *   figures  written, 2 elements:
+ *              figures[0]  the degree
+ *              figures[1]  c, the first combination that has it
  * Refusals: 1, 2, 3, 4, 7. */
 uint32_t satmegwo_degree(uint32_t n, uint32_t m, const uint16_t *rows, size_t rows_len, uint32_t *figures, size_t figures_len);
 

@@ -6,12 +6,14 @@
 //! rounds each, and the least time of all rounds is shown: what disturbs a measurement only
 //! ever makes it longer. With --anchor the C program FILE.c, which measures the nonlinearity
 //! of an 8 by 16 box and prints its time as `... T s`, is compiled with gcc -O3 and run too.
-//! No time is asserted; that both programs give the same figures is.
+//! The degree is also measured on boxes that are chosen for it, and there beside the
+//! library's own nonlinearity. No time is asserted; that both programs give the same
+//! figures is.
 mod anchor;
 #[path = "../../tests/src/library.rs"]
 mod library;
 
-use second_model::boxes::random_rows;
+use second_model::boxes::{affine_columns, random_rows};
 use second_model::fast;
 use second_model::random::Random;
 use std::hint::black_box;
@@ -28,7 +30,7 @@ struct Measure {
     second: Program,
 }
 
-const MEASURES: [Measure; 5] = [
+const MEASURES: [Measure; 6] = [
     Measure { name: "nonlinearity", library: library_nonlinearity, second: |n, m, rows| fast::nonlinearity(n, m, rows).into() },
     Measure {
         name: "nonlinearity, second in 16 bits",
@@ -37,7 +39,19 @@ const MEASURES: [Measure; 5] = [
     },
     Measure { name: "largest_cell", library: library_largest_cell, second: |_, m, rows| fast::largest_cell(m, rows).into() },
     Measure { name: "autocorrelation", library: library_autocorrelation, second: |n, m, rows| fast::autocorrelation(n, m, rows).into() },
+    DEGREE,
     Measure { name: "whole sheet", library: library_sheet, second: second_sheet },
+];
+
+const DEGREE: Measure = Measure { name: "degree", library: library_degree, second: |n, m, rows| fast::degree(n, m, rows).into() };
+
+/// Boxes of 8 by 16 that are chosen for the degree. A random box has a high coefficient in
+/// nearly every combination; of an affine box none has any; and where a single row is not 0
+/// every word of the normal form is that row, which half of all combinations find even.
+const CHOSEN: [(&str, fn(&mut Random) -> Vec<u16>); 3] = [
+    ("random", |random| random_rows(8, 16, random)),
+    ("affine", |random| affine_columns(8, 16, random)),
+    ("one-row", |_| (0..256).map(|x| if x == 0 { 65535 } else { 0 }).collect()),
 ];
 
 /// One size of boxes: its widths, how many boxes make a round, and how many rounds there are.
@@ -97,6 +111,9 @@ fn run(seed: u64, anchor: Option<&str>) -> ExitCode {
             }
         }
     }
+    if !chosen_boxes(&mut random) {
+        return ExitCode::from(1);
+    }
     match anchor.map(anchor::time) {
         None => ExitCode::SUCCESS,
         Some(Ok(seconds)) => {
@@ -108,6 +125,23 @@ fn run(seed: u64, anchor: Option<&str>) -> ExitCode {
             ExitCode::from(1)
         }
     }
+}
+
+/// The degree of the chosen boxes, of both programs and then beside the nonlinearity; false
+/// if the two programs' figures differ.
+fn chosen_boxes(random: &mut Random) -> bool {
+    let size = &SIZES[SIZES.len() - 1];
+    for (kind, make) in CHOSEN {
+        let boxes = [make(random)];
+        let Some((library, second)) = times(&DEGREE, size, &boxes) else {
+            println!("8x16: degree of the {kind} box differs between the two programs");
+            return false;
+        };
+        line("8x16", &format!("degree, {kind} box"), library, second);
+        let least = |program| (0..size.rounds).map(|_| time_of(program, size, &boxes).0).fold(f64::MAX, f64::min);
+        line("8x16", &format!("degree, {kind} box, to nonlinearity"), library, least(library_nonlinearity));
+    }
+    true
 }
 
 fn line(size: &str, name: &str, library: f64, second: f64) {
@@ -168,6 +202,12 @@ fn library_autocorrelation(n: u32, m: u32, rows: &[u16]) -> Figures {
     figures.into()
 }
 
+fn library_degree(n: u32, m: u32, rows: &[u16]) -> Figures {
+    let mut figures = [0; 2];
+    accepted(library::degree(n, m, rows, &mut figures));
+    figures.into()
+}
+
 fn library_distance(n: u32, m: u32, rows: &[u16], i: u32) -> Figures {
     let mut figures = [0; 3];
     accepted(library::dynamic_distance(n, m, rows, i, 1, &mut figures));
@@ -181,7 +221,8 @@ fn library_sheet(n: u32, m: u32, rows: &[u16]) -> Figures {
     sheet.extend(library_autocorrelation(n, m, rows));
     sheet.extend(library_distance(n, m, rows, 1));
     sheet.extend(library_distance(n, m, rows, 2));
-    for call in [library::degree, library::complete, library::bijective] {
+    sheet.extend(library_degree(n, m, rows));
+    for call in [library::complete, library::bijective] {
         let mut figure = [0];
         accepted(call(n, m, rows, &mut figure));
         sheet.extend(figure);
@@ -195,7 +236,7 @@ fn second_sheet(n: u32, m: u32, rows: &[u16]) -> Figures {
     sheet.extend(fast::autocorrelation(n, m, rows));
     sheet.extend(fast::dynamic_distance(n, m, rows, 1, 1));
     sheet.extend(fast::dynamic_distance(n, m, rows, 2, 1));
-    sheet.push(fast::degree(rows));
+    sheet.extend(fast::degree(n, m, rows));
     sheet.push(u32::from(fast::complete(n, m, rows)));
     sheet.push(u32::from(fast::bijective(n, m, rows)));
     sheet

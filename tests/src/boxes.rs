@@ -64,7 +64,7 @@ fn affine(n: u32, random: &mut Random) -> Vec<u8> {
     (0..1 << n).map(|x| model::parity(w & x) ^ b).collect()
 }
 
-fn affine_columns(n: u32, m: u32, random: &mut Random) -> Vec<u16> {
+pub fn affine_columns(n: u32, m: u32, random: &mut Random) -> Vec<u16> {
     let columns: Vec<Vec<u8>> = (0..m).map(|_| affine(n, random)).collect();
     from_columns(n, &columns)
 }
@@ -161,7 +161,7 @@ mod tests {
             for m in 1..=16 {
                 for kind in 0..KINDS {
                     let rows = of_kind(kind, n, m, &mut random);
-                    assert!(model::degree(n, m, &rows, 1).is_ok(), "kind {kind}, {n} by {m}: {rows:?}");
+                    assert!(model::complete(n, m, &rows, 1).is_ok(), "kind {kind}, {n} by {m}: {rows:?}");
                 }
             }
         }

@@ -45,7 +45,7 @@ pub const FIGURE_CALLS: [FigureCall; 6] = [
     },
     FigureCall {
         name: "degree",
-        figures: 1,
+        figures: 2,
         library: library::degree,
         model: |n, m, rows, len| model::degree(n, m, rows, len).map(Vec::from),
     },

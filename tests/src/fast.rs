@@ -316,13 +316,25 @@ fn normal_forms(values: &mut [u16]) {
     }
 }
 
-pub fn degree(rows: &[u16]) -> u32 {
+/// Figures: degree, c. The coefficients of a combination are the combination of the
+/// coefficients, so the combinations are visited in the box of the normal forms. What is
+/// kept is the largest difference from n, which is the least degree.
+pub fn degree(n: u32, m: u32, rows: &[u16]) -> [u32; 2] {
     let mut buffer = [0u16; ROWS];
     let coefficients = &mut buffer[..rows.len()];
     coefficients.copy_from_slice(rows);
     normal_forms(coefficients);
-    let present = (0..rows.len()).filter(|&u| coefficients[u] != 0);
-    present.map(|u| u.count_ones()).max().unwrap_or(0)
+    let mut ones = [0u8; ROWS];
+    for (u, count) in ones.iter_mut().enumerate() {
+        *count = u.count_ones() as u8;
+    }
+    let mut best = Best::none();
+    visit_combinations(m, coefficients, |c, form| {
+        let present = form.iter().zip(&ones).map(|(&coefficient, &count)| count & coefficient.wrapping_neg());
+        let degree = present.fold(0, u8::max);
+        best.offer(n as i32 - i32::from(degree), c);
+    });
+    [(n as i32 - best.figure) as u32, best.c]
 }
 
 pub fn complete(n: u32, m: u32, rows: &[u16]) -> bool {
@@ -353,6 +365,7 @@ mod tests {
         let (i, j) = (random.between(1, m), random.between(1, n));
         let distance = model::dynamic_distance_by_definition(n, m, rows, i, j);
         assert_eq!(dynamic_distance(n, m, rows, i, j), distance, "order ({i}, {j}), {shown}");
+        assert_eq!(degree(n, m, rows), model::degree_by_definition(m, rows), "{shown}");
         cheap_figures_agree(n, m, rows);
     }
 
@@ -362,7 +375,6 @@ mod tests {
         let mut cells = largest_cells(m, rows);
         cells.sort();
         assert_eq!(cells, model::largest_cells_by_definition(n, m, rows), "{shown}");
-        assert_eq!(degree(rows), model::degree_by_definition(m, rows), "{shown}");
         assert_eq!(complete(n, m, rows), model::complete_by_definition(n, m, rows), "{shown}");
         assert_eq!(bijective(n, m, rows), model::bijective_by_definition(n, m, rows), "{shown}");
         let c = rows.len() as u32 % ((1 << m) - 1) + 1;
@@ -390,6 +402,37 @@ mod tests {
         for kind in 0..KINDS {
             let rows = boxes::of_kind(kind, 8, 16, &mut random);
             cheap_figures_agree(8, 16, &rows);
+        }
+    }
+
+    /// Beyond the definitions' reach, the combination that is named is looked at by itself,
+    /// and others at random.
+    #[test]
+    fn no_combination_is_weaker_at_the_widest() {
+        let mut random = Random::new(14);
+        for kind in 0..KINDS {
+            let rows = boxes::of_kind(kind, 8, 16, &mut random);
+            let of = |c| model::degree_of_function(&model::combination(&rows, c));
+            let [least, first] = degree(8, 16, &rows);
+            assert_eq!(of(first), least, "{rows:?}");
+            for _ in 0..40 {
+                let c = random.between(1, 65535);
+                assert!(of(c) > least || (of(c) == least && c >= first), "c = {c}, {rows:?}");
+            }
+        }
+    }
+
+    /// Two criteria that must agree: a combination of degree 1 or 0 is an affine function.
+    #[test]
+    fn the_degree_is_at_most_1_exactly_when_the_nonlinearity_is_0() {
+        let mut random = Random::new(15);
+        for (n, m) in (1..=8).flat_map(|n| (1..=8).map(move |m| (n, m))) {
+            for kind in 0..KINDS {
+                let rows = boxes::of_kind(kind, n, m, &mut random);
+                let [weakest, _] = degree(n, m, &rows);
+                let [nearest, ..] = nonlinearity(n, m, &rows);
+                assert_eq!(weakest <= 1, nearest == 0, "n = {n}, m = {m}, rows = {rows:?}");
+            }
         }
     }
 

@@ -208,15 +208,23 @@ fn normal_form_by_definition(f: &[u8]) -> Vec<u8> {
     (0..f.len()).map(coefficient).collect()
 }
 
-fn degree_of_column(f: &[u8]) -> u32 {
+/// The most ones in any u with coefficient 1, and 0 if there is none.
+pub fn degree_of_function(f: &[u8]) -> u32 {
     let coefficients = normal_form_by_definition(f);
     let present = (0..f.len()).filter(|&u| coefficients[u] == 1);
     present.map(|u| u.count_ones()).max().unwrap_or(0)
 }
 
-pub fn degree_by_definition(m: u32, rows: &[u16]) -> u32 {
-    let columns = (1..=m).map(|j| combination(rows, 1 << (j - 1)));
-    columns.map(|f| degree_of_column(&f)).max().unwrap_or(0)
+/// The least degree of a nonzero combination, and the first that has it: degree, c.
+pub fn degree_by_definition(m: u32, rows: &[u16]) -> [u32; 2] {
+    let mut best = [u32::MAX, 0];
+    for c in 1..1u32 << m {
+        let degree = degree_of_function(&combination(rows, c));
+        if degree < best[0] {
+            best = [degree, c];
+        }
+    }
+    best
 }
 
 pub fn complete_by_definition(n: u32, m: u32, rows: &[u16]) -> bool {
@@ -344,10 +352,15 @@ pub fn normal_form(n: u32, table: &[u8], out_len: usize) -> Answer<Vec<u8>> {
     Ok(normal_form_by_definition(table))
 }
 
-pub fn degree(n: u32, m: u32, rows: &[u16], figures_len: usize) -> Answer<[u32; 1]> {
+/// Figures: degree, c.
+pub fn degree(n: u32, m: u32, rows: &[u16], figures_len: usize) -> Answer<[u32; 2]> {
     check_box(n, m, rows)?;
-    check_written(figures_len, 1)?;
-    Ok([degree_by_definition(m, rows)])
+    check_written(figures_len, 2)?;
+    Ok(if bearable(n, m) {
+        degree_by_definition(m, rows)
+    } else {
+        fast::degree(n, m, rows)
+    })
 }
 
 /// Figure: 1 for yes, 0 for no.
@@ -454,13 +467,13 @@ mod tests {
     fn case_1_the_identity_of_one_bit() {
         assert_eq!(nonlinearity(1, 1, &[0, 1], 4), Ok([0, 1, 1, 0]));
         assert_eq!(dynamic_distance(1, 1, &[0, 1], 1, 1, 3).unwrap()[0], 1);
-        assert_eq!(degree(1, 1, &[0, 1], 1), Ok([1]));
+        assert_eq!(degree(1, 1, &[0, 1], 2), Ok([1, 1]));
     }
 
     #[test]
     fn case_2_a_constant() {
         assert_eq!(nonlinearity(1, 1, &[0, 0], 4), Ok([0, 1, 0, 0]));
-        assert_eq!(degree(1, 1, &[0, 0], 1), Ok([0]));
+        assert_eq!(degree(1, 1, &[0, 0], 2), Ok([0, 1]));
     }
 
     #[test]
@@ -518,10 +531,10 @@ mod tests {
         assert_eq!(nonlinearity(9, 1, &[0; 512], 4), Err(1));
         assert!(enlarge_column(7, &[0; 128], 7, 0, 256).is_ok());
         assert_eq!(enlarge_column(8, &[0; 256], 7, 0, 512), Err(1));
-        assert_eq!(degree(1, 17, &[0, 0], 1), Err(2));
-        assert!(degree(1, 3, &[0, 7], 1).is_ok());
-        assert_eq!(degree(1, 3, &[0, 8], 1), Err(4));
-        assert!(degree(1, 16, &[0, 65535], 1).is_ok());
+        assert_eq!(degree(1, 17, &[0, 0], 2), Err(2));
+        assert!(degree(1, 3, &[0, 7], 2).is_ok());
+        assert_eq!(degree(1, 3, &[0, 8], 2), Err(4));
+        assert!(degree(1, 16, &[0, 65535], 2).is_ok());
         assert!(enlarge_box(3, &F, &[0; 8], 3, 16).is_ok());
         assert_eq!(enlarge_box(3, &F, &[0; 8], 4, 16), Err(6));
         assert_eq!(dynamic_distance(1, 1, &[0, 1], 2, 1, 3), Err(6));
@@ -557,5 +570,37 @@ mod tests {
         assert_eq!(normal_form(3, &coefficients, 8), Ok(f.to_vec()));
         assert_eq!(normal_form(2, &[0, 0, 0, 1], 4), Ok(vec![0, 0, 0, 1]));
         assert_eq!(normal_form(2, &[1, 1, 1, 0], 4), Ok(vec![1, 0, 0, 1]));
+    }
+
+    /// Each column of the example has degree 2; the three of them together are affine.
+    #[test]
+    fn the_degree_is_that_of_the_weakest_combination() {
+        assert_eq!([1, 2, 4].map(|c| degree_of_function(&combination(&F, c))), [2, 2, 2]);
+        assert_eq!(degree(3, 3, &F, 2), Ok([1, 7]));
+    }
+
+    /// Two columns that are equal, or that differ everywhere, are together constant.
+    #[test]
+    fn a_constant_combination_has_degree_0() {
+        assert_eq!(degree(2, 2, &[0, 0, 0, 3], 2), Ok([0, 3]));
+        assert_eq!(degree(2, 2, &[2, 2, 2, 1], 2), Ok([0, 3]));
+        assert_eq!(degree(2, 3, &[4, 4, 4, 7], 2), Ok([0, 3]));
+    }
+
+    /// Columns made of x1·x2, x1, 1 and, in the last box, of x3 too.
+    #[test]
+    fn the_first_weakest_combination_of_small_boxes() {
+        assert_eq!(degree(2, 1, &[0, 0, 0, 1], 2), Ok([2, 1]));
+        assert_eq!(degree(2, 2, &[0, 2, 0, 3], 2), Ok([1, 2]));
+        assert_eq!(degree(2, 3, &[4, 6, 4, 7], 2), Ok([0, 4]));
+        assert_eq!(degree(2, 3, &[0, 2, 0, 7], 2), Ok([0, 5]));
+        assert_eq!(degree(3, 2, &[0, 0, 0, 1, 0, 0, 0, 2], 2), Ok([2, 3]));
+    }
+
+    #[test]
+    fn the_degree_looks_at_its_array_last() {
+        assert_eq!(degree(3, 3, &F, 1), Err(7));
+        assert_eq!(degree(3, 3, &F, 3), Err(7));
+        assert_eq!(degree(3, 2, &F, 1), Err(4));
     }
 }

@@ -21,7 +21,7 @@ fn lines(read: &FileBox) -> Answer<String> {
     } else {
         line("bic", &model::dynamic_distance(n, m, rows, 2, 1, 3)?)
     };
-    text += &line("degree", &model::degree(n, m, rows, 1)?);
+    text += &line("degree", &model::degree(n, m, rows, 2)?);
     text += &format!("complete {}\n", yes_or_no(model::complete(n, m, rows, 1)?));
     text += &format!("bijective {}\n", yes_or_no(model::bijective(n, m, rows, 1)?));
     Ok(text)
@@ -49,9 +49,9 @@ mod tests {
     use crate::model::file_of;
 
     #[test]
-    fn the_example_as_document_01_prints_it() {
+    fn the_example_as_documents_01_and_02_print_it() {
         let text = "box 3 3\nnonlinearity 0 7 7 0\nxor 4 3 3\nautocorrelation 8 1 3\n\
-                    sac 0 1 1\nbic 0 1 1\ndegree 2\ncomplete yes\nbijective yes\n";
+                    sac 0 1 1\nbic 0 1 1\ndegree 1 7\ncomplete yes\nbijective yes\n";
         assert_eq!(sheet(&file_of(3, 3, &[3, 1, 4, 0, 2, 5, 6, 7])), text);
     }
 

@@ -1,28 +1,35 @@
--- The normal form twice is the table again; the degree's bounds, and where it is reached; and bijective boxes, by their rows.
-use mathlib.Core.Path.{_≡_, sym, _∙_, subst}
-use mathlib.Core.Logic.{_⊎_, inl, inr, _↔_}
+-- The normal form twice is the table again; the degree is the least of the combinations', and their first has it; where it is at most 1 the
+-- nonlinearity is 0; and bijective boxes, by their rows.
+use mathlib.Core.Path.{_≡_, sym, ap, _∙_, subst}
+use mathlib.Core.Logic.{_↔_}
 use mathlib.Core.Bool.{true}
-use mathlib.Core.List.{List}
-use Prim.Native.Nat.{ℕ, suc, _-_, _^_, _<_, _≤_}
+use mathlib.Core.List.{List, [], _∷_, List·Memᴰ}
+use Prim.Native.Nat.{ℕ, _^_, _<_, _≤_}
 use native.Mathlib.Decide.{decLt}
-use native.Mathlib.Nat.{le-trans, zero-lt-suc}
+use native.Mathlib.Nat.{zero-lt-suc}
 use native.Mathlib.Omega.{arith}
 use borrow.Author.Tests.{eqb-true, eq-eqb}
-use lib.Count.{ones}
 use lib.Dec.{eqb}
 use lib.ListN.{length, List·getD-eq-default}
-use Rattle.boolean.specs.Functions.{at, coefficient, column, degree, normalForm}
-use Rattle.boolean.proofs.Degrees.{length-normal-form, at-normal-form, normal-form-twice, degree-le, le-degree, degree-reached}
-use Rattle.boolean.proofs.Every.{both}
-use Rattle.boolean.proofs.Largest.{largest-le, le-largest, largest-reached}
-use Rattle.boolean.proofs.NormalForm.{coefficient-boolean}
-use Rattle.refusals.specs.Table.{tableCallChecks, first, Table}
-use Rattle.refusals.specs.declared.Checked.the-variants.{Accepted}
-use Rattle.refusals.proofs.Checks.{found-after, skip, end, table-accepted}
 use Rattle.boolean.specs.Sums.{distinct}
-use Rattle.algebraic.specs.Algebraic.{boxDegree, bijective}
+use Rattle.boolean.specs.Functions.{at, component, degree, normalForm}
+use Rattle.boolean.specs.Selection.{Candidate, shown, firstLeast, First}
+use Rattle.boolean.proofs.AffineForms.{constant-degree, degree-constant, degree-affine, affine-degree, distance-none, distance-same}
+use Rattle.boolean.proofs.Degrees.{length-normal-form, at-normal-form, normal-form-twice, degree-le}
+use Rattle.boolean.proofs.Digits.{component-lt}
 use Rattle.boolean.proofs.Distinct.{distinct-at, distinct-of}
+use Rattle.boolean.proofs.Every.{both}
+use Rattle.boolean.proofs.NormalForm.{coefficient-boolean}
+use Rattle.boolean.proofs.Selection.{firstLeast-le, firstLeast-mem, firstLeast-first, first-ranked}
+use Rattle.refusals.specs.Table.{tableCallChecks, boxChecks, first, figures, Table, Box}
+use Rattle.refusals.specs.declared.Checked.the-variants.{Accepted}
+use Rattle.refusals.proofs.Checks.{found-after, skip, end, table-accepted, box, reply-accepted}
+use Rattle.linear.specs.Nonlinearity.{nonlinearity}
+use Rattle.linear.proofs.Theorems as linear
+use Rattle.algebraic.specs.Algebraic.{withDegree, degrees, boxDegree, bijective}
+use Rattle.algebraic.specs.Statements.{DegreeReported, Constant, Injective}
 use Rattle.algebraic.proofs.Bijections.{bijective-equal}
+use Rattle.algebraic.proofs.Sweeping.{mask, degreesBy, in-degrees, mem-degrees, ascending-degrees, degrees-nonempty}
 
 -- ---- the normal form of an accepted table
 module _ (n : ℕ) (table : List ℕ) (t : Table n table) where
@@ -43,43 +50,80 @@ module _ (n : ℕ) (table : List ℕ) (t : Table n table) where
   unfolding tableCallChecks
   form-accepted room e = sym (found-after _ (table-accepted n (normalForm n (at table)) form-is-table) (skip (eq-eqb room (2 ^ n) e) end))
 
--- ---- the degree of a box
-module _ (n m : ℕ) (rows : List ℕ) where
-  pub degree-at-most : boxDegree n m rows ≤ n
-  unfolding boxDegree
-  degree-at-most = largest-le m n _ (λ i l. degree-le n (column rows (suc i)))
+-- ---- the degree of an accepted box
+module _ (n m : ℕ) (rows : List ℕ) (accepted : first (boxChecks n m rows) ≡ Accepted) where
+  accepted-box : Box n m rows
+  accepted-box = box n m rows [] accepted
 
-  -- a coefficient 1 at u in column j
-  pub degree-at-least : (j u : ℕ) → 1 ≤ j → j ≤ m → u < 2 ^ n → coefficient n (column rows j) u ≡ 1 → ones u ≤ boxDegree n m rows
-  unfolding boxDegree
-  degree-at-least j u lo hi l e =
-      le-trans (le-degree n (column rows j) u l e)
-      (subst (λ (k : ℕ). degree n (column rows k) ≤ boxDegree n m rows) (let s : suc (j - 1) ≡ j = omega arith in s)
-      (le-largest m (λ i. degree n (column rows (suc i))) (j - 1) (omega arith)))
+  abbrev degreeOfMask : ℕ → ℕ
+  degreeOfMask c = degree n (component rows c)
 
-  -- and one such u has as many ones as the degree, where that is not 0
-  abbrev pub Reached : Type 0
-  Reached = (j u : ℕ) × (1 ≤ j) × (j ≤ m) × (u < 2 ^ n) × (coefficient n (column rows j) u ≡ 1) × (ones u ≡ boxDegree n m rows)
+  -- no nonzero combination has a lower degree
+  no-lower : (c : ℕ) → 1 ≤ c → c < 2 ^ m → boxDegree n m rows .figure ≤ degree n (component rows c)
+  unfolding boxDegree degrees
+  no-lower c lo hi = firstLeast-le (degreesBy degreeOfMask m) (withDegree n rows c) (in-degrees degreeOfMask m c lo hi)
 
-  pub degree-is-reached : (boxDegree n m rows ≡ 0) ⊎ Reached
-  unfolding boxDegree
-  degree-is-reached = go (largest-reached m (λ i. degree n (column rows (suc i))))
-    where
-      in-column : (i : ℕ) → i < m → degree n (column rows (suc i)) ≡ boxDegree n m rows
-          → (degree n (column rows (suc i)) ≡ 0) ⊎ ((u : ℕ) × (u < 2 ^ n) × (coefficient n (column rows (suc i)) u ≡ 1) × (ones u ≡ degree n (column rows (suc i)))) → (boxDegree n m rows ≡ 0) ⊎ Reached
-      in-column i l e (inl z) = inl (sym e ∙ z)
-      in-column i l e (inr t) = inr (suc i, t .0, omega arith, omega arith, t .1, t .2, t .3 ∙ e)
+  -- a combination has it
+  has-it : (c : ℕ) × (1 ≤ c) × (c < 2 ^ m) × (boxDegree n m rows ≡ withDegree n rows c)
+  unfolding boxDegree degrees
+  has-it =
+      let t = degrees-nonempty degreeOfMask m (accepted-box .m-low) in
+      mem-degrees degreeOfMask m (boxDegree n m rows) (subst (λ (l : List Candidate). List·Memᴰ (firstLeast l) l) (sym (t .2)) (firstLeast-mem (t .0) (t .1)))
 
-      go : (boxDegree n m rows ≡ 0) ⊎ ((i : ℕ) × (i < m) × (degree n (column rows (suc i)) ≡ boxDegree n m rows)) → (boxDegree n m rows ≡ 0) ⊎ Reached
-      go (inl z) = inl z
-      go (inr t) = in-column (t .0) (t .1) (t .2) (degree-reached n (column rows (suc (t .0))))
+  -- and each combination before it has a higher one
+  higher : (c : ℕ) → boxDegree n m rows ≡ withDegree n rows c → (c′ : ℕ) → 1 ≤ c′ → c′ < 2 ^ m → c′ < c → boxDegree n m rows .figure < degree n (component rows c′)
+  unfolding boxDegree degrees
+  higher c e c′ lo hi l =
+      let t = degrees-nonempty degreeOfMask m (accepted-box .m-low) in
+      first-ranked mask (λ r p. r .figure < p .figure) (ascending-degrees degreeOfMask m)
+      (subst (λ (l : List Candidate). First (λ r p. r .figure < p .figure) (firstLeast l) l) (sym (t .2)) (firstLeast-first (t .0) (t .1)))
+      (withDegree n rows c′) (in-degrees degreeOfMask m c′ lo hi) (omega (arith, ap mask e))
+
+  -- Document 02: "The box's degree becomes that least value, with the first combination that has it."
+  pub degree-reported : DegreeReported n m rows (boxDegree n m rows .figure)
+  degree-reported =
+      let t = has-it in
+      record {
+        c = t .0;
+        reply = sym (reply-accepted accepted (shown (boxDegree n m rows))) ∙ ap (λ (p : Candidate). figures (boxDegree n m rows .figure ∷ p .witness)) (t .3);
+        least = no-lower;
+        c-low = t .1;
+        c-high = t .2;
+        reached = sym (ap (λ (p : Candidate). p .figure) (t .3));
+        higher-before = λ c′ lo l. higher (t .0) (t .3) c′ lo (omega (arith, t .2)) l;
+      }
+
+  -- it is at most n
+  pub degree-at-most : boxDegree n m rows .figure ≤ n
+  degree-at-most = let t = has-it in omega (arith, ap (λ (p : Candidate). p .figure) (t .3), degree-le n (component rows (t .0)))
+
+  boolean : (c x : ℕ) → x < 2 ^ n → component rows c x < 2
+  boolean c x l = component-lt rows c x
+
+  -- Document 02: "A constant combination has degree 0." And no other has.
+  pub constant-combination : (c : ℕ) → (degree n (component rows c) ≡ 0) ↔ Constant n (component rows c)
+  constant-combination c = (degree-constant n (component rows c) (boolean c), constant-degree n (component rows c) (component rows c 0))
+
+  -- Two criteria tied together: the degree is at most 1 exactly when the nonlinearity is 0. For a combination of degree 1 or 0 is an affine
+  -- function, and one that differs from an affine function at no input is that function.
+  pub degree-and-nonlinearity : (boxDegree n m rows .figure ≤ 1) ↔ (nonlinearity n m rows .figure ≡ 0)
+  degree-and-nonlinearity = (
+    λ h.
+        let t = has-it in
+        let f = component rows (t .0) in
+        let s = degree-affine n f (boolean (t .0)) (omega (arith, ap (λ (p : Candidate). p .figure) (t .3))) in
+        let least = linear.least n m rows (t .0) (s .0) (s .1) (record { c-low = t .1; c-high = t .2; w-high = s .2; b-high = s .3 }) in
+        omega (arith, distance-none n f (s .0) (s .1) (s .4)),
+    λ z.
+        let t = linear.reached n m rows (accepted-box .m-low) in
+        let f = component rows (t .0) in
+        let same = distance-same n f (t .1) (t .2) (sym (ap (λ (p : Candidate). p .figure) (t .4)) ∙ z) in
+        omega (arith, no-lower (t .0) (t .3 .c-low) (t .3 .c-high), affine-degree n f (t .1) (t .2) (t .3 .w-high) same),
+  )
 
 -- ---- a bijective box
 module _ (n m : ℕ) (rows : List ℕ) (size : length rows ≡ 2 ^ n) where
-  abbrev pub Injective : Type 0
-  Injective = (x y : ℕ) → x < 2 ^ n → y < 2 ^ n → at rows x ≡ at rows y → x ≡ y
-
-  injective : distinct rows ≡ true → Injective
+  injective : distinct rows ≡ true → Injective n rows
   injective d x y hx hy e = go (decLt x y) (decLt y x)
     where
       go : Dec (x < y) → Dec (y < x) → x ≡ y
@@ -88,7 +132,7 @@ module _ (n m : ℕ) (rows : List ℕ) (size : length rows ≡ 2 ^ n) where
       go (no p) (no q) = omega arith
 
   -- exactly where n = m and two inputs with equal rows are equal
-  pub bijective-iff : (bijective n m rows ≡ true) ↔ ((n ≡ m) × Injective)
+  pub bijective-iff : (bijective n m rows ≡ true) ↔ ((n ≡ m) × Injective n rows)
   unfolding bijective
   bijective-iff = (
     λ b. let p = both (eqb n m) (distinct rows) b in (eqb-true n m (p .0), injective (p .1)),

@@ -1,15 +1,25 @@
 -- The degree of a box, and bijectivity.
-use Prim.Native.Nat.{ℕ, suc}
+use Prim.Native.Nat.{ℕ}
 use mathlib.Core.Bool.{Bool, _&&_}
-use mathlib.Core.List.{List}
+use mathlib.Core.List.{List, [], _∷_}
 use lib.Dec.{eqb}
-use Rattle.boolean.specs.Sums.{largestBelow, distinct}
-use Rattle.boolean.specs.Functions.{degree, column}
+use Rattle.boolean.specs.Sums.{each, distinct}
+use Rattle.boolean.specs.Functions.{degree, component, components}
+use Rattle.boolean.specs.Selection.{Candidate, firstLeast}
 
--- the degree of a box: the largest among its columns 1 to m
-unfoldable pub boxDegree : ℕ → ℕ → List ℕ → ℕ
-unfolding largestBelow degree column
-boxDegree n m rows = largestBelow m (λ i. degree n (column rows (suc i)))
+-- the component at the mask c, with its degree
+abbrev pub withDegree : ℕ → List ℕ → ℕ → Candidate
+withDegree n rows c = record { figure = degree n (component rows c); witness = c ∷ [] }
+
+-- all components with their degrees, in the components' order
+unfoldable pub degrees : ℕ → ℕ → List ℕ → List Candidate
+unfolding each degree component components
+degrees n m rows = each (components m) (λ c. withDegree n rows c ∷ [])
+
+-- the degree of a box: the least degree of a component, with the first component that has it
+unfoldable pub boxDegree : ℕ → ℕ → List ℕ → Candidate
+unfolding firstLeast degrees
+boxDegree n m rows = firstLeast (degrees n m rows)
 
 -- bijective: n = m and no two rows equal
 unfoldable pub bijective : ℕ → ℕ → List ℕ → Bool

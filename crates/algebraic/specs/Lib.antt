@@ -1,2 +1,3 @@
 pub mod Algebraic
 pub mod Calls
+pub mod Statements

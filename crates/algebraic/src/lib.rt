@@ -1,42 +1,89 @@
 // The algebraic normal form of a function, the degree of a box, and bijectivity.
+mod order;
+
 use refusals::Checked;
 use refusals::Refusal;
 use refusals::Verdict;
 use refusals::Written;
 ghost use mathlib.Core.Path.{_≡_};
 ghost use mathlib.Core.Bool.{not};
-ghost use mathlib.Core.List.{[]};
-ghost use Prim.Native.Nat.{_+_, _^_, _≤_, max};
+ghost use mathlib.Core.List.{[], _∷_};
+ghost use Prim.Native.Nat.{ℕ, _+_, _^_, _≤_, _<_};
+ghost use lib.Count.{ones};
 ghost use lib.Dec.{eqb};
 ghost use lib.ListN.{length};
-ghost use Rattle.boolean.specs.Sums.{largestBelow, every};
-ghost use Rattle.boolean.specs.Functions.{at, column, normalForm};
-ghost use Rattle.boolean.specs.Functions as functions;
-ghost use Rattle.refusals.specs.Table.{tableCallChecks, first, replyAfter, contentAfter, written, verdict};
-ghost use Rattle.boolean.specs.Sums.{distinct};
+ghost use Rattle.boolean.specs.Bits.{dot};
+ghost use Rattle.boolean.specs.Sums.{every, distinct};
+ghost use Rattle.boolean.specs.Functions.{at, normalForm};
+ghost use Rattle.boolean.specs.Selection.{best, lower, firstLeast};
+ghost use Rattle.refusals.specs.Table.{tableCallChecks, first, replyAfter, contentAfter, written, verdict, Box, Table};
 ghost use Rattle.algebraic.specs.Algebraic.{boxDegree};
-ghost use Rattle.algebraic.specs.Calls.{degreeReply, boxDegreeReply, bijectiveReply, onesWhere, Added, Working};
+ghost use Rattle.algebraic.specs.Calls.{degreeReply, boxDegreeReply, bijectiveReply, degreeAt, candidate, degreeOf, degreesOf, Added, Gathered, Swept};
+
+// The weakest component so far: its degree and its mask.
+pub struct Weakest {
+    pub degree: u32,
+    pub c: u32,
+}
 
 // The answer of the degree.
 pub enum DegreeFound {
-    Reached { degree: u32 },
+    Reached { degree: u32, c: u32 },
     Declined(Refusal),
 }
 
-// The truth table, copied to the array that the transform works in.
-fn copy(table: &[u8], out: &mut [u8])
-    requires { ⌜ length (now out) ≡ length (now table) ⌝ }
-    ensures { λ _. ⌜ now (out .exit) ≡ now (table .entry) ⌝ }
+// A truth value as a word, and a word that is a truth value.
+fn word_of(bit: u8) -> u16
+    ensures { λ r. ⌜ r ≡ bit ⌝ }
+{
+    bit as u16
+}
+
+fn bit_of(word: u16) -> u8
+    requires { ⌜ word < 2 ⌝ }
+    ensures { λ r. ⌜ r ≡ word ⌝ }
+{
+    word as u8
+}
+
+// The truth table, copied to the words that the transform works on.
+fn write_words(table: &[u8], words: &mut [u16])
+    requires { ⌜ length (now words) ≡ length (now table) ⌝ }
+    ensures { λ _. ⌜ now (words .exit) ≡ now (table .entry) ⌝ }
 {
     let mut x = 0;
     while x < table.len() {
-        out[x] = table[x];
+        words[x] = word_of(table[x]);
+        x += 1;
+    }
+}
+
+// And back.
+fn write_bits(words: &[u16], out: &mut [u8])
+    requires { ⌜ (length (now out) ≡ length (now words)) × ((x : ℕ) → at (now words) x < 2) ⌝ }
+    ensures { λ _. ⌜ now (out .exit) ≡ now (words .entry) ⌝ }
+{
+    let mut x = 0;
+    while x < words.len() {
+        out[x] = bit_of(words[x]);
+        x += 1;
+    }
+}
+
+// The rows, copied to the words that the transform works on.
+fn copy(rows: &[u16], words: &mut [u16])
+    requires { ⌜ length (now words) ≡ length (now rows) ⌝ }
+    ensures { λ _. ⌜ now (words .exit) ≡ now (rows .entry) ⌝ }
+{
+    let mut x = 0;
+    while x < rows.len() {
+        words[x] = rows[x];
         x += 1;
     }
 }
 
 // The lower half is XORed to the upper half, and stays.
-fn add_lower_half(values: &mut [u8], h: usize)
+fn add_lower_half(values: &mut [u16], h: usize)
     requires { ⌜ length (now values) ≡ h + h ⌝ }
     ensures { λ _. ⌜ Added h (now (values .entry)) (now (values .exit)) ⌝ }
 {
@@ -47,9 +94,10 @@ fn add_lower_half(values: &mut [u8], h: usize)
     }
 }
 
-// The normal form in place. A number with the top bit has within it what lies within the rest, with the top bit and without: so each
-// half is brought to its normal form, and the lower is then XORed to the upper. The width falls by one at each cut.
-fn moebius(n: u32, values: &mut [u8])
+// The normal form in place, of a truth table or of all columns of a box at once: XOR does not mix the bits of a word. A number with the top
+// bit has within it what lies within the rest, with the top bit and without: so each half is brought to its normal form, and the lower is
+// then XORed to the upper. The width falls by one at each cut.
+fn moebius(n: u32, values: &mut [u16])
     requires { ⌜ length (now values) ≡ 2 ^ n ⌝ }
     ensures { λ _. ⌜ now (values .exit) ≡ normalForm n (at (now (values .entry))) ⌝ }
 {
@@ -61,6 +109,16 @@ fn moebius(n: u32, values: &mut [u8])
     }
 }
 
+// The normal form of a truth table, with an array of words to work in.
+fn write_form(n: u32, table: &[u8], words: &mut [u16], out: &mut [u8])
+    requires { ⌜ Table n (now table) × (length (now words) ≡ 2 ^ n) × (length (now out) ≡ 2 ^ n) ⌝ }
+    ensures { λ _. ⌜ now (out .exit) ≡ normalForm n (at (now (table .entry))) ⌝ }
+{
+    write_words(table, words);
+    moebius(n, words);
+    write_bits(words, out);
+}
+
 // The normal form of a truth table. The same call goes back, coefficients being read as truth values.
 pub fn normal_form(n: u32, table: &[u8], out: &mut [u8]) -> Written
     ensures reply { λ r. ⌜ written r ≡ replyAfter (first (tableCallChecks n (now (table .entry)) (length (now (out .entry))))) [] ⌝ }
@@ -69,80 +127,133 @@ pub fn normal_form(n: u32, table: &[u8], out: &mut [u8]) -> Written
     if let Checked::Refused(e) = refusals::check_table_call(n, table, out.len()) {
         return Written::Declined(e);
     }
-    copy(table, out);
-    moebius(n, out);
+    let mut words = [0u16; 256];
+    let size = table.len();
+    write_form(n, table, &mut words[..size], out);
     Written::Done
 }
 
-// The larger of two numbers.
-fn larger(a: u32, b: u32) -> u32
-    ensures { λ r. ⌜ r ≡ max a b ⌝ }
+// An input as an index, and its ones.
+fn place_of(u: u8) -> usize
+    ensures { λ r. ⌜ r ≡ u ⌝ }
 {
-    if a < b { b } else { a }
+    u as usize
 }
 
-// The most ones so far, with those of u, which count where its coefficient is 1.
-fn with_place(most: u32, coefficient: u8, u: u32) -> u32
-    ensures { λ r. ⌜ r ≡ max most (onesWhere coefficient u) ⌝ }
+fn ones_of(u: u8) -> u32
+    ensures { λ r. ⌜ r ≡ ones u ⌝ }
 {
-    if coefficient != 1 {
-        return most;
+    u8::count_ones(u)
+}
+
+// Whether the component at the mask c has the coefficient 1 where the normal form has this word.
+fn is_odd(word: u16, c: u32) -> bool
+    ensures { λ r. ⌜ r ≡ eqb (dot word c) 1 ⌝ }
+{
+    boolean::dot(word as u32, c) == 1
+}
+
+// Whether the normal form has a word other than 0 at u. A word of 0 is a coefficient 0 of every component.
+fn is_present(words: &[u16], u: u8) -> bool
+    ensures { λ r. ⌜ r ≡ not (eqb (at (now (words .entry)) u) 0) ⌝ }
+{
+    let place = place_of(u);
+    if place < words.len() {
+        words[place] != 0
+    } else {
+        false
     }
-    larger(most, u32::count_ones(u))
 }
 
-// The most ones in any u with coefficient 1, and 0 if there is none.
-fn most_ones(coefficients: &[u8]) -> u32
-    requires { ⌜ length (now coefficients) ≤ 256 ⌝ }
-    ensures { λ r. ⌜ r ≡ largestBelow (length (now (coefficients .entry))) (λ u. onesWhere (at (now (coefficients .entry)) u) u) ⌝ }
+// The inputs at which the normal form has a word other than 0, those with the most ones first, and their number.
+fn gather(words: &[u16], inputs: &mut [u8]) -> usize
+    requires { ⌜ (length (now words) ≤ 256) × (length (now inputs) ≡ 256) ⌝ }
+    ensures { λ r. ⌜ Gathered (now (words .entry)) (now (inputs .exit)) r ⌝ }
 {
-    let size = coefficients.len() as u32;
-    let mut most: u32 = 0;
-    let mut u: u32 = 0;
-    while u < size {
-        most = with_place(most, coefficients[u as usize], u);
-        u += 1;
+    let table = order::by_ones();
+    let mut count: usize = 0;
+    let mut i: usize = 0;
+    while i < 256 {
+        if is_present(words, table[i]) {
+            inputs[count] = table[i];
+            count += 1;
+        }
+        i += 1;
     }
-    most
+    count
 }
 
-// The degree of column j. The column is the component at the mask 2^(j−1); the lent array is left with its normal form.
-fn column_degree(n: u32, rows: &[u16], j: u32, table: &mut [u8]) -> u32
-    requires { ⌜ Working n (now rows) (now table) × (1 ≤ j) × (j ≤ 16) ⌝ }
-    ensures { λ r. ⌜ (r ≡ functions.degree n (column (now (rows .entry)) j)) × (now (table .exit) ≡ normalForm n (column (now (rows .entry)) j)) ⌝ }
+// The degree of the component at the mask c: the first input that is found odd has the most ones.
+fn component_degree(words: &[u16], inputs: &[u8], count: usize, c: u32) -> u32
+    requires { ⌜ Gathered (now words) (now inputs) count ⌝ }
+    ensures { λ r. ⌜ r ≡ degreeOf (now (words .entry)) c ⌝ }
 {
-    let mask = boolean::power_of_two(j - 1) as u32;
-    linear::write_component(rows, mask, table);
-    moebius(n, table);
-    most_ones(table)
-}
-
-// The largest degree among columns 1 to m. The lent array is left with the normal form of the last.
-fn largest_degree(n: u32, m: u32, rows: &[u16], table: &mut [u8]) -> u32
-    requires { ⌜ Working n (now rows) (now table) × (1 ≤ m) × (m ≤ 16) ⌝ }
-    ensures { λ r. ⌜ (r ≡ boxDegree n m (now (rows .entry))) × (now (table .exit) ≡ normalForm n (column (now (rows .entry)) m)) ⌝ }
-{
-    let mut largest: u32 = 0;
-    let mut done: u32 = 0;
-    while done < m {
-        let found = column_degree(n, rows, done + 1, table);
-        largest = larger(largest, found);
-        done += 1;
+    let mut i: usize = 0;
+    while i < count {
+        let u = inputs[i];
+        if is_odd(words[place_of(u)], c) {
+            return ones_of(u);
+        }
+        i += 1;
     }
-    largest
+    0
 }
 
-// The degree of a box: the largest among its columns.
+// The weakest component so far, with the one at the mask c.
+fn weaker(found: Weakest, degree: u32, c: u32) -> Weakest
+    ensures { λ r. ⌜ candidate r ≡ best lower (candidate found) (degreeAt degree c ∷ []) ⌝ }
+{
+    if degree < found.degree {
+        Weakest { degree, c }
+    } else {
+        found
+    }
+}
+
+// Every component in turn, from 1 to 2^m − 1. It starts from a degree that no component has.
+fn sweep(n: u32, m: u32, words: &[u16], inputs: &[u8], count: usize) -> Weakest
+    requires { ⌜ Swept n m (now words) × Gathered (now words) (now inputs) count ⌝ }
+    ensures { λ r. ⌜ candidate r ≡ firstLeast (degreesOf m (now (words .entry))) ⌝ }
+{
+    let masks = boolean::power_of_two(m) as u32;
+    let mut found = Weakest {
+        degree: n + 1,
+        c: 0,
+    };
+    let mut c: u32 = 1;
+    while c < masks {
+        let degree = component_degree(words, inputs, count, c);
+        found = weaker(found, degree, c);
+        c += 1;
+    }
+    found
+}
+
+// The weakest component of a box, with two arrays to work in.
+fn weakest_of(n: u32, m: u32, rows: &[u16], words: &mut [u16], inputs: &mut [u8]) -> Weakest
+    requires { ⌜ Box n m (now rows) × (length (now words) ≡ 2 ^ n) × (length (now inputs) ≡ 256) ⌝ }
+    ensures { λ r. ⌜ candidate r ≡ boxDegree n m (now (rows .entry)) ⌝ }
+{
+    copy(rows, words);
+    moebius(n, words);
+    let count = gather(words, inputs);
+    sweep(n, m, words, inputs, count)
+}
+
+// The degree of a box: the least degree of a nonzero combination, with the first that has it.
 pub fn degree(n: u32, m: u32, rows: &[u16]) -> DegreeFound
     ensures { λ r. ⌜ degreeReply r ≡ boxDegreeReply n m (now (rows .entry)) ⌝ }
 {
     if let Checked::Refused(e) = refusals::check_box(n, m, rows) {
         return DegreeFound::Declined(e);
     }
-    let mut table = [0u8; 256];
+    let mut words = [0u16; 256];
+    let mut inputs = [0u8; 256];
     let size = rows.len();
+    let found = weakest_of(n, m, rows, &mut words[..size], &mut inputs);
     DegreeFound::Reached {
-        degree: largest_degree(n, m, rows, &mut table[..size]),
+        degree: found.degree,
+        c: found.c,
     }
 }
 

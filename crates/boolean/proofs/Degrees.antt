@@ -8,11 +8,12 @@ use borrow.Author.Tests.{eq-eqb, eqb-true}
 use lib.Count.{ones, ones-le}
 use lib.Dec.{eqb}
 use lib.ListN.{length}
+use Rattle.boolean.specs.Bits.{dot}
 use Rattle.boolean.specs.Sums.{largestBelow}
-use Rattle.boolean.specs.Functions.{at, coefficient, normalForm, degree}
+use Rattle.boolean.specs.Functions.{at, coefficient, component, normalForm, degree}
 use Rattle.boolean.proofs.Lists.{length-listBelow, getD-listBelow, listBelow-cong, list-is}
 use Rattle.boolean.proofs.Largest.{largest-cong, largest-le, le-largest, largest-reached}
-use Rattle.boolean.proofs.NormalForm.{coefficient-cong, normal-form-involution}
+use Rattle.boolean.proofs.NormalForm.{coefficient-cong, coefficient-component, normal-form-involution}
 
 module _ (n : ℕ) (f : ℕ → ℕ) where
   pub length-normal-form : length (normalForm n f) ≡ 2 ^ n
@@ -22,11 +23,6 @@ module _ (n : ℕ) (f : ℕ → ℕ) where
   pub at-normal-form : (u : ℕ) → u < 2 ^ n → at (normalForm n f) u ≡ coefficient n f u
   unfolding normalForm
   at-normal-form u l = getD-listBelow (2 ^ n) (λ u. coefficient n f u) u 0 l
-
--- of functions that are equal where they are asked
-pub normal-form-cong : (n : ℕ) (f g : ℕ → ℕ) → ((x : ℕ) → x < 2 ^ n → f x ≡ g x) → normalForm n f ≡ normalForm n g
-unfolding normalForm
-normal-form-cong n f g h = listBelow-cong (2 ^ n) _ _ (λ u l. coefficient-cong n f g u h)
 
 -- the normal form of the normal form is the table again
 pub normal-form-twice : (n : ℕ) (table : List ℕ) → length table ≡ 2 ^ n → normalForm n (at (normalForm n (at table))) ≡ table
@@ -39,15 +35,22 @@ normal-form-twice n table long =
 -- ---- the degree
 
 -- the ones of u count where its coefficient is 1
-abbrev term : ℕ → ℕ → ℕ
+abbrev pub term : ℕ → ℕ → ℕ
 term a u = cond (eqb a 1) (ones u) 0
 
-term-le : (k a u : ℕ) → u < 2 ^ k → term a u ≤ k
-term-le k a u l = go (eqb a 1)
+term-le : (m a u : ℕ) → (a ≡ 1 → ones u ≤ m) → term a u ≤ m
+term-le m a u h = go (eqb a 1) refl
   where
-    go : (t : Bool) → cond t (ones u) 0 ≤ k
-    go true = ones-le k u l
-    go false = zero-le
+    go : (t : Bool) → eqb a 1 ≡ t → cond t (ones u) 0 ≤ m
+    go true e = h (eqb-true a 1 e)
+    go false e = zero-le
+
+-- the most ones of a number with the coefficient 1: what bounds each bounds it, and it bounds each
+pub most-le : (k m : ℕ) (a : ℕ → ℕ) → ((u : ℕ) → u < k → a u ≡ 1 → ones u ≤ m) → largestBelow k (λ u. term (a u) u) ≤ m
+most-le k m a h = largest-le k m _ (λ u l. term-le m (a u) u (h u l))
+
+pub le-most : (k : ℕ) (a : ℕ → ℕ) (u : ℕ) → u < k → a u ≡ 1 → ones u ≤ largestBelow k (λ u. term (a u) u)
+le-most k a u l e = subst (λ (t : Bool). cond t (ones u) 0 ≤ largestBelow k (λ u. term (a u) u)) (eq-eqb (a u) 1 e) (le-largest k (λ u. term (a u) u) u l)
 
 -- a term that is not 0 has the coefficient 1
 term-cases : (a u : ℕ) → (term a u ≡ 0) ⊎ ((a ≡ 1) × (ones u ≡ term a u))
@@ -57,23 +60,24 @@ term-cases a u = go (eqb a 1) refl
     go true e = inr (eqb-true a 1 e, refl)
     go false e = inl refl
 
-module _ (n : ℕ) (f : ℕ → ℕ) where
-  -- read from the normal form
-  pub degree-read : (form : List ℕ) → form ≡ normalForm n f → largestBelow (length form) (λ u. cond (eqb (at form u) 1) (ones u) 0) ≡ degree n f
-  unfolding degree
-  degree-read form e =
-      ap (λ (k : ℕ). largestBelow k (λ u. term (at form u) u)) (ap length e ∙ length-normal-form n f)
-      ∙ largest-cong (2 ^ n) _ _ (λ u l. ap (λ (a : ℕ). term a u) (ap (λ (g : List ℕ). at g u) e ∙ at-normal-form n f u l))
+-- of a component, read from the words that the normal form of the rows has
+pub degree-read : (n : ℕ) (rows : List ℕ) (c : ℕ) (words : List ℕ) → words ≡ normalForm n (at rows)
+    → largestBelow (length words) (λ u. cond (eqb (dot (at words u) c) 1) (ones u) 0) ≡ degree n (component rows c)
+unfolding degree
+degree-read n rows c words e =
+    ap (λ (k : ℕ). largestBelow k (λ u. term (dot (at words u) c) u)) (ap length e ∙ length-normal-form n (at rows))
+    ∙ largest-cong (2 ^ n) _ _
+    (λ u l. ap (λ (a : ℕ). term a u) (ap (λ (g : List ℕ). dot (at g u) c) e ∙ ap (λ (a : ℕ). dot a c) (at-normal-form n (at rows) u l) ∙ coefficient-component n rows c u))
 
+module _ (n : ℕ) (f : ℕ → ℕ) where
   pub degree-le : degree n f ≤ n
   unfolding degree
-  degree-le = largest-le (2 ^ n) n _ (λ u l. term-le n (coefficient n f u) u l)
+  degree-le = most-le (2 ^ n) n (λ u. coefficient n f u) (λ u l e. ones-le n u l)
 
   -- the ones of each u with coefficient 1
   pub le-degree : (u : ℕ) → u < 2 ^ n → coefficient n f u ≡ 1 → ones u ≤ degree n f
   unfolding degree
-  le-degree u l e =
-      subst (λ (t : Bool). cond t (ones u) 0 ≤ degree n f) (eq-eqb (coefficient n f u) 1 e) (le-largest (2 ^ n) (λ u. term (coefficient n f u) u) u l)
+  le-degree u l e = le-most (2 ^ n) (λ u. coefficient n f u) u l e
 
   -- and those of one such u are the degree, where it is not 0
   pub degree-reached : (degree n f ≡ 0) ⊎ ((u : ℕ) × (u < 2 ^ n) × (coefficient n f u ≡ 1) × (ones u ≡ degree n f))

@@ -1,21 +1,11 @@
 -- The largest of the numbers that a rule gives below k: its bounds, and where it is reached.
 use mathlib.Core.Path.{_≡_, refl, ap, ap₂}
 use mathlib.Core.Logic.{_⊎_, inl, inr}
-use Prim.Native.Nat.{ℕ, zero, suc, _+_, _<_, _≤_, max, zero-le}
+use Prim.Native.Nat.{ℕ, zero, suc, _<_, _≤_, max, zero-le}
 use native.Mathlib.Nat.{le-refl, le-suc, le-trans, not-suc-le-zero}
 use native.Mathlib.Decide.{decLe, ℕ-discrete}
-use native.Mathlib.Numerals.{add-one}
 use native.Mathlib.Omega.{arith}
 use Rattle.boolean.specs.Sums.{largestBelow}
-
-pub largest-none : (f : ℕ → ℕ) → 0 ≡ largestBelow 0 f
-unfolding largestBelow
-largest-none f = refl
-
--- one number more
-pub largest-more : (k : ℕ) (f : ℕ → ℕ) → max (largestBelow k f) (f k) ≡ largestBelow (k + 1) f
-unfolding largestBelow
-largest-more k f = rw (add-one k)
 
 pub largest-cong : (k : ℕ) (f g : ℕ → ℕ) → ((x : ℕ) → x < k → f x ≡ g x) → largestBelow k f ≡ largestBelow k g
 unfolding largestBelow

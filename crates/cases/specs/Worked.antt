@@ -17,7 +17,7 @@ use Rattle.differential.specs.XorTable.{difference, cell, cellsOf, cells, large
 use Rattle.differential.specs.Calls.{xorReply}
 use Rattle.avalanche.specs.Avalanche.{shifts, atMost, measured, boxAutocorrelation, imbalance, dynamicDistance}
 use Rattle.avalanche.specs.Calls.{distanceChecks, distanceReply, autocorrelationReply}
-use Rattle.algebraic.specs.Algebraic.{boxDegree}
+use Rattle.algebraic.specs.Algebraic.{degrees, boxDegree}
 use Rattle.algebraic.specs.Calls.{boxDegreeReply}
 use Rattle.constructions.specs.Enlargement.{enlarged, enlargedTable, enlargedRows}
 use Rattle.constructions.specs.BentForm.{bentForm, bentTable, isPermutation}
@@ -126,10 +126,10 @@ cases =
     -- 1
     (nonlinearityOf 1 1 (0 ∷ 1 ∷ []) is says (figures (0 ∷ 1 ∷ 1 ∷ 0 ∷ [])))
     ∷ (distanceOf 1 1 (0 ∷ 1 ∷ []) 1 1 is says (figures (1 ∷ 1 ∷ 1 ∷ [])))
-    ∷ (degreeOf 1 1 (0 ∷ 1 ∷ []) is says (figures (1 ∷ [])))
+    ∷ (degreeOf 1 1 (0 ∷ 1 ∷ []) is says (figures (1 ∷ 1 ∷ [])))
     -- 2
     ∷ (nonlinearityOf 1 1 (0 ∷ 0 ∷ []) is says (figures (0 ∷ 1 ∷ 0 ∷ 0 ∷ [])))
-    ∷ (degreeOf 1 1 (0 ∷ 0 ∷ []) is says (figures (0 ∷ [])))
+    ∷ (degreeOf 1 1 (0 ∷ 0 ∷ []) is says (figures (0 ∷ 1 ∷ [])))
     -- 3
     ∷ (spectrumOf 2 (0 ∷ 0 ∷ 0 ∷ 1 ∷ []) (pos 0 ∷ pos 0 ∷ pos 0 ∷ pos 0 ∷ []) is holdsSigned (pos 2 ∷ pos 2 ∷ pos 2 ∷ negsuc 1 ∷ []))
     ∷ (nonlinearityOf 2 1 (0 ∷ 0 ∷ 0 ∷ 1 ∷ []) is says (figures (1 ∷ 1 ∷ 0 ∷ 0 ∷ [])))
@@ -190,5 +190,5 @@ bounds =
     ∷ []
 
 pub worked : T (right cases && right bounds)
-unfolding parity dot affine bit within ones sumBelow one-if countBelow xorBelow listFrom listBelow each every keep largestBelow distinct agreement walsh spectrum distance autocorrelation changes coefficient degree column component components sign transform signBit inverse isSpectrum best firstLeast firstLargest first tableCallChecks inverseLengths functionCheck inverseChecks pairsOf pairs nonlinearity difference cell cellsOf cells largestCell shifts atMost measured boxAutocorrelation imbalance dynamicDistance distanceChecks boxDegree enlarged enlargedTable enlargedRows bentForm bentTable isPermutation columnChecks enlargeChecks bentChecks
+unfolding parity dot affine bit within ones sumBelow one-if countBelow xorBelow listFrom listBelow each every keep largestBelow distinct agreement walsh spectrum distance autocorrelation changes coefficient degree column component components sign transform signBit inverse isSpectrum best firstLeast firstLargest first tableCallChecks inverseLengths functionCheck inverseChecks pairsOf pairs nonlinearity difference cell cellsOf cells largestCell shifts atMost measured boxAutocorrelation imbalance dynamicDistance distanceChecks degrees boxDegree enlarged enlargedTable enlargedRows bentForm bentTable isPermutation columnChecks enlargeChecks bentChecks
 worked = tt

@@ -12,7 +12,8 @@ use Rattle.boolean.proofs.Dots.{bit-cases}
 use Rattle.boolean.proofs.Transform.{half-cases}
 use Rattle.boolean.proofs.Xor.{xor-cancel}
 use Rattle.algebraic.specs.Algebraic.{bijective}
-use Rattle.algebraic.proofs.Theorems.{bijective-iff, Injective}
+use Rattle.algebraic.specs.Statements.{Injective}
+use Rattle.algebraic.proofs.Theorems.{bijective-iff}
 use Rattle.constructions.specs.Enlargement.{enlarged, enlargedRows}
 use Rattle.constructions.proofs.Halves.{input-bit-lt, enlarged-lower, enlarged-upper, length-enlarged-rows, at-enlarged-rows, low-part-lt}
 
@@ -48,7 +49,7 @@ module _ (n : ℕ) (rows table : List ℕ) (k : ℕ) (size : length rows ≡ 2 ^
   upper-row : (x : ℕ) → enlarged n (at rows) k 0 (2 ^ n + x) ≡ at rows (bitXor x e)
   upper-row x = enlarged-upper n (at rows) k 0 x ∙ xor-zero-r (at rows (bitXor x e))
 
-  module _ (injective : Injective n n rows size) where
+  module _ (injective : Injective n rows) where
     -- an input of the lower half and one of the upper with equal low parts have different top bits
     apart : (x y : ℕ) → x < 2 ^ n → y < 2 ^ n → enlarged n (at rows) k 0 x ≡ enlarged n (at rows) k 0 (2 ^ n + y)
         → enlarged n (at table) k 1 x ≡ enlarged n (at table) k 1 (2 ^ n + y) → ⊥

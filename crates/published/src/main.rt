@@ -83,11 +83,12 @@ fn show_verdict(answer: Verdict) {
 
 fn show_degree(n: u32, m: u32, rows: &[u16]) {
     let answer = algebraic::degree(n, m, rows);
-    let DegreeFound::Reached { degree } = answer else {
+    let DegreeFound::Reached { degree, c } = answer else {
         return;
     };
     io::write_all(STDOUT_FILENO, b"degree");
     lines::write_number(degree);
+    lines::write_number(c);
     lines::end_line();
     io::write_all(STDOUT_FILENO, b"complete");
     show_verdict(avalanche::is_complete(n, m, rows));

@@ -91,7 +91,7 @@ fn give_degree(answer: DegreeFound, figures: &mut [u32]) -> u32
     ensures content { λ r. ⌜ now (figures .exit) ≡ figuresAfter (lent (degreeReply answer) (length (now (figures .entry)))) (now (figures .entry)) ⌝ }
 {
     match answer {
-        DegreeFound::Reached { degree } => give(&[degree], figures),
+        DegreeFound::Reached { degree, c } => give(&[degree, c], figures),
         DegreeFound::Declined(e) => refusals::number_of(e),
     }
 }

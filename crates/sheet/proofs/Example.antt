@@ -12,7 +12,7 @@ use Rattle.linear.specs.Nonlinearity.{pairsOf, pairs, nonlinearity}
 use Rattle.differential.specs.XorTable.{difference, cell, cellsOf, cells, largestCell}
 use Rattle.avalanche.specs.Avalanche.{shifts, atMost, measured, boxAutocorrelation, imbalance, dynamicDistance, complete}
 use Rattle.avalanche.specs.Calls.{distanceChecks}
-use Rattle.algebraic.specs.Algebraic.{boxDegree, bijective}
+use Rattle.algebraic.specs.Algebraic.{degrees, boxDegree, bijective}
 use Rattle.boxfile.specs.File.{rowAt, rowsOf, readChecks, fileChecks}
 use Rattle.texts.specs.Text as text
 use Rattle.texts.specs.Text.{bytes, spaced, line}
@@ -22,7 +22,7 @@ use Rattle.sheet.specs.Sheet.{yesOrNo, outcome, untilRefused, sheetLines
 abbrev pub exampleFile : List ℕ
 exampleFile = 3 ∷ 3 ∷ 3 ∷ 0 ∷ 1 ∷ 0 ∷ 4 ∷ 0 ∷ 0 ∷ 0 ∷ 2 ∷ 0 ∷ 5 ∷ 0 ∷ 6 ∷ 0 ∷ 7 ∷ 0 ∷ []
 
--- The sheet that document 01 prints.
-pub example-sheet : sheetText exampleFile ≡ bytes "box 3 3\nnonlinearity 0 7 7 0\nxor 4 3 3\nautocorrelation 8 1 3\nsac 0 1 1\nbic 0 1 1\ndegree 2\ncomplete yes\nbijective yes\n"
-unfolding parity dot affine bit within ones sumBelow one-if countBelow xorBelow listFrom listBelow each every keep largestBelow distinct agreement distance autocorrelation changes coefficient degree column component components best firstLeast firstLargest first pairsOf pairs nonlinearity difference cell cellsOf cells largestCell shifts atMost measured boxAutocorrelation imbalance dynamicDistance complete distanceChecks boxDegree bijective rowAt rowsOf readChecks fileChecks text.within spaced line yesOrNo outcome untilRefused sheetLines fileReply sheetText
+-- The sheet that document 01 prints, with the degree of document 02.
+pub example-sheet : sheetText exampleFile ≡ bytes "box 3 3\nnonlinearity 0 7 7 0\nxor 4 3 3\nautocorrelation 8 1 3\nsac 0 1 1\nbic 0 1 1\ndegree 1 7\ncomplete yes\nbijective yes\n"
+unfolding parity dot affine bit within ones sumBelow one-if countBelow xorBelow listFrom listBelow each every keep largestBelow distinct agreement distance autocorrelation changes coefficient degree column component components best firstLeast firstLargest first pairsOf pairs nonlinearity difference cell cellsOf cells largestCell shifts atMost measured boxAutocorrelation imbalance dynamicDistance complete distanceChecks degrees boxDegree bijective rowAt rowsOf readChecks fileChecks text.within spaced line yesOrNo outcome untilRefused sheetLines fileReply sheetText
 example-sheet = refl

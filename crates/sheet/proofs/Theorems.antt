@@ -74,7 +74,7 @@ textsOf n m rows =
     ∷ line (bytes "autocorrelation") (shown (boxAutocorrelation n m rows))
     ∷ line (bytes "sac") (shown (dynamicDistance n m rows 1 1))
     ∷ cond (eqb m 1) (line (bytes "bic none") []) (line (bytes "bic") (shown (dynamicDistance n m rows 2 1)))
-    ∷ line (bytes "degree") (boxDegree n m rows ∷ [])
+    ∷ line (bytes "degree") (shown (boxDegree n m rows))
     ∷ line (bytes "complete" ++ yesOrNo (asFigure (complete n m rows))) []
     ∷ line (bytes "bijective" ++ yesOrNo (asFigure (bijective n m rows))) []
     ∷ []

@@ -46,20 +46,20 @@ fn write_from_complete(n: u32, m: u32, rows: &[u16], text: &mut [u8], at: usize)
 }
 
 fn write_from_degree(n: u32, m: u32, rows: &[u16], text: &mut [u8], at: usize) -> usize
-    requires { ⌜ at + 45 ≤ length (now text) ⌝ }
-    ensures { λ r. ⌜ Printed (drop 5 (sheetLines n m (now (rows .entry)))) 45 at (now (text .entry)) r (now (text .exit)) ⌝ }
+    requires { ⌜ at + 56 ≤ length (now text) ⌝ }
+    ensures { λ r. ⌜ Printed (drop 5 (sheetLines n m (now (rows .entry)))) 56 at (now (text .entry)) r (now (text .exit)) ⌝ }
 {
     let answer = algebraic::degree(n, m, rows);
-    let DegreeFound::Reached { degree } = answer else {
+    let DegreeFound::Reached { degree, c } = answer else {
         return at;
     };
-    let next = texts::put_line(text, at, b"degree", &[degree]);
+    let next = texts::put_line(text, at, b"degree", &[degree, c]);
     write_from_complete(n, m, rows, text, next)
 }
 
 fn write_from_bic(n: u32, m: u32, rows: &[u16], text: &mut [u8], at: usize) -> usize
-    requires { ⌜ at + 82 ≤ length (now text) ⌝ }
-    ensures { λ r. ⌜ Printed (drop 4 (sheetLines n m (now (rows .entry)))) 82 at (now (text .entry)) r (now (text .exit)) ⌝ }
+    requires { ⌜ at + 93 ≤ length (now text) ⌝ }
+    ensures { λ r. ⌜ Printed (drop 4 (sheetLines n m (now (rows .entry)))) 93 at (now (text .entry)) r (now (text .exit)) ⌝ }
 {
     if m == 1 {
         let after_none = texts::put_bytes(text, at, b"bic none\n");
@@ -74,8 +74,8 @@ fn write_from_bic(n: u32, m: u32, rows: &[u16], text: &mut [u8], at: usize) -> u
 }
 
 fn write_from_sac(n: u32, m: u32, rows: &[u16], text: &mut [u8], at: usize) -> usize
-    requires { ⌜ at + 119 ≤ length (now text) ⌝ }
-    ensures { λ r. ⌜ Printed (drop 3 (sheetLines n m (now (rows .entry)))) 119 at (now (text .entry)) r (now (text .exit)) ⌝ }
+    requires { ⌜ at + 130 ≤ length (now text) ⌝ }
+    ensures { λ r. ⌜ Printed (drop 3 (sheetLines n m (now (rows .entry)))) 130 at (now (text .entry)) r (now (text .exit)) ⌝ }
 {
     let answer = avalanche::dynamic_distance(n, m, rows, 1, 1);
     let LargestChange::Reached { figure, c, s } = answer else {
@@ -86,8 +86,8 @@ fn write_from_sac(n: u32, m: u32, rows: &[u16], text: &mut [u8], at: usize) -> u
 }
 
 fn write_from_autocorrelation(n: u32, m: u32, rows: &[u16], text: &mut [u8], at: usize) -> usize
-    requires { ⌜ at + 168 ≤ length (now text) ⌝ }
-    ensures { λ r. ⌜ Printed (drop 2 (sheetLines n m (now (rows .entry)))) 168 at (now (text .entry)) r (now (text .exit)) ⌝ }
+    requires { ⌜ at + 179 ≤ length (now text) ⌝ }
+    ensures { λ r. ⌜ Printed (drop 2 (sheetLines n m (now (rows .entry)))) 179 at (now (text .entry)) r (now (text .exit)) ⌝ }
 {
     let answer = avalanche::autocorrelation(n, m, rows);
     let LargestChange::Reached { figure, c, s } = answer else {
@@ -98,8 +98,8 @@ fn write_from_autocorrelation(n: u32, m: u32, rows: &[u16], text: &mut [u8], at:
 }
 
 fn write_from_xor(n: u32, m: u32, rows: &[u16], text: &mut [u8], at: usize) -> usize
-    requires { ⌜ at + 205 ≤ length (now text) ⌝ }
-    ensures { λ r. ⌜ Printed (drop 1 (sheetLines n m (now (rows .entry)))) 205 at (now (text .entry)) r (now (text .exit)) ⌝ }
+    requires { ⌜ at + 216 ≤ length (now text) ⌝ }
+    ensures { λ r. ⌜ Printed (drop 1 (sheetLines n m (now (rows .entry)))) 216 at (now (text .entry)) r (now (text .exit)) ⌝ }
 {
     let answer = differential::largest_cell(n, m, rows);
     let LargestCell::Reached { count, a, beta } = answer else {
@@ -110,8 +110,8 @@ fn write_from_xor(n: u32, m: u32, rows: &[u16], text: &mut [u8], at: usize) -> u
 }
 
 fn write_from_nonlinearity(n: u32, m: u32, rows: &[u16], text: &mut [u8], at: usize) -> usize
-    requires { ⌜ at + 262 ≤ length (now text) ⌝ }
-    ensures { λ r. ⌜ Printed (sheetLines n m (now (rows .entry))) 262 at (now (text .entry)) r (now (text .exit)) ⌝ }
+    requires { ⌜ at + 273 ≤ length (now text) ⌝ }
+    ensures { λ r. ⌜ Printed (sheetLines n m (now (rows .entry))) 273 at (now (text .entry)) r (now (text .exit)) ⌝ }
 {
     let answer = linear::nonlinearity(n, m, rows);
     let LeastPair::Reached { count, c, w, b } = answer else {
@@ -137,8 +137,8 @@ fn room_of(file: &[u8]) -> usize
 
 // The sheet of a file, whose rows are read to an array that has room for them.
 fn write_read(file: &[u8], rows: &mut [u16], text: &mut [u8]) -> usize
-    requires { ⌜ Room (now file) (length (now rows)) × (288 ≤ length (now text)) ⌝ }
-    ensures { λ r. ⌜ (r ≡ length (sheetText (now (file .entry)))) × (r ≤ 288) × (now (text .exit) ≡ sets (now (text .entry)) 0 (sheetText (now (file .entry)))) ⌝ }
+    requires { ⌜ Room (now file) (length (now rows)) × (299 ≤ length (now text)) ⌝ }
+    ensures { λ r. ⌜ (r ≡ length (sheetText (now (file .entry)))) × (r ≤ 299) × (now (text .exit) ≡ sets (now (text .entry)) 0 (sheetText (now (file .entry)))) ⌝ }
 {
     let answer = boxfile::read_box(file, rows);
     let BoxFile::Read { n, m } = answer else {

@@ -45,6 +45,9 @@ module _ (t : ℕ) where
   sub-moebius-2 : lts.Need-sub-moebius-2 (calls t) (given t) moebius.Post
   sub-moebius-2 c = search needs
 
+  mul-moebius : lts.Need-mul-moebius (calls t) (given t) moebius.Post
+  mul-moebius c = search needs
+
   sub-moebius-3 : lts.Need-sub-moebius-3 (calls t) (given t) moebius.Post
   sub-moebius-3 c = search needs
 
@@ -101,5 +104,5 @@ pub +moebius-spec : {M : Type 1} → statement M
 +moebius-spec =
     close μ (λ t. lts.spec (calls t) (given t) moebius.Post
     (sub-moebius t) (slice-relend-prefix-moebius t) (slice-aggregate-moebius t) (moebius-requires t) (sub-moebius-2 t)
-    (sub-moebius-3 t) (part-moebius-start t) (part-moebius-end t) (moebius-requires-2 t)
+    (mul-moebius t) (sub-moebius-3 t) (part-moebius-start t) (part-moebius-end t) (moebius-requires-2 t)
     (add-lower-half-requires t) (same-length t) (returns t) (returns-2 t))

@@ -1,9 +1,9 @@
--- `algebraic::degree` meets its contract: what the checks found says which case it is, and the sweep of the columns has the degree. Assumes nothing.
-use mathlib.Core.List.{[], _∷_}
-use mathlib.Core.Path.{_≡_, sym, ap, _∙_}
-use Prim.Native.Nat.{ℕ}
+-- `algebraic::degree` meets its contract: what the checks found says which case it is, and the sweep has the weakest component. Assumes nothing.
+use mathlib.Core.List.{[]}
+use mathlib.Core.Path.{_≡_, refl, sym, ap, _∙_}
 use borrow.Author.Needs.{needs}
 use lib.Seq.{length-take-le}
+use Rattle.boolean.specs.Selection.{Candidate, shown}
 use Rattle.refusals.specs.Table.{figures, first, boxChecks, Box}
 use Rattle.refusals.specs.declared.Checked.the-variants.{Accepted}
 use Rattle.refusals.proofs.Checks.{box, reply-refused, reply-accepted}
@@ -29,21 +29,22 @@ accepted c = sym (c .before .before .check-box .ensures) ∙ c .enum-told .given
 boxed : (c : tie.After-enum-told) → let a = c .before .before .before .before .args in Box (a .n) (a .m) (a .rows .now)
 boxed c = let a = c .before .before .before .before .args in box (a .n) (a .m) (a .rows .now) [] (accepted c)
 
-array-borrow-prefix-table : tie.Need-array-borrow-prefix-table
-array-borrow-prefix-table c = boxed c .small
+array-borrow-prefix-words : tie.Need-array-borrow-prefix-words
+array-borrow-prefix-words c = boxed c .small
 
-slice-aggregate-largest-degree : tie.Need-slice-aggregate-largest-degree
-slice-aggregate-largest-degree c = sym (length-take-le _ _ (boxed (c .before) .small))
+slice-aggregate-weakest-of : tie.Need-slice-aggregate-weakest-of
+slice-aggregate-weakest-of c = sym (length-take-le _ _ (boxed (c .before) .small))
 
-largest-degree-requires : tie.Need-largest-degree-requires
-largest-degree-requires c κs =
-    let b = boxed (c .before) in
-    (record { size = b .size; small = b .small; room = length-take-le _ _ (b .small) ∙ b .size }, b .m-low, b .m-high)
+slice-aggregate-weakest-of-2 : tie.Need-slice-aggregate-weakest-of-2
+slice-aggregate-weakest-of-2 c = search needs
+
+weakest-of-requires : tie.Need-weakest-of-requires
+weakest-of-requires c κs = let b = boxed (c .before .before) in (b, length-take-le _ _ (b .small) ∙ b .size, refl)
 
 returns-2 : tie.Need-returns-2
 returns-2 c =
-    let swept = c .before in
-    ap (λ (k : ℕ). figures (k ∷ [])) (swept .largest-degree .ensures .0) ∙ reply-accepted (accepted (swept .before .before)) _
+    let swept = c .before .before in
+    ap (λ (k : Candidate). figures (shown k)) (swept .weakest-of .ensures) ∙ reply-accepted (accepted (swept .before .before .before)) _
 
 pub degree-spec : {M : Type 1} → statement M
 degree-spec =
@@ -53,7 +54,8 @@ degree-spec =
     enum-known-e
     returns
     enum-told
-    array-borrow-prefix-table
-    slice-aggregate-largest-degree
-    largest-degree-requires
+    array-borrow-prefix-words
+    slice-aggregate-weakest-of
+    slice-aggregate-weakest-of-2
+    weakest-of-requires
     returns-2)

@@ -1,12 +1,14 @@
 -- `algebraic::normal_form` meets its contract: what the checks found says which case it is, in the reply and in the array. Assumes nothing.
 use mathlib.Core.List.{List, []}
-use mathlib.Core.Path.{_≡_, sym, ap, _∙_}
-use Prim.Native.Nat.{ℕ, _^_}
+use mathlib.Core.Path.{_≡_, sym, _∙_}
+use Prim.Native.Nat.{ℕ, _^_, _≤_}
+use native.Mathlib.Omega.{arith}
 use borrow.Author.Needs.{needs}
 use borrow.Author.Tests.{eqb-true}
 use lib.ListN.{length}
-use Rattle.boolean.specs.Functions.{at, normalForm}
-use Rattle.refusals.specs.Table.{tableCallChecks, first, tableChecks}
+use lib.Pow.{pow-mono}
+use lib.Seq.{length-take-le}
+use Rattle.refusals.specs.Table.{tableCallChecks, first, tableChecks, Table}
 use Rattle.refusals.specs.declared.Checked.the-variants.{Accepted}
 use Rattle.refusals.proofs.Checks.{passed, accepted-after, table, reply-refused, reply-accepted, content-refused, content-accepted}
 use Rattle.algebraic.proofs.normal_form.Statement.{statement}
@@ -26,40 +28,49 @@ returns c =
 enum-told : tie.Need-enum-told
 enum-told c = search needs
 
--- accepted: the table and the array have 2^n places
-sizes : (n : ℕ) (values out : List ℕ) → first (tableCallChecks n values (length out)) ≡ Accepted → (length values ≡ 2 ^ n) × (length out ≡ 2 ^ n)
+-- accepted: the table is one, and the array has 2^n places
+room : (n : ℕ) (values out : List ℕ) → first (tableCallChecks n values (length out)) ≡ Accepted → length out ≡ 2 ^ n
 unfolding tableCallChecks
-sizes n values out h = (table n values _ h .size, eqb-true (length out) (2 ^ n) (passed _ (accepted-after (tableChecks n values) _ h) .0))
+room n values out h = eqb-true (length out) (2 ^ n) (passed _ (accepted-after (tableChecks n values) _ h) .0)
+
+tabled : (n : ℕ) (values out : List ℕ) → first (tableCallChecks n values (length out)) ≡ Accepted → Table n values
+unfolding tableCallChecks
+tabled n values out h = table n values _ h
+
+small : (n : ℕ) (values : List ℕ) → Table n values → length values ≤ 256
+small n values t = let most : 2 ^ n ≤ 256 = pow-mono (t .n-high) in omega (arith, t .size)
 
 accepted : (c : tie.After-enum-told) →
     let a = c .before .before .before .before .before .args in
     first (tableCallChecks (a .n) (a .table .now) (length (a .out .now))) ≡ Accepted
 accepted c = sym (c .before .before .check-table-call .ensures) ∙ c .enum-told .given .1
 
-sized : (c : tie.After-enum-told) →
-    let a = c .before .before .before .before .before .args in
-    (length (a .table .now) ≡ 2 ^ a .n) × (length (a .out .now) ≡ 2 ^ a .n)
-sized c = let a = c .before .before .before .before .before .args in sizes (a .n) (a .table .now) (a .out .now) (accepted c)
+is-table : (c : tie.After-enum-told) → let a = c .before .before .before .before .before .args in Table (a .n) (a .table .now)
+is-table c = let a = c .before .before .before .before .before .args in tabled (a .n) (a .table .now) (a .out .now) (accepted c)
 
-copy-requires : tie.Need-copy-requires
-copy-requires c κs = let s = sized (c .before) in s .1 ∙ sym (s .0)
+few : (c : tie.After-enum-told) → length (c .before .before .before .before .before .args .table .now) ≤ 256
+few c = let a = c .before .before .before .before .before .args in small (a .n) (a .table .now) (is-table c)
 
-moebius-requires : tie.Need-moebius-requires
-moebius-requires c κs =
-    let copied = c .before .before .before in
-    ap length (copied .copy .ensures) ∙ sized (copied .before .before) .0
+array-borrow-prefix-words : tie.Need-array-borrow-prefix-words
+array-borrow-prefix-words c = few c
+
+slice-aggregate-write-form : tie.Need-slice-aggregate-write-form
+slice-aggregate-write-form c = sym (length-take-le _ _ (few (c .before)))
+
+write-form-requires : tie.Need-write-form-requires
+write-form-requires c κs =
+    let told = c .before .before in
+    let a = told .before .before .before .before .before .args in
+    (is-table told, length-take-le _ _ (few told) ∙ is-table told .size, room (a .n) (a .table .now) (a .out .now) (accepted told))
 
 same-length : tie.Need-same-length
 same-length c = search needs
 
 returns-2 : tie.Need-returns-2
 returns-2 c =
-    let transformed = c .before .before in
-    let copied = transformed .before .before .before .before in
-    let told = copied .before .before in
-    let a = told .before .before .before .before .before .args in
-    let h = accepted told in
-    (reply-accepted h [], transformed .moebius .ensures ∙ ap (λ (t : List ℕ). normalForm (a .n) (at t)) (copied .copy .ensures) ∙ content-accepted h _ _)
+    let written = c .before .before .before in
+    let h = accepted (written .before .before .before) in
+    (reply-accepted h [], written .write-form .ensures ∙ content-accepted h _ _)
 
 pub normal-form-spec : {M : Type 1} → statement M
 normal-form-spec =
@@ -69,7 +80,8 @@ normal-form-spec =
     enum-known-e
     returns
     enum-told
-    copy-requires
-    moebius-requires
+    array-borrow-prefix-words
+    slice-aggregate-write-form
+    write-form-requires
     same-length
     returns-2)

@@ -35,7 +35,7 @@ put-line-requires c κs = search needs
 write-from-sac-requires : tie.Need-write-from-sac-requires
 write-from-sac-requires c κs =
     let put = c .before .before .before .put-line in
-    room-after 49 119 _ (line-few _ _) (put .ensures .0) (put .kept .0) (search needs)
+    room-after 49 130 _ (line-few _ _) (put .ensures .0) (put .kept .0) (search needs)
 
 same-length : tie.Need-same-length
 same-length c = search needs

@@ -35,7 +35,7 @@ put-line-requires c κs = search needs
 write-from-complete-requires : tie.Need-write-from-complete-requires
 write-from-complete-requires c κs =
     let put = c .before .before .before .put-line in
-    room-after 18 27 _ (line-few _ _) (put .ensures .0) (put .kept .0) (search needs)
+    room-after 29 27 _ (line-few _ _) (put .ensures .0) (put .kept .0) (search needs)
 
 same-length : tie.Need-same-length
 same-length c = search needs
@@ -47,7 +47,7 @@ returns-2 c =
     let put = done .before .before .before .before in
     let told = put .before .before .before .before .before in
     let reply = sym (told .before .before .degree .ensures) ∙ ap degreeReply (told .answer .given .1) in
-    printed-line 18 (numbers-shown "degree" reply) (line-few _ _) (put .put-line .ensures .0) (put .put-line .ensures .1) (done .write-from-complete .ensures)
+    printed-line 29 (numbers-shown "degree" reply) (line-few _ _) (put .put-line .ensures .0) (put .put-line .ensures .1) (done .write-from-complete .ensures)
 
 pub write-from-degree-spec : {M : Type 1} → statement M
 write-from-degree-spec =

@@ -35,7 +35,7 @@ put-line-requires c κs = search needs
 write-from-xor-requires : tie.Need-write-from-xor-requires
 write-from-xor-requires c κs =
     let put = c .before .before .before .put-line in
-    room-after 57 205 _ (line-few _ _) (put .ensures .0) (put .kept .0) (search needs)
+    room-after 57 216 _ (line-few _ _) (put .ensures .0) (put .kept .0) (search needs)
 
 same-length : tie.Need-same-length
 same-length c = search needs

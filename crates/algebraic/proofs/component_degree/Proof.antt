@@ -1,0 +1,101 @@
+-- `algebraic::component_degree` meets its contract: the inputs passed are not odd, and the first that is has the most ones. Assumes nothing.
+use mathlib.Core.Path.{sym, ap, _∙_}
+use Prim.Native.Nat.{ℕ, _-_, _≤_}
+use native.Mathlib.Omega.{arith}
+use borrow.Author.Count.{below-more}
+use borrow.Author.Needs.{needs}
+use borrow.Author.Tests.{eqb-true, eqb-false}
+use Rattle.boolean.specs.Bits.{dot}
+use Rattle.boolean.specs.Functions.{at}
+use Rattle.algebraic.proofs.Scanning.{NoneOdd, first-odd, none-odd}
+use Rattle.algebraic.proofs.component_degree.Statement.{statement}
+use Rattle.algebraic.proofs.component_degree.Tie as tie
+
+abbrev Inv-loop : tie.InvT-loop
+Inv-loop words inputs count c i₀ i = (i ≤ count) × NoneOdd words inputs c i
+
+abbrev μ-loop : tie.MeasureT-loop
+μ-loop words inputs count c i₀ i = count - i
+
+loop-holds : tie.Need-loop-holds Inv-loop μ-loop
+loop-holds c = (omega arith, λ j l e. omega arith)
+
+shared-slice-read-u : tie.Need-shared-slice-read-u Inv-loop μ-loop
+shared-slice-read-u c = search needs
+
+place-of-requires : tie.Need-place-of-requires Inv-loop μ-loop
+place-of-requires c κs = search needs
+
+mul-is-odd : tie.Need-mul-is-odd Inv-loop μ-loop
+mul-is-odd c =
+    let in-loop = c .before .before in
+    let at-loop = in-loop .before in
+    let start = at-loop .before .before .before in
+    omega (arith, c .place-of .ensures, start .pre .inside (at-loop .loop .i) (in-loop .loop-test .taken), start .good .0 .1)
+
+shared-slice-read-is-odd : tie.Need-shared-slice-read-is-odd Inv-loop μ-loop
+shared-slice-read-is-odd c =
+    let in-loop = c .before .before .before in
+    let at-loop = in-loop .before in
+    omega (arith, c .before .place-of .ensures, at-loop .before .before .before .pre .inside (at-loop .loop .i) (in-loop .loop-test .taken))
+
+is-odd-requires : tie.Need-is-odd-requires Inv-loop μ-loop
+is-odd-requires c κs = search needs
+
+ones-of-requires : tie.Need-ones-of-requires Inv-loop μ-loop
+ones-of-requires c κs = search needs
+
+returns : tie.Need-returns Inv-loop μ-loop
+returns c =
+    let found = c .before .before in
+    let placed = found .before .before in
+    let in-loop = placed .before .before in
+    let at-loop = in-loop .before in
+    let start = at-loop .before .before .before in
+    let a = start .args in
+    c .ones-of .ensures
+    ∙ first-odd (start .pre) (a .c) (at-loop .loop .i) (in-loop .loop-test .taken) (at-loop .loop .inv .1)
+    (ap (λ (u : ℕ). dot (at (a .words .now) u) (a .c)) (sym (placed .place-of .ensures)) ∙ eqb-true _ 1 (sym (found .is-odd .ensures) ∙ c .before .if1 .taken))
+
+add-i : tie.Need-add-i Inv-loop μ-loop
+add-i c = search needs
+
+loop-less : tie.Need-loop-less Inv-loop μ-loop
+loop-less c = search needs
+
+loop-again : tie.Need-loop-again Inv-loop μ-loop
+loop-again c =
+    let placed = c .before .before .before in
+    let at-loop = placed .before .before .before in
+    let a = at-loop .before .before .before .args in (
+      search needs,
+      below-more _ _ (at-loop .loop .inv .1)
+          (λ e.
+          eqb-false _ 1 (sym (c .before .is-odd .ensures) ∙ c .if1 .left)
+          (ap (λ (u : ℕ). dot (at (a .words .now) u) (a .c)) (placed .place-of .ensures) ∙ e)),
+    )
+
+returns-2 : tie.Need-returns-2 Inv-loop μ-loop
+returns-2 c =
+    let at-loop = c .before in
+    let start = at-loop .before .before .before in
+    none-odd (start .pre) (start .args .c) (λ j l. at-loop .loop .inv .1 j (omega (arith, l, c .loop-test .left)))
+
+pub component-degree-spec : {M : Type 1} → statement M
+component-degree-spec =
+    tie.close
+    (tie.spec
+    Inv-loop
+    μ-loop
+    loop-holds
+    shared-slice-read-u
+    place-of-requires
+    mul-is-odd
+    shared-slice-read-is-odd
+    is-odd-requires
+    ones-of-requires
+    returns
+    add-i
+    loop-less
+    loop-again
+    returns-2)

@@ -1,0 +1,46 @@
+-- `algebraic::weakest_of` meets its contract: the words are the normal form of the rows, and the sweep by them is that of the components. Assumes nothing.
+use mathlib.Core.List.{List}
+use mathlib.Core.Path.{ap, _∙_}
+use Prim.Native.Nat.{ℕ}
+use borrow.Author.Needs.{needs}
+use Rattle.boolean.specs.Functions.{at, normalForm}
+use Rattle.algebraic.proofs.Sweeping.{by-words}
+use Rattle.algebraic.proofs.weakest_of.Statement.{statement}
+use Rattle.algebraic.proofs.weakest_of.Tie as tie
+
+copy-requires : tie.Need-copy-requires
+copy-requires c κs = search needs
+
+moebius-requires : tie.Need-moebius-requires
+moebius-requires c κs = search needs
+
+gather-requires : tie.Need-gather-requires
+gather-requires c κs = search needs
+
+sweep-requires : tie.Need-sweep-requires
+sweep-requires c κs = search needs
+
+same-length : tie.Need-same-length
+same-length c = search needs
+
+same-length-2 : tie.Need-same-length-2
+same-length-2 c = search needs
+
+returns : tie.Need-returns
+returns c =
+    let formed = c .before .before .before .before .before .before .before .before .before .before in
+    let copied = formed .before .before .before .before in
+    let a = copied .before .before .before .before .before .args in
+    c .sweep .ensures ∙ by-words (a .n) (a .m) (a .rows .now) _ (formed .moebius .ensures ∙ ap (λ (l : List ℕ). normalForm (a .n) (at l)) (copied .copy .ensures))
+
+pub weakest-of-spec : {M : Type 1} → statement M
+weakest-of-spec =
+    tie.close
+    (tie.spec
+    copy-requires
+    moebius-requires
+    gather-requires
+    sweep-requires
+    same-length
+    same-length-2
+    returns)
