@@ -1,7 +1,8 @@
 -- `algebraic::gather` meets its contract: each turn passes one input of the table or puts it after those gathered. Assumes nothing.
 use mathlib.Core.Path.{sym, _∙_}
 use mathlib.Core.Logic.{⊎-elim}
-use Prim.Native.Nat.{_-_}
+use Prim.Native.Nat.{_-_, _<_}
+use native.Mathlib.Omega.{arith}
 use borrow.Author.Needs.{needs}
 use Rattle.algebraic.proofs.Gathering.{Gathering, gathering-none, gathering-passed, gathering-put, gathering-all}
 use Rattle.algebraic.proofs.gather.Statement.{statement}
@@ -44,7 +45,7 @@ loop-again : tie.Need-loop-again Inv-loop μ-loop
 loop-again c =
     let in-loop = c .before .before in
     let at-loop = in-loop .before in
-    let inside = in-loop .loop-test .taken in
+    let inside : at-loop .loop .i < 256 = omega (arith, in-loop .loop-test .taken) in
     let answer = sym (c .before .is-present .ensures) in
     ⊎-elim (λ t. rw (t .1, t .2) (gathering-put (at-loop .loop .inv) (at-loop .before .by-ones .ensures) inside (answer ∙ t .0 .taken)))
     (λ t. rw (t .1, t .2) (gathering-passed (at-loop .loop .inv) inside (answer ∙ t .0 .left))) (c .if1 .came)
@@ -53,7 +54,7 @@ same-length : tie.Need-same-length Inv-loop μ-loop
 same-length c = c .before .loop .inv .long ∙ sym (c .before .before .before .before .before .pre .1)
 
 returns : tie.Need-returns Inv-loop μ-loop
-returns c = gathering-all (c .before .loop .inv) (c .before .before .by-ones .ensures) (c .before .before .before .before .before .pre .0) (c .loop-test .left)
+returns c = gathering-all (c .before .loop .inv) (c .before .before .by-ones .ensures) (c .before .before .before .before .before .pre .0) (omega (arith, c .loop-test .left))
 
 pub gather-spec : {M : Type 1} → statement M
 gather-spec =
