@@ -138,8 +138,8 @@ fn chosen_boxes(random: &mut Random) -> bool {
             return false;
         };
         line("8x16", &format!("degree, {kind} box"), library, second);
-        let least = |program| (0..size.rounds).map(|_| time_of(program, size, &boxes).0).fold(f64::MAX, f64::min);
-        line("8x16", &format!("degree, {kind} box, to nonlinearity"), library, least(library_nonlinearity));
+        let (degree, nonlinearity, _) = least_times(library_degree, library_nonlinearity, size, &boxes);
+        line("8x16", &format!("degree, {kind} box, to nonlinearity"), degree, nonlinearity);
     }
     true
 }
@@ -159,17 +159,21 @@ fn shown(seconds: f64) -> String {
 /// The least time for one box, of the library and of the second program; nothing if their
 /// figures differ.
 fn times(measure: &Measure, size: &Size, boxes: &[Vec<u16>]) -> Option<(f64, f64)> {
-    let (mut library, mut second) = (f64::MAX, f64::MAX);
+    let (library, second, same) = least_times(measure.library, measure.second, size, boxes);
+    same.then_some((library, second))
+}
+
+/// The least times of two programs that take turns, and whether their figures were the same.
+fn least_times(one: Program, other: Program, size: &Size, boxes: &[Vec<u16>]) -> (f64, f64, bool) {
+    let (mut of_one, mut of_other, mut same) = (f64::MAX, f64::MAX, true);
     for _ in 0..size.rounds {
-        let (time, of_library) = time_of(measure.library, size, boxes);
-        library = library.min(time);
-        let (time, of_second) = time_of(measure.second, size, boxes);
-        second = second.min(time);
-        if of_library != of_second {
-            return None;
-        }
+        let (time, figures) = time_of(one, size, boxes);
+        of_one = of_one.min(time);
+        let (time, others) = time_of(other, size, boxes);
+        of_other = of_other.min(time);
+        same = same && figures == others;
     }
-    Some((library, second))
+    (of_one, of_other, same)
 }
 
 fn time_of(program: Program, size: &Size, boxes: &[Vec<u16>]) -> (f64, Vec<Figures>) {
