@@ -1,4 +1,4 @@
-/* Two figures of the box 3 1 4 0 2 5 6 7, and a refusal.
+/* Three figures of the box 3 1 4 0 2 5 6 7, and a refusal.
  *
  * With the library built, from this directory:
  *
@@ -30,6 +30,13 @@ int main(void)
     }
     printf("largest XOR cell %u: a = %u, beta = %u\n",
            (unsigned)figures[0], (unsigned)figures[1], (unsigned)figures[2]);
+
+    refusal = satmegwo_degree(3, 3, rows, 8, figures, 2);
+    if (refusal != 0) {
+        printf("refused %u\n", (unsigned)refusal);
+        return 1;
+    }
+    printf("degree %u: combination %u\n", (unsigned)figures[0], (unsigned)figures[1]);
 
     /* With two outputs the first row that is not below 4 stops the call. */
     refusal = satmegwo_nonlinearity(3, 2, rows, 8, figures, 4);
