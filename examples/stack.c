@@ -31,7 +31,7 @@ static uint32_t largest_cells(void) { return satmegwo_largest_cells(8, 16, rows,
 static uint32_t autocorrelation(void) { return satmegwo_autocorrelation(8, 16, rows, 256, figures, 3); }
 static uint32_t distance(void) { return satmegwo_dynamic_distance(8, 16, rows, 256, 2, 8, figures, 3); }
 static uint32_t normal_form(void) { return satmegwo_normal_form(8, table, 256, out_table, 256); }
-static uint32_t degree(void) { return satmegwo_degree(8, 16, rows, 256, figures, 1); }
+static uint32_t degree(void) { return satmegwo_degree(8, 16, rows, 256, figures, 2); }
 static uint32_t complete(void) { return satmegwo_complete(8, 16, rows, 256, figures, 1); }
 static uint32_t bijective(void) { return satmegwo_bijective(8, 16, rows, 256, figures, 1); }
 static uint32_t enlarge_column(void) { return satmegwo_enlarge_column(7, table, 128, 7, 1, out_table, 256); }
