@@ -10,12 +10,12 @@ use lib.Pow.{pow-lt, pow-pos}
 use Rattle.boolean.specs.Bits.{dot}
 use Rattle.boolean.specs.Sums.{listFrom, each}
 use Rattle.boolean.specs.Functions.{at, components, normalForm}
-use Rattle.boolean.specs.Selection.{Candidate, best, lower, firstLeast}
+use Rattle.boolean.specs.Selection.{Candidate, best, lower, firstLeast, Ascending}
 use Rattle.boolean.proofs.Degrees.{most-le, degree-read}
 use Rattle.boolean.proofs.Kept.{each-cong}
 use Rattle.boolean.proofs.Lists.{mem-each, in-each, each-from-one, ascending-each}
 use Rattle.boolean.proofs.Masks.{in-components, mem-components, ascending-components}
-use Rattle.boolean.proofs.Selection.{Ascending, best-append, firstLeast-from}
+use Rattle.boolean.proofs.Selection.{best-append, firstLeast-from}
 use Rattle.algebraic.specs.Algebraic.{degrees, boxDegree}
 use Rattle.algebraic.specs.Calls.{degreeAt, degreeOf, degreesOf, Swept}
 

@@ -5,7 +5,7 @@ use native.Mathlib.Omega.{arith}
 use lib.Pow.{pow-pos}
 use Rattle.boolean.specs.Functions.{components}
 use Rattle.boolean.proofs.Lists.{mem-listFrom, in-listFrom, ascending-listFrom}
-use Rattle.boolean.proofs.Selection.{Ascending}
+use Rattle.boolean.specs.Selection.{Ascending}
 
 module _ (m : ℕ) where
   pub in-components : (c : ℕ) → 1 ≤ c → c < 2 ^ m → List·Memᴰ c (components m)
