@@ -3,10 +3,10 @@
 
     make_box.py N M < numbers > file.box
 
-N is the number of inputs (1 to 8), M that of outputs (1 to 16). Standard input holds the
+N is the number of inputs (1 to 8), M that of outputs (1 to 32). Standard input holds the
 2^N rows, the output for input 0 first, separated by spaces or line ends; each is written
 in base ten, or with 0x in front in base sixteen, and lies below 2^M. The file is N and M
-in a byte each, then the rows, two bytes each, low byte first.
+in a byte each, then the rows, four bytes each, low byte first.
 """
 import sys
 
@@ -42,14 +42,14 @@ def box_file(inputs, outputs, words):
     if len(words) != 2**inputs:
         stop(f"{len(words)} rows were given, but {inputs} inputs need {2**inputs}")
     rows = [row(place, text, outputs) for place, text in enumerate(words)]
-    return bytes([inputs, outputs]) + b"".join(value.to_bytes(2, "little") for value in rows)
+    return bytes([inputs, outputs]) + b"".join(value.to_bytes(4, "little") for value in rows)
 
 
 def main():
     if len(sys.argv) != 3:
         stop("give N and M, and the rows on standard input")
     inputs = width("N", sys.argv[1], 8)
-    outputs = width("M", sys.argv[2], 16)
+    outputs = width("M", sys.argv[2], 32)
     try:
         words = sys.stdin.read().split()
     except UnicodeDecodeError:

@@ -15,29 +15,30 @@
 #define SIZE (1u << 20)
 #define PAINT 0xA5
 
-static uint16_t rows[256], half_rows[128], out_rows[256], counts[65536];
-static uint8_t table[256], out_table[256], permutation[16], file[514];
+static uint32_t rows[256], narrow_rows[256], square_rows[256], half_rows[128], out_rows[256], figures[4];
+static uint16_t counts[65536];
+static uint8_t table[256], out_table[256], permutation[16], file[1026];
 static int32_t values[256];
-static uint32_t list[32640], figures[4];
+static uint64_t list[32640];
 
 static uint32_t spectrum(void) { return satmegwo_spectrum(8, table, 256, values, 256); }
 static uint32_t inverse(void) { return satmegwo_inverse_spectrum(8, values, 256, out_table, 256); }
-static uint32_t component(void) { return satmegwo_component_spectrum(8, 16, rows, 256, 65535, values, 256); }
-static uint32_t nonlinearity(void) { return satmegwo_nonlinearity(8, 16, rows, 256, figures, 4); }
-static uint32_t add_to_column(void) { return satmegwo_add_to_column(8, 16, rows, 256, 16, 255, 1, out_rows, 256); }
-static uint32_t xor_row(void) { return satmegwo_xor_row(8, 16, rows, 256, 255, counts, 65536); }
-static uint32_t largest_cell(void) { return satmegwo_largest_cell(8, 16, rows, 256, figures, 3); }
-static uint32_t largest_cells(void) { return satmegwo_largest_cells(8, 16, rows, 256, list, 32640, figures, 1); }
-static uint32_t autocorrelation(void) { return satmegwo_autocorrelation(8, 16, rows, 256, figures, 3); }
-static uint32_t distance(void) { return satmegwo_dynamic_distance(8, 16, rows, 256, 2, 8, figures, 3); }
+static uint32_t component(void) { return satmegwo_component_spectrum(8, 32, rows, 256, 4294967295u, values, 256); }
+static uint32_t nonlinearity(void) { return satmegwo_nonlinearity(8, 32, rows, 256, 2, figures, 4); }
+static uint32_t add_to_column(void) { return satmegwo_add_to_column(8, 32, rows, 256, 32, 255, 1, out_rows, 256); }
+static uint32_t xor_row(void) { return satmegwo_xor_row(8, 16, narrow_rows, 256, 255, counts, 65536); }
+static uint32_t largest_cell(void) { return satmegwo_largest_cell(8, 32, rows, 256, figures, 3); }
+static uint32_t largest_cells(void) { return satmegwo_largest_cells(8, 32, rows, 256, list, 32640, figures, 1); }
+static uint32_t autocorrelation(void) { return satmegwo_autocorrelation(8, 32, rows, 256, 2, figures, 3); }
+static uint32_t distance(void) { return satmegwo_dynamic_distance(8, 32, rows, 256, 2, 8, figures, 3); }
 static uint32_t normal_form(void) { return satmegwo_normal_form(8, table, 256, out_table, 256); }
-static uint32_t degree(void) { return satmegwo_degree(8, 16, rows, 256, figures, 2); }
-static uint32_t complete(void) { return satmegwo_complete(8, 16, rows, 256, figures, 1); }
-static uint32_t bijective(void) { return satmegwo_bijective(8, 16, rows, 256, figures, 1); }
+static uint32_t degree(void) { return satmegwo_degree(8, 32, rows, 256, 2, figures, 2); }
+static uint32_t complete(void) { return satmegwo_complete(8, 32, rows, 256, figures, 1); }
+static uint32_t bijective(void) { return satmegwo_bijective(8, 8, square_rows, 256, figures, 1); }
 static uint32_t enlarge_column(void) { return satmegwo_enlarge_column(7, table, 128, 7, 1, out_table, 256); }
 static uint32_t enlarge_box(void) { return satmegwo_enlarge_box(7, half_rows, 128, table, 128, 7, out_rows, 256); }
 static uint32_t bent_function(void) { return satmegwo_bent_function(8, permutation, 16, table, 16, out_table, 256); }
-static uint32_t read_box(void) { return satmegwo_read_box(file, 514, out_rows, 256, figures, 2); }
+static uint32_t read_box(void) { return satmegwo_read_box(file, 1026, out_rows, 256, figures, 2); }
 
 static const struct { const char *name; uint32_t (*call)(void); } calls[] = {
     {"spectrum", spectrum}, {"inverse_spectrum", inverse}, {"component_spectrum", component}, {"nonlinearity", nonlinearity},
@@ -82,10 +83,12 @@ int main(void)
     if (stack == MAP_FAILED)
         return 1;
     file[0] = 8;
-    file[1] = 16;
+    file[1] = 32;
     for (uint32_t x = 0; x < 256; x++) {
-        rows[x] = (uint16_t)(x * 40503u);
-        half_rows[x % 128] = (uint16_t)(x % 128);
+        rows[x] = x * 2654435769u;
+        narrow_rows[x] = rows[x] >> 16;
+        square_rows[x] = x;
+        half_rows[x % 128] = x % 128;
         table[x] = (uint8_t)((x * x / 8) % 2);
         permutation[x % 16] = (uint8_t)(x % 16);
     }

@@ -1,10 +1,14 @@
 /* Satmegwo: a proved analyser of substitution boxes.
  *
- * THE BOX. A box has n inputs (1 to 8), m outputs (1 to 16) and 2^n rows; rows[x] is the
+ * THE BOX. A box has n inputs (1 to 8), m outputs (1 to 32) and 2^n rows; rows[x] is the
  * output for input x and lies below 2^m. Bit 1 is the lowest. Column j is bit j of the
  * rows. Combination c, from 1 to 2^m - 1, is the function that gives the parity of the
  * ones in (rows[x] & c). For w below 2^n, w.x is the parity of the ones in (w & x); an
  * affine function is w.x XOR b, b being 0 or 1. A truth table is 2^n bytes, each 0 or 1.
+ *
+ * THE LIMIT. A combination within the limit i, from 1 to m, is one of at most i outputs: c
+ * has 1 to i ones. With i = m these are all. A call over combinations visits each of those
+ * within its limit: 41,448 at 32 outputs with i = 4, and 4,294,967,295 with i = 32.
  *
  * ARRAYS. Every array is a pointer and its number of elements (not bytes). An array that
  * is written must not overlap any other array of the same call. An empty array may have
@@ -17,7 +21,7 @@
  *
  *    1  n is not 1 to 8 (in the two enlargements not 1 to 7, in the bent form not 2, 4,
  *       6 or 8)
- *    2  m is not 1 to 16
+ *    2  m is not 1 to 32 (for a row of the XOR table not 1 to 16)
  *    3  an array that is read has not 2^n elements (in the bent form: 2^(n/2))
  *    4  a row is not below 2^m, or a truth value is above 1
  *    5  the permutation of the bent form is none
@@ -41,7 +45,7 @@ extern "C" {
 
 /* STACK. No proof speaks of the machine's stack. Measured on x86-64 (examples/stack.c, at
  * the widest boxes), no call needs more than this many bytes of it. */
-#define SATMEGWO_STACK 140000u
+#define SATMEGWO_STACK 40000u
 
 /* ---- Spectrum ---------------------------------------------------------- */
 
@@ -63,40 +67,42 @@ uint32_t satmegwo_inverse_spectrum(uint32_t n, const int32_t *values, size_t val
  *   c     1 to 2^m - 1
  *   out   written, 2^n elements
  * Refusals: 1, 2, 3, 4, 6, 7. */
-uint32_t satmegwo_component_spectrum(uint32_t n, uint32_t m, const uint16_t *rows, size_t rows_len, uint32_t c, int32_t *out, size_t out_len);
+uint32_t satmegwo_component_spectrum(uint32_t n, uint32_t m, const uint32_t *rows, size_t rows_len, uint32_t c, int32_t *out, size_t out_len);
 
 /* ---- Nonlinearity ------------------------------------------------------ */
 
-/* The least number of inputs in which a nonzero combination differs from an affine
- * function, over all such combinations and all affine functions.
+/* The least number of inputs in which a combination within the limit i differs from an
+ * affine function, over all such combinations and all affine functions.
  *   rows     read, 2^n elements below 2^m
+ *   i        1 to m
  *   figures  written, 4 elements:
  *              figures[0]  the nonlinearity
  *              figures[1]  c, the first combination that reaches it
  *              figures[2]  w, the first for this c
  *              figures[3]  b, the first for this c and w
- * Refusals: 1, 2, 3, 4, 7. */
-uint32_t satmegwo_nonlinearity(uint32_t n, uint32_t m, const uint16_t *rows, size_t rows_len, uint32_t *figures, size_t figures_len);
+ * Refusals: 1, 2, 3, 4, 6, 7. */
+uint32_t satmegwo_nonlinearity(uint32_t n, uint32_t m, const uint32_t *rows, size_t rows_len, uint32_t i, uint32_t *figures, size_t figures_len);
 
 /* Adds an affine function to one column: bit j of out[x] is bit j of rows[x] XOR w.x XOR
- * b, the other bits stay as they are. The nonlinearity does not change by this.
+ * b, the other bits stay as they are. The nonlinearity does not change by this, with any i.
  *   rows  read, 2^n elements below 2^m
  *   j     the column, 1 to m
  *   w     below 2^n
  *   b     0 or 1
  *   out   written, 2^n elements
  * Refusals: 1, 2, 3, 4, 6, 7. */
-uint32_t satmegwo_add_to_column(uint32_t n, uint32_t m, const uint16_t *rows, size_t rows_len, uint32_t j, uint32_t w, uint32_t b, uint16_t *out, size_t out_len);
+uint32_t satmegwo_add_to_column(uint32_t n, uint32_t m, const uint32_t *rows, size_t rows_len, uint32_t j, uint32_t w, uint32_t b, uint32_t *out, size_t out_len);
 
 /* ---- XOR table --------------------------------------------------------- */
 
-/* One row of the XOR table: counts[beta] is the number of x with
- * rows[x] XOR rows[x XOR a] = beta.
+/* One row of the XOR table of a box of at most 16 outputs: counts[beta] is the number of x
+ * with rows[x] XOR rows[x XOR a] = beta.
+ *   m       1 to 16
  *   rows    read, 2^n elements below 2^m
  *   a       1 to 2^n - 1
  *   counts  written, 2^m elements
  * Refusals: 1, 2, 3, 4, 6, 7. */
-uint32_t satmegwo_xor_row(uint32_t n, uint32_t m, const uint16_t *rows, size_t rows_len, uint32_t a, uint16_t *counts, size_t counts_len);
+uint32_t satmegwo_xor_row(uint32_t n, uint32_t m, const uint32_t *rows, size_t rows_len, uint32_t a, uint16_t *counts, size_t counts_len);
 
 /* The largest cell of the XOR table, over all a from 1 and all beta.
  *   rows     read, 2^n elements below 2^m
@@ -105,34 +111,37 @@ uint32_t satmegwo_xor_row(uint32_t n, uint32_t m, const uint16_t *rows, size_t r
  *              figures[1]  a, the first that reaches it
  *              figures[2]  beta, the first for this a
  * Refusals: 1, 2, 3, 4, 7. */
-uint32_t satmegwo_largest_cell(uint32_t n, uint32_t m, const uint16_t *rows, size_t rows_len, uint32_t *figures, size_t figures_len);
+uint32_t satmegwo_largest_cell(uint32_t n, uint32_t m, const uint32_t *rows, size_t rows_len, uint32_t *figures, size_t figures_len);
 
 /* All cells that reach the largest count. Each stands in the list once, as
- * a * 65536 + beta; their order is open. Entries past the last cell are left as they
+ * a * 4294967296 + beta; their order is open. Entries past the last cell are left as they
  * were. 32,640 entries are enough for every box.
  *   rows     read, 2^n elements below 2^m
  *   list     written, at least as many elements as there are cells
  *   figures  written, 1 element: the number of cells
  * Refusals: 1, 2, 3, 4, 7 (figures), 9 (the list is too short; the number of cells is
  * not told). */
-uint32_t satmegwo_largest_cells(uint32_t n, uint32_t m, const uint16_t *rows, size_t rows_len, uint32_t *list, size_t list_len, uint32_t *figures, size_t figures_len);
+uint32_t satmegwo_largest_cells(uint32_t n, uint32_t m, const uint32_t *rows, size_t rows_len, uint64_t *list, size_t list_len, uint32_t *figures, size_t figures_len);
 
 /* ---- Autocorrelation and dynamic distance ------------------------------- */
 
-/* The largest |r(s)| over all combinations c from 1 and all s from 1 to 2^n - 1, r(s) being the
- * sum over x of +1 where the combination is equal at x and x XOR s, and -1 elsewhere.
+/* The largest |r(s)| over all combinations within the limit i and all s from 1 to 2^n - 1,
+ * r(s) being the sum over x of +1 where the combination is equal at x and x XOR s, and -1
+ * elsewhere.
  *   rows     read, 2^n elements below 2^m
+ *   i        1 to m
  *   figures  written, 3 elements:
  *              figures[0]  the largest |r(s)|
  *              figures[1]  c, the first combination that reaches it
  *              figures[2]  s, the first for this c
- * Refusals: 1, 2, 3, 4, 7. */
-uint32_t satmegwo_autocorrelation(uint32_t n, uint32_t m, const uint16_t *rows, size_t rows_len, uint32_t *figures, size_t figures_len);
+ * Refusals: 1, 2, 3, 4, 6, 7. */
+uint32_t satmegwo_autocorrelation(uint32_t n, uint32_t m, const uint32_t *rows, size_t rows_len, uint32_t i, uint32_t *figures, size_t figures_len);
 
 /* The dynamic distance of order (i, j), doubled so that it is whole: the largest
  * |2^(n-1) - (number of x at which combination c changes when the bits of d are flipped)|
- * over all c with 1 to i ones and all d with 1 to j ones. The strict avalanche criterion
- * holds when order (1, 1) gives 0, the bit independence criterion when (2, 1) does.
+ * over all combinations c within the limit i and all d with 1 to j ones. The strict
+ * avalanche criterion holds when order (1, 1) gives 0, the bit independence criterion when
+ * (2, 1) does.
  *   rows     read, 2^n elements below 2^m
  *   i        1 to m
  *   j        1 to n
@@ -141,7 +150,7 @@ uint32_t satmegwo_autocorrelation(uint32_t n, uint32_t m, const uint16_t *rows, 
  *              figures[1]  c, the first combination that reaches it
  *              figures[2]  d, the first for this c
  * Refusals: 1, 2, 3, 4, 6, 7. */
-uint32_t satmegwo_dynamic_distance(uint32_t n, uint32_t m, const uint16_t *rows, size_t rows_len, uint32_t i, uint32_t j, uint32_t *figures, size_t figures_len);
+uint32_t satmegwo_dynamic_distance(uint32_t n, uint32_t m, const uint32_t *rows, size_t rows_len, uint32_t i, uint32_t j, uint32_t *figures, size_t figures_len);
 
 /* ---- Normal form, completeness, bijectivity ----------------------------- */
 
@@ -152,27 +161,28 @@ uint32_t satmegwo_dynamic_distance(uint32_t n, uint32_t m, const uint16_t *rows,
  * Refusals: 1, 3, 4, 7. */
 uint32_t satmegwo_normal_form(uint32_t n, const uint8_t *table, size_t table_len, uint8_t *out, size_t out_len);
 
-/* The degree: the least of all nonzero combinations. The degree of a combination is the
- * most ones in any u at which its normal form has the coefficient 1, and 0 if there is
- * none: a constant has degree 0.
+/* The degree: the least of all combinations within the limit i. The degree of a
+ * combination is the most ones in any u at which its normal form has the coefficient 1,
+ * and 0 if there is none: a constant has degree 0.
  *   rows     read, 2^n elements below 2^m
+ *   i        1 to m
  *   figures  written, 2 elements:
  *              figures[0]  the degree
  *              figures[1]  c, the first combination that has it
- * Refusals: 1, 2, 3, 4, 7. */
-uint32_t satmegwo_degree(uint32_t n, uint32_t m, const uint16_t *rows, size_t rows_len, uint32_t *figures, size_t figures_len);
+ * Refusals: 1, 2, 3, 4, 6, 7. */
+uint32_t satmegwo_degree(uint32_t n, uint32_t m, const uint32_t *rows, size_t rows_len, uint32_t i, uint32_t *figures, size_t figures_len);
 
 /* Whether every input bit changes every column at some x.
  *   rows     read, 2^n elements below 2^m
  *   figures  written, 1 element: 1 for yes, 0 for no
  * Refusals: 1, 2, 3, 4, 7. */
-uint32_t satmegwo_complete(uint32_t n, uint32_t m, const uint16_t *rows, size_t rows_len, uint32_t *figures, size_t figures_len);
+uint32_t satmegwo_complete(uint32_t n, uint32_t m, const uint32_t *rows, size_t rows_len, uint32_t *figures, size_t figures_len);
 
 /* Whether n = m and no two rows are equal.
  *   rows     read, 2^n elements below 2^m
  *   figures  written, 1 element: 1 for yes, 0 for no
  * Refusals: 1, 2, 3, 4, 7. */
-uint32_t satmegwo_bijective(uint32_t n, uint32_t m, const uint16_t *rows, size_t rows_len, uint32_t *figures, size_t figures_len);
+uint32_t satmegwo_bijective(uint32_t n, uint32_t m, const uint32_t *rows, size_t rows_len, uint32_t *figures, size_t figures_len);
 
 /* ---- Boxes made from boxes ---------------------------------------------- */
 
@@ -195,7 +205,7 @@ uint32_t satmegwo_enlarge_column(uint32_t n, const uint8_t *table, size_t table_
  *   k      1 to n
  *   out    written, 2^(n+1) elements
  * Refusals: 1, 3 (either), 4 (either), 6, 7. */
-uint32_t satmegwo_enlarge_box(uint32_t n, const uint16_t *rows, size_t rows_len, const uint8_t *table, size_t table_len, uint32_t k, uint16_t *out, size_t out_len);
+uint32_t satmegwo_enlarge_box(uint32_t n, const uint32_t *rows, size_t rows_len, const uint8_t *table, size_t table_len, uint32_t k, uint32_t *out, size_t out_len);
 
 /* A bent function by the form of Maiorana and McFarland. With h = n / 2,
  * out[x * 2^h + y] is the parity of the ones in (permutation[x] & y), XOR table[x].
@@ -209,12 +219,12 @@ uint32_t satmegwo_bent_function(uint32_t n, const uint8_t *permutation, size_t p
 /* ---- Box files ----------------------------------------------------------- */
 
 /* Reads a box from the bytes of a box file: n and m in a byte each, then the 2^n rows,
- * two bytes each, low byte first.
- *   file     read, 2 + 2 * 2^n bytes
+ * four bytes each, low byte first.
+ *   file     read, 2 + 4 * 2^n bytes
  *   rows     written, 2^n elements; a caller takes n from file[0]
  *   figures  written, 2 elements: n, m
  * Refusals: 10 (under 2 bytes), 1, 2, 10 (another length), 4, 7 (rows), 7 (figures). */
-uint32_t satmegwo_read_box(const uint8_t *file, size_t file_len, uint16_t *rows, size_t rows_len, uint32_t *figures, size_t figures_len);
+uint32_t satmegwo_read_box(const uint8_t *file, size_t file_len, uint32_t *rows, size_t rows_len, uint32_t *figures, size_t figures_len);
 
 #ifdef __cplusplus
 }

@@ -1,8 +1,9 @@
-//! Every refusal from both sides of its bound, one fault at a time.
-use crate::calls::{Run, FIGURE_CALLS};
-use crate::compare::every_box_call;
+//! Every refusal from both sides of its bound, one fault at a time, and the order of the checks.
+use crate::calls::{Run, FIGURE_CALLS, LIMITED_CALLS};
+use crate::compare::{every_box_call, usual_limits};
 use second_model::boxes;
-use second_model::model;
+use second_model::combinations::quick_limit;
+use second_model::model::{self, all_outputs};
 
 pub fn all(run: &mut Run) {
     widths_of_boxes(run);
@@ -11,6 +12,8 @@ pub fn all(run: &mut Run) {
     lengths_read(run);
     truth_values(run);
     parameters_of_boxes(run);
+    limits(run);
+    checks_one_after_the_other(run);
     parameters_of_enlargements(run);
     lengths_written(run);
     bent_forms(run);
@@ -22,8 +25,9 @@ pub fn all(run: &mut Run) {
 /// that is 2^16 or 2^31 too large shows a call that looks at its lower bits only.
 fn around(low: u32, high: u32) -> Vec<u32> {
     let inside = [low, low + 1, high - (high - low).min(1), high];
-    let outside = [low.wrapping_sub(1), high + 1, low + (1 << 8), low + (1 << 16), high + (1 << 31), u32::MAX];
-    [&inside[..], &outside[..]].concat()
+    let near = [low.wrapping_sub(1), high.wrapping_add(1)];
+    let far = [low + (1 << 8), low + (1 << 16), high.wrapping_add(1 << 31), u32::MAX];
+    [&inside[..], &near[..], &far[..]].concat()
 }
 
 /// Lengths around the right one, which is at least 1.
@@ -42,11 +46,12 @@ fn power(n: u32) -> usize {
 
 fn widths_of_boxes(run: &mut Run) {
     let wide = [0, 1, 2, 8, 9, 31, 32, 33, 64, 256 + 3, 65536 + 3, u32::MAX];
-    let outputs = [0, 1, 2, 16, 17, 18, 31, 32, 33, 256 + 3, 65536 + 3, u32::MAX];
+    let outputs = [0, 1, 2, 16, 17, 18, 31, 32, 33, 34, 64, 256 + 3, 65536 + 3, u32::MAX];
     for n in wide {
         for m in outputs {
-            let rows: Vec<u16> = (0..power(n)).map(|_| run.random.below(1 << m.min(16)) as u16).collect();
-            every_box_call(run, n, m, &rows);
+            let rows: Vec<u32> = (0..power(n)).map(|_| run.random.draw() as u32 & all_outputs(m.min(32))).collect();
+            let limits = usual_limits(run, n, m);
+            every_box_call(run, n, m, &rows, &limits);
         }
     }
 }
@@ -58,27 +63,32 @@ fn widths_of_tables(run: &mut Run) {
         run.normal_form(n, &table, power(n));
         run.inverse_spectrum(n, &vec![0; power(n)], power(n));
         run.enlarge_column(n, &table, (1, 1), 2 * power(n));
-        let rows: Vec<u16> = table.iter().map(|&v| u16::from(v)).collect();
+        let rows: Vec<u32> = table.iter().map(|&v| u32::from(v)).collect();
         run.enlarge_box(n, &rows, &table, 1, 2 * power(n));
     }
 }
 
-/// Row 2^m - 1 is taken and 2^m is not, wherever it stands.
+/// Row 2^m - 1 is taken and 2^m is not, wherever it stands. With 32 outputs every row is taken.
 fn largest_rows(run: &mut Run) {
-    for m in 1..=16u32 {
+    for m in 1..=32 {
         for place in [0, 1, 6, 7] {
-            for row in [(1u32 << m) - 1, 1 << m, (1 << m) + 1, 65535] {
+            let largest = all_outputs(m);
+            for row in [largest, largest.saturating_add(1), largest.saturating_add(2), 1 << 31, u32::MAX] {
                 let mut rows = boxes::random_rows(3, m, &mut run.random);
-                rows[place] = row.min(65535) as u16;
-                every_box_call(run, 3, m, &rows);
+                rows[place] = row;
+                every_box_call(run, 3, m, &rows, &[1]);
                 let file = model::file_of(3, m, &rows);
                 run.read_box(&file, 8, 2);
             }
         }
     }
+    largest_rows_to_enlarge(run);
+}
+
+fn largest_rows_to_enlarge(run: &mut Run) {
     for n in 1..=7u32 {
         for place in [0, (1 << n) - 1] {
-            for row in [(1u16 << n) - 1, 1 << n, 65535] {
+            for row in [(1 << n) - 1, 1 << n, 1 << 16, u32::MAX] {
                 let mut rows = boxes::random_rows(n, n, &mut run.random);
                 rows[place] = row;
                 run.enlarge_box(n, &rows, &vec![0; 1 << n], 1, 2 << n);
@@ -90,7 +100,7 @@ fn largest_rows(run: &mut Run) {
 fn lengths_read(run: &mut Run) {
     for n in 1..=8u32 {
         for length in lengths_around(1 << n) {
-            every_box_call(run, n, 2, &vec![1; length]);
+            every_box_call(run, n, 2, &vec![1; length], &[1, 2]);
             let table = vec![1; length];
             run.spectrum(n, &table, 1 << n);
             run.normal_form(n, &table, 1 << n);
@@ -118,15 +128,15 @@ fn truth_values(run: &mut Run) {
 }
 
 fn parameters_of_boxes(run: &mut Run) {
-    for (n, m) in [(1, 1), (2, 3), (3, 16), (4, 1), (5, 8), (8, 8)] {
+    for (n, m) in [(1, 1), (2, 3), (3, 16), (4, 1), (5, 8), (8, 8), (1, 32), (3, 17), (4, 31), (8, 32)] {
         let rows = boxes::random_rows(n, m, &mut run.random);
-        for c in around(1, (1 << m) - 1) {
+        for c in around(1, all_outputs(m)) {
             run.component_spectrum(n, m, &rows, c, 1 << n);
         }
         for a in around(1, (1 << n) - 1) {
-            run.xor_row(n, m, &rows, a, 1 << m);
+            run.xor_row(n, m, &rows, a, 1 << m.min(17));
         }
-        for i in around(1, m) {
+        for i in outside_limits(m) {
             run.dynamic_distance(n, m, &rows, (i, 1), 3);
         }
         for j in around(1, n) {
@@ -136,7 +146,56 @@ fn parameters_of_boxes(run: &mut Run) {
     }
 }
 
-fn parameters_of_additions(run: &mut Run, n: u32, m: u32, rows: &[u16]) {
+/// Limits that no box with m outputs has.
+fn outside_limits(m: u32) -> [u32; 7] {
+    [0, m + 1, m + 2, 1 + (1 << 8), 1 + (1 << 16), m + (1 << 31), u32::MAX]
+}
+
+/// With many outputs the higher limits take too long to be run, also where the figures' array
+/// has a wrong length: 7 comes last, and the library looks at that array when it has the figures.
+fn limits(run: &mut Run) {
+    for m in 1..=32 {
+        let rows = boxes::random_rows(2, m, &mut run.random);
+        for call in &LIMITED_CALLS {
+            for i in outside_limits(m) {
+                run.limited_figures(call, 2, m, &rows, i, call.figures);
+                run.limited_figures(call, 2, m, &rows, i, call.figures + 1);
+            }
+            for i in 1..=quick_limit(2, m) {
+                run.limited_figures(call, 2, m, &rows, i, call.figures);
+                run.limited_figures(call, 2, m, &rows, i, call.figures + 1);
+            }
+        }
+        for i in 1..=quick_limit(2, m) {
+            run.dynamic_distance(2, m, &rows, (i, 1), 4);
+        }
+    }
+}
+
+/// At first everything is wrong, then one argument after the other is put right, in the order
+/// of the checks: 1, 2, 3, 4, 6, 7, and nothing.
+fn checks_one_after_the_other(run: &mut Run) {
+    for right in 0..=6 {
+        for m in [1, 5, 16, 17, 31] {
+            let n = if right >= 1 { 3 } else { 9 };
+            let length = if right >= 3 { 8 } else { 7 };
+            let mut rows = boxes::random_rows(3, m, &mut run.random);
+            rows[0] = if right >= 4 { all_outputs(m) } else { 1 << m };
+            let i = if right >= 5 { 1 } else { m + 1 };
+            let more = if right >= 6 { 0 } else { 1 };
+            let wrong_m = |most: u32| if right >= 2 { m } else { most + 1 };
+            for call in &LIMITED_CALLS {
+                run.limited_figures(call, n, wrong_m(32), &rows[..length], i, call.figures + more);
+            }
+            run.dynamic_distance(n, wrong_m(32), &rows[..length], (i, 1), 3 + more);
+            // An XOR row has its own bound on m, so that more values of m are wrong here.
+            let a = if right >= 5 { 7 } else { 8 };
+            run.xor_row(n, wrong_m(16), &rows[..length], a, (1 << m.min(17)) + more);
+        }
+    }
+}
+
+fn parameters_of_additions(run: &mut Run, n: u32, m: u32, rows: &[u32]) {
     for j in around(1, m) {
         run.add_to_column(n, m, rows, (j, 1, 1), 1 << n);
     }
@@ -168,6 +227,11 @@ fn lengths_written(run: &mut Run) {
         for call in &FIGURE_CALLS {
             for length in lengths_around(call.figures) {
                 run.figures(call, n, m, &rows, length);
+            }
+        }
+        for call in &LIMITED_CALLS {
+            for length in lengths_around(call.figures) {
+                run.limited_figures(call, n, m, &rows, m, length);
             }
         }
         for length in lengths_around(3) {
@@ -272,8 +336,9 @@ fn box_files(run: &mut Run) {
     run.read_box(&[], 2, 2);
     for n in [0, 1, 2, 3, 7, 8, 9, 10, 128, 255u8] {
         run.read_box(&[n], 2, 2);
-        for m in [0, 1, 2, 15, 16, 17, 18, 128, 255u8] {
-            let rows: Vec<u16> = (0..power(u32::from(n))).map(|_| run.random.below(1 << m.min(16)) as u16).collect();
+        for m in [0, 1, 2, 15, 16, 17, 31, 32, 33, 34, 128, 255u8] {
+            let largest = all_outputs(u32::from(m).min(32));
+            let rows: Vec<u32> = (0..power(u32::from(n))).map(|_| run.random.draw() as u32 & largest).collect();
             let file = model::file_of(u32::from(n), u32::from(m), &rows);
             files_of_other_lengths(run, &file, rows.len());
             for rows_len in lengths_around(rows.len()) {
@@ -286,13 +351,15 @@ fn box_files(run: &mut Run) {
     }
 }
 
+/// Among them the length that two bytes for each row would give.
 fn files_of_other_lengths(run: &mut Run, file: &[u8], rows_len: usize) {
-    for length in [2, 3, file.len() - 2, file.len() - 1] {
-        run.read_box(&file[..length.min(file.len())], rows_len, 2);
+    let right = file.len();
+    for length in [2, 3, 2 + (right - 2) / 2, right - 4, right - 2, right - 1] {
+        run.read_box(&file[..length], rows_len, 2);
     }
-    for more in [1, 2, file.len(), 100_000] {
+    for more in [1, 2, 4, right, 100_000] {
         let mut longer = file.to_vec();
-        longer.resize(file.len() + more, 0);
+        longer.resize(right + more, 0);
         run.read_box(&longer, rows_len, 2);
     }
 }

@@ -1,12 +1,12 @@
 //! Boxes to test with: random ones, and ones in which an analyser is likely to slip.
-use crate::model;
+use crate::model::{self, all_outputs};
 use crate::random::Random;
 
 /// How many kinds of boxes there are; `of_kind` counts around them.
 pub const KINDS: u32 = 12;
 
 /// A box of the given kind. Where a kind does not exist at these widths a near one is made.
-pub fn of_kind(kind: u32, n: u32, m: u32, random: &mut Random) -> Vec<u16> {
+pub fn of_kind(kind: u32, n: u32, m: u32, random: &mut Random) -> Vec<u32> {
     match kind % KINDS {
         0 => random_rows(n, m, random),
         1 => constant(n, m, random),
@@ -23,12 +23,8 @@ pub fn of_kind(kind: u32, n: u32, m: u32, random: &mut Random) -> Vec<u16> {
     }
 }
 
-fn mask(m: u32) -> u16 {
-    ((1u32 << m) - 1) as u16
-}
-
-pub fn random_rows(n: u32, m: u32, random: &mut Random) -> Vec<u16> {
-    (0..1 << n).map(|_| random.draw() as u16 & mask(m)).collect()
+pub fn random_rows(n: u32, m: u32, random: &mut Random) -> Vec<u32> {
+    (0..1 << n).map(|_| random.draw() as u32 & all_outputs(m)).collect()
 }
 
 pub fn random_table(n: u32, random: &mut Random) -> Vec<u8> {
@@ -43,17 +39,17 @@ pub fn random_permutation(h: u32, random: &mut Random) -> Vec<u8> {
 }
 
 /// Every input gives the same row; now and then this row is 0 or the largest one.
-fn constant(n: u32, m: u32, random: &mut Random) -> Vec<u16> {
+fn constant(n: u32, m: u32, random: &mut Random) -> Vec<u32> {
     let other = random_rows(1, m, random)[0];
-    vec![random.pick(&[0, mask(m), other]); 1 << n]
+    vec![random.pick(&[0, all_outputs(m), other]); 1 << n]
 }
 
 /// Puts truth tables together: the first is column 1.
-fn from_columns(n: u32, columns: &[Vec<u8>]) -> Vec<u16> {
+fn from_columns(n: u32, columns: &[Vec<u8>]) -> Vec<u32> {
     let mut rows = vec![0; 1 << n];
     for (j, column) in columns.iter().enumerate() {
         for (row, &bit) in rows.iter_mut().zip(column) {
-            *row |= u16::from(bit) << j;
+            *row |= u32::from(bit) << j;
         }
     }
     rows
@@ -64,13 +60,13 @@ fn affine(n: u32, random: &mut Random) -> Vec<u8> {
     (0..1 << n).map(|x| model::parity(w & x) ^ b).collect()
 }
 
-pub fn affine_columns(n: u32, m: u32, random: &mut Random) -> Vec<u16> {
+pub fn affine_columns(n: u32, m: u32, random: &mut Random) -> Vec<u32> {
     let columns: Vec<Vec<u8>> = (0..m).map(|_| affine(n, random)).collect();
     from_columns(n, &columns)
 }
 
-fn identity(n: u32, m: u32) -> Vec<u16> {
-    (0..1u32 << n).map(|x| x as u16 & mask(m)).collect()
+fn identity(n: u32, m: u32) -> Vec<u32> {
+    (0..1 << n).map(|x| x & all_outputs(m)).collect()
 }
 
 /// A bent function, or for odd n one on all inputs but the highest.
@@ -85,26 +81,26 @@ fn bent(n: u32, random: &mut Random) -> Vec<u8> {
     bent.iter().copied().cycle().take(1 << n).collect()
 }
 
-fn bent_columns(n: u32, m: u32, random: &mut Random) -> Vec<u16> {
+fn bent_columns(n: u32, m: u32, random: &mut Random) -> Vec<u32> {
     let columns: Vec<Vec<u8>> = (0..m).map(|_| bent(n, random)).collect();
     from_columns(n, &columns)
 }
 
 /// With m = n a bijective box.
-fn permuted(n: u32, m: u32, random: &mut Random) -> Vec<u16> {
+fn permuted(n: u32, m: u32, random: &mut Random) -> Vec<u32> {
     let mut rows = identity(n, m);
     random.shuffle(&mut rows);
     rows
 }
 
 /// Only two rows occur, so most figures are reached in many places.
-fn two_values(n: u32, m: u32, random: &mut Random) -> Vec<u16> {
+fn two_values(n: u32, m: u32, random: &mut Random) -> Vec<u32> {
     let values = random_rows(1, m, random);
     (0..1 << n).map(|_| random.pick(&values)).collect()
 }
 
 /// A permutation in which one row was copied over another.
-fn two_equal_rows(n: u32, m: u32, random: &mut Random) -> Vec<u16> {
+fn two_equal_rows(n: u32, m: u32, random: &mut Random) -> Vec<u32> {
     let mut rows = permuted(n, m, random);
     let (from, to) = (random.below(1 << n), random.below(1 << n));
     rows[to as usize] = rows[from as usize];
@@ -112,7 +108,7 @@ fn two_equal_rows(n: u32, m: u32, random: &mut Random) -> Vec<u16> {
 }
 
 /// Columns of degree 2 at most: products of two affine functions.
-fn quadratic(n: u32, m: u32, random: &mut Random) -> Vec<u16> {
+fn quadratic(n: u32, m: u32, random: &mut Random) -> Vec<u32> {
     let mut product = || -> Vec<u8> {
         let (f, g) = (affine(n, random), affine(n, random));
         f.iter().zip(&g).map(|(a, b)| a & b).collect()
@@ -122,9 +118,9 @@ fn quadratic(n: u32, m: u32, random: &mut Random) -> Vec<u16> {
 }
 
 /// One input bit changes nothing in one column.
-fn deaf_to_one_bit(n: u32, m: u32, random: &mut Random) -> Vec<u16> {
+fn deaf_to_one_bit(n: u32, m: u32, random: &mut Random) -> Vec<u32> {
     let mut rows = random_rows(n, m, random);
-    let (input, column) = (1usize << random.below(n), 1u16 << random.below(m));
+    let (input, column) = (1usize << random.below(n), 1u32 << random.below(m));
     for x in (0..rows.len()).filter(|x| x & input != 0) {
         rows[x] = rows[x] & !column | rows[x ^ input] & column;
     }
@@ -132,21 +128,21 @@ fn deaf_to_one_bit(n: u32, m: u32, random: &mut Random) -> Vec<u16> {
 }
 
 /// The highest column makes the sum of all columns affine: the witness stands at the end.
-fn one_affine_combination(n: u32, m: u32, random: &mut Random) -> Vec<u16> {
+fn one_affine_combination(n: u32, m: u32, random: &mut Random) -> Vec<u32> {
     let sum = affine(n, random);
     let mut rows = random_rows(n, m, random);
     for (row, &wanted) in rows.iter_mut().zip(&sum) {
-        let parity = model::parity(u32::from(*row));
-        *row ^= u16::from(parity ^ wanted) << (m - 1);
+        let parity = model::parity(*row);
+        *row ^= u32::from(parity ^ wanted) << (m - 1);
     }
     rows
 }
 
 /// All rows but a few are 0, and the last one is as large as can be.
-fn few_ones(n: u32, m: u32, random: &mut Random) -> Vec<u16> {
+fn few_ones(n: u32, m: u32, random: &mut Random) -> Vec<u32> {
     let mut rows = vec![0; 1 << n];
     rows[random.below(1 << n) as usize] = 1 << random.below(m);
-    rows[(1 << n) - 1] = mask(m);
+    rows[(1 << n) - 1] = all_outputs(m);
     rows
 }
 
@@ -158,7 +154,7 @@ mod tests {
     fn every_kind_is_a_box_at_every_width() {
         let mut random = Random::new(3);
         for n in 1..=8 {
-            for m in 1..=16 {
+            for m in 1..=32 {
                 for kind in 0..KINDS {
                     let rows = of_kind(kind, n, m, &mut random);
                     assert!(model::complete(n, m, &rows, 1).is_ok(), "kind {kind}, {n} by {m}: {rows:?}");

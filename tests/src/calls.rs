@@ -13,41 +13,24 @@ pub struct Run {
     pub differences: u64,
 }
 
-type ModelFigures = fn(u32, u32, &[u16], usize) -> Answer<Vec<u32>>;
+type LibraryFigures = fn(u32, u32, &[u32], &mut [u32]) -> u32;
+type ModelFigures = fn(u32, u32, &[u32], usize) -> Answer<Vec<u32>>;
 
 /// A call that takes a box and gives nothing but figures.
 pub struct FigureCall {
     pub name: &'static str,
     /// The right length of the lent array.
     pub figures: usize,
-    library: fn(u32, u32, &[u16], &mut [u32]) -> u32,
+    library: LibraryFigures,
     model: ModelFigures,
 }
 
-pub const FIGURE_CALLS: [FigureCall; 6] = [
-    FigureCall {
-        name: "nonlinearity",
-        figures: 4,
-        library: library::nonlinearity,
-        model: |n, m, rows, len| model::nonlinearity(n, m, rows, len).map(Vec::from),
-    },
+pub const FIGURE_CALLS: [FigureCall; 3] = [
     FigureCall {
         name: "largest_cell",
         figures: 3,
         library: library::largest_cell,
         model: |n, m, rows, len| model::largest_cell(n, m, rows, len).map(Vec::from),
-    },
-    FigureCall {
-        name: "autocorrelation",
-        figures: 3,
-        library: library::autocorrelation,
-        model: |n, m, rows, len| model::autocorrelation(n, m, rows, len).map(Vec::from),
-    },
-    FigureCall {
-        name: "degree",
-        figures: 2,
-        library: library::degree,
-        model: |n, m, rows, len| model::degree(n, m, rows, len).map(Vec::from),
     },
     FigureCall {
         name: "complete",
@@ -60,6 +43,39 @@ pub const FIGURE_CALLS: [FigureCall; 6] = [
         figures: 1,
         library: library::bijective,
         model: |n, m, rows, len| model::bijective(n, m, rows, len).map(Vec::from),
+    },
+];
+
+type LimitedLibraryFigures = fn(u32, u32, &[u32], u32, &mut [u32]) -> u32;
+type LimitedModelFigures = fn(u32, u32, &[u32], u32, usize) -> Answer<Vec<u32>>;
+
+/// A call that takes a box and a limit, and gives nothing but figures.
+pub struct LimitedCall {
+    pub name: &'static str,
+    /// The right length of the lent array.
+    pub figures: usize,
+    library: LimitedLibraryFigures,
+    model: LimitedModelFigures,
+}
+
+pub const LIMITED_CALLS: [LimitedCall; 3] = [
+    LimitedCall {
+        name: "nonlinearity",
+        figures: 4,
+        library: library::nonlinearity,
+        model: |n, m, rows, i, len| model::nonlinearity(n, m, rows, i, len).map(Vec::from),
+    },
+    LimitedCall {
+        name: "autocorrelation",
+        figures: 3,
+        library: library::autocorrelation,
+        model: |n, m, rows, i, len| model::autocorrelation(n, m, rows, i, len).map(Vec::from),
+    },
+    LimitedCall {
+        name: "degree",
+        figures: 2,
+        library: library::degree,
+        model: |n, m, rows, i, len| model::degree(n, m, rows, i, len).map(Vec::from),
     },
 ];
 
@@ -104,7 +120,7 @@ impl Run {
         self.judge(code, &table, &wanted, || format!("inverse_spectrum n = {n}, values = {values:?}, table_len = {table_len}"));
     }
 
-    pub fn component_spectrum(&mut self, n: u32, m: u32, rows: &[u16], c: u32, out_len: usize) {
+    pub fn component_spectrum(&mut self, n: u32, m: u32, rows: &[u32], c: u32, out_len: usize) {
         let mut out = self.lend(out_len);
         let code = library::component_spectrum(n, m, rows, c, out.part());
         let wanted = model::component_spectrum(n, m, rows, c, out_len);
@@ -113,7 +129,7 @@ impl Run {
         });
     }
 
-    pub fn figures(&mut self, call: &FigureCall, n: u32, m: u32, rows: &[u16], figures_len: usize) {
+    pub fn figures(&mut self, call: &FigureCall, n: u32, m: u32, rows: &[u32], figures_len: usize) {
         let mut figures = self.lend(figures_len);
         let code = (call.library)(n, m, rows, figures.part());
         let wanted = (call.model)(n, m, rows, figures_len);
@@ -122,8 +138,17 @@ impl Run {
         });
     }
 
+    pub fn limited_figures(&mut self, call: &LimitedCall, n: u32, m: u32, rows: &[u32], i: u32, figures_len: usize) {
+        let mut figures = self.lend(figures_len);
+        let code = (call.library)(n, m, rows, i, figures.part());
+        let wanted = (call.model)(n, m, rows, i, figures_len);
+        self.judge(code, &figures, &wanted, || {
+            format!("{} n = {n}, m = {m}, rows = {rows:?}, i = {i}, figures_len = {figures_len}", call.name)
+        });
+    }
+
     /// The arguments of the addition besides the box are given as (j, w, b).
-    pub fn add_to_column(&mut self, n: u32, m: u32, rows: &[u16], (j, w, b): (u32, u32, u32), out_len: usize) {
+    pub fn add_to_column(&mut self, n: u32, m: u32, rows: &[u32], (j, w, b): (u32, u32, u32), out_len: usize) {
         let mut out = self.lend(out_len);
         let code = library::add_to_column(n, m, rows, j, w, b, out.part());
         let wanted = model::add_to_column(n, m, rows, j, w, b, out_len);
@@ -132,7 +157,7 @@ impl Run {
         });
     }
 
-    pub fn xor_row(&mut self, n: u32, m: u32, rows: &[u16], a: u32, counts_len: usize) {
+    pub fn xor_row(&mut self, n: u32, m: u32, rows: &[u32], a: u32, counts_len: usize) {
         let mut counts = self.lend(counts_len);
         let code = library::xor_row(n, m, rows, a, counts.part());
         let wanted = model::xor_row(n, m, rows, a, counts_len);
@@ -142,8 +167,8 @@ impl Run {
     }
 
     /// The order of the cells is open: they are sorted before the comparison.
-    pub fn largest_cells(&mut self, n: u32, m: u32, rows: &[u16], list_len: usize, figures_len: usize) {
-        let mut list: Lent<u32> = self.lend(list_len);
+    pub fn largest_cells(&mut self, n: u32, m: u32, rows: &[u32], list_len: usize, figures_len: usize) {
+        let mut list: Lent<u64> = self.lend(list_len);
         let mut figures: Lent<u32> = self.lend(figures_len);
         let code = library::largest_cells(n, m, rows, list.part(), figures.part());
         let wanted = model::largest_cells(n, m, rows, list_len, figures_len);
@@ -157,7 +182,7 @@ impl Run {
         });
     }
 
-    pub fn dynamic_distance(&mut self, n: u32, m: u32, rows: &[u16], (i, j): (u32, u32), figures_len: usize) {
+    pub fn dynamic_distance(&mut self, n: u32, m: u32, rows: &[u32], (i, j): (u32, u32), figures_len: usize) {
         let mut figures = self.lend(figures_len);
         let code = library::dynamic_distance(n, m, rows, i, j, figures.part());
         let wanted = model::dynamic_distance(n, m, rows, i, j, figures_len).map(Vec::from);
@@ -182,7 +207,7 @@ impl Run {
         });
     }
 
-    pub fn enlarge_box(&mut self, n: u32, rows: &[u16], table: &[u8], k: u32, out_len: usize) {
+    pub fn enlarge_box(&mut self, n: u32, rows: &[u32], table: &[u8], k: u32, out_len: usize) {
         let mut out = self.lend(out_len);
         let code = library::enlarge_box(n, rows, table, k, out.part());
         let wanted = model::enlarge_box(n, rows, table, k, out_len);
@@ -201,7 +226,7 @@ impl Run {
     }
 
     pub fn read_box(&mut self, file: &[u8], rows_len: usize, figures_len: usize) {
-        let mut rows: Lent<u16> = self.lend(rows_len);
+        let mut rows: Lent<u32> = self.lend(rows_len);
         let mut figures: Lent<u32> = self.lend(figures_len);
         let code = library::read_box(file, rows.part(), figures.part());
         let wanted = model::read_box(file, rows_len, figures_len);
@@ -216,7 +241,7 @@ impl Run {
     }
 }
 
-fn holds_cells(list: &Lent<u32>, cells: &[u32]) -> bool {
+fn holds_cells(list: &Lent<u64>, cells: &[u64]) -> bool {
     let mut found = list.content()[..cells.len()].to_vec();
     found.sort();
     found == cells && list.untouched_from(cells.len())

@@ -1,10 +1,12 @@
 //! `second compare`: every call of the library against the model.
 use crate::bounds;
-use crate::calls::{Run, FIGURE_CALLS};
+use crate::calls::{Run, FIGURE_CALLS, LIMITED_CALLS};
 use crate::damage;
 use crate::library;
 use second_model::boxes::{self, KINDS};
-use second_model::model;
+use second_model::combinations::quick_limit;
+use second_model::model::{self, all_outputs};
+use second_model::sheet;
 use std::time::Instant;
 
 /// How many damaged argument sets each call gets if nothing else is said.
@@ -34,43 +36,49 @@ pub fn run(seed: u64, count: u64) -> bool {
     run.differences == 0
 }
 
+/// The limits that a box of these widths is asked with: the sheet's, and a quick one.
+pub fn usual_limits(run: &mut Run, n: u32, m: u32) -> [u32; 2] {
+    let (inputs, outputs) = (n.clamp(1, 8), m.clamp(1, 32));
+    [sheet::limit(outputs), run.random.between(1, quick_limit(inputs, outputs))]
+}
+
 /// Every call that takes a box, with arguments and lengths that fit, as far as n and m do.
-pub fn every_box_call(run: &mut Run, n: u32, m: u32, rows: &[u16]) {
+pub fn every_box_call(run: &mut Run, n: u32, m: u32, rows: &[u32], limits: &[u32]) {
     for call in &FIGURE_CALLS {
         run.figures(call, n, m, rows, call.figures);
+    }
+    for call in &LIMITED_CALLS {
+        for &i in limits {
+            run.limited_figures(call, n, m, rows, i, call.figures);
+        }
     }
     box_calls_with_parameters(run, n, m, rows);
 }
 
-fn box_calls_with_parameters(run: &mut Run, n: u32, m: u32, rows: &[u16]) {
-    let (inputs, outputs) = (n.clamp(1, 10), m.clamp(1, 17));
-    let c = run.random.between(1, (1 << outputs) - 1);
+fn box_calls_with_parameters(run: &mut Run, n: u32, m: u32, rows: &[u32]) {
+    let (inputs, outputs) = (n.clamp(1, 10), m.clamp(1, 32));
+    let c = run.random.between(1, all_outputs(outputs));
     run.component_spectrum(n, m, rows, c, 1 << inputs);
     let a = run.random.between(1, (1 << inputs) - 1);
-    run.xor_row(n, m, rows, a, 1 << outputs);
+    run.xor_row(n, m, rows, a, 1 << outputs.min(17));
     let addition = (run.random.between(1, outputs), run.random.below(1 << inputs), run.random.below(2));
     run.add_to_column(n, m, rows, addition, 1 << inputs);
     distances(run, n, m, rows);
     cell_lists(run, n, m, rows);
 }
 
-/// The orders of the sheet, one at random, and the highest. For wide boxes the high orders
-/// take long and are left to `boxes_of_all_widths`.
-fn distances(run: &mut Run, n: u32, m: u32, rows: &[u16]) {
-    let (inputs, outputs) = (n.clamp(1, 8), m.clamp(1, 16));
-    let wide = outputs + 2 * inputs > 24;
-    let i = run.random.between(1, if wide { 2 } else { outputs });
-    let j = run.random.between(1, inputs);
-    for order in [(1, 1), (2, 1), (i, j)] {
+/// The orders of the sheet, one at random, and the highest that is quick.
+fn distances(run: &mut Run, n: u32, m: u32, rows: &[u32]) {
+    let (inputs, outputs) = (n.clamp(1, 8), m.clamp(1, 32));
+    let most = quick_limit(inputs, outputs);
+    let (i, j) = (run.random.between(1, most), run.random.between(1, inputs));
+    for order in [(1, 1), (2, 1), (i, j), (most, inputs)] {
         run.dynamic_distance(n, m, rows, order, 3);
-    }
-    if !wide {
-        run.dynamic_distance(n, m, rows, (outputs, inputs), 3);
     }
 }
 
 /// The list of cells exactly long enough, one too short, longer, and empty.
-fn cell_lists(run: &mut Run, n: u32, m: u32, rows: &[u16]) {
+fn cell_lists(run: &mut Run, n: u32, m: u32, rows: &[u32]) {
     let number = model::largest_cells(n, m, rows, usize::MAX, 1).map_or(1, |cells| cells.len());
     for list_len in [number, number - 1, number + 1, number + 100, 0] {
         run.largest_cells(n, m, rows, list_len, 1);
@@ -79,30 +87,36 @@ fn cell_lists(run: &mut Run, n: u32, m: u32, rows: &[u16]) {
 
 /// How many boxes of these widths are tried: fewer where a figure takes long.
 fn boxes_at(n: u32, m: u32) -> u32 {
-    match (m + 2 * n, n, m) {
-        (_, 8, 16) => 3,
-        (_, 8, 8) => 4,
-        (0..=18, _, _) => KINDS,
-        (19..=21, _, _) => 4,
+    match (n, m) {
+        (8, 8 | 16 | 32) => 3,
+        (_, 1..=16) if m + 2 * n <= 18 => KINDS,
+        (_, 1..=16) if m + 2 * n <= 21 => 4,
+        (1..=4, _) => 3,
         _ => 1,
     }
 }
 
 fn boxes_of_all_widths(run: &mut Run) {
-    for n in 1..=8 {
-        for m in 1..=16 {
-            // Starting anywhere lets the few wide boxes be of other kinds at other seeds.
-            let first = run.random.below(KINDS);
-            for kind in 0..boxes_at(n, m) {
-                let rows = boxes::of_kind(first + kind, n, m, &mut run.random);
-                every_box_call(run, n, m, &rows);
-                let file = model::file_of(n, m, &rows);
-                run.read_box(&file, 1 << n, 2);
-            }
+    for (n, m) in (1..=8).flat_map(|n| (1..=32).map(move |m| (n, m))) {
+        // Starting anywhere lets the few wide boxes be of other kinds at other seeds.
+        let first = run.random.below(KINDS);
+        for kind in 0..boxes_at(n, m) {
+            let rows = boxes::of_kind(first + kind, n, m, &mut run.random);
+            let limits = usual_limits(run, n, m);
+            every_box_call(run, n, m, &rows, &limits);
+            let file = model::file_of(n, m, &rows);
+            run.read_box(&file, 1 << n, 2);
         }
     }
-    let widest = boxes::random_rows(8, 16, &mut run.random);
-    run.dynamic_distance(8, 16, &widest, (16, 8), 3);
+    highest_orders(run);
+}
+
+/// The highest orders of the dynamic distance at the widest boxes take long, and are tried once.
+fn highest_orders(run: &mut Run) {
+    for (m, i) in [(16, 16), (32, 4)] {
+        let rows = boxes::random_rows(8, m, &mut run.random);
+        run.dynamic_distance(8, m, &rows, (i, 8), 3);
+    }
 }
 
 /// The calls that take truth tables, with arguments that fit.
@@ -153,15 +167,17 @@ fn every_small_function(run: &mut Run) {
 /// Adds affine functions to columns, some of them refused, and asks for the nonlinearity
 /// again after each: its figure must stay what it was at first.
 fn lists_of_additions(run: &mut Run) {
-    for round in 0..60 {
-        let (n, m) = (run.random.between(1, 6), run.random.between(1, 6));
+    for round in 0..90 {
+        let most_outputs = run.random.pick(&[6, 6, 32]);
+        let (n, m) = (run.random.between(1, 6), run.random.between(1, most_outputs));
+        let i = run.random.between(1, quick_limit(n, m));
         let rows = boxes::of_kind(round, n, m, &mut run.random);
-        list_of_additions(run, n, m, rows);
+        list_of_additions(run, n, m, rows, i);
     }
 }
 
-fn list_of_additions(run: &mut Run, n: u32, m: u32, mut rows: Vec<u16>) {
-    let first = library_nonlinearity(n, m, &rows);
+fn list_of_additions(run: &mut Run, n: u32, m: u32, mut rows: Vec<u32>, i: u32) {
+    let first = library_nonlinearity(n, m, &rows, i);
     for _ in 0..run.random.below(6) {
         // Column m + 1 and b = 2 are refused and must leave the rows that stand.
         let (j, w, b) = (run.random.between(1, m + 1), run.random.below(1 << n), run.random.below(3));
@@ -170,13 +186,15 @@ fn list_of_additions(run: &mut Run, n: u32, m: u32, mut rows: Vec<u16>) {
         if library::add_to_column(n, m, &rows, j, w, b, &mut new_rows) == 0 {
             rows = new_rows;
         }
-        run.figures(&FIGURE_CALLS[0], n, m, &rows, 4);
-        let now = library_nonlinearity(n, m, &rows);
-        run.count(now == first, || format!("nonlinearity {first:?} is now {now:?} for n = {n}, m = {m}, rows = {rows:?}"));
+        run.limited_figures(&LIMITED_CALLS[0], n, m, &rows, i, 4);
+        let now = library_nonlinearity(n, m, &rows, i);
+        run.count(now == first, || {
+            format!("nonlinearity {first:?} is now {now:?} for n = {n}, m = {m}, i = {i}, rows = {rows:?}")
+        });
     }
 }
 
-fn library_nonlinearity(n: u32, m: u32, rows: &[u16]) -> (u32, u32) {
+fn library_nonlinearity(n: u32, m: u32, rows: &[u32], i: u32) -> (u32, u32) {
     let mut figures = [0; 4];
-    (library::nonlinearity(n, m, rows, &mut figures), figures[0])
+    (library::nonlinearity(n, m, rows, i, &mut figures), figures[0])
 }

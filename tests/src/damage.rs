@@ -1,7 +1,8 @@
 //! Several faults at once, at random: they show in which order a call checks its arguments.
-use crate::calls::{Run, FIGURE_CALLS};
+use crate::calls::{Run, FIGURE_CALLS, LIMITED_CALLS};
 use second_model::boxes::{self, KINDS};
-use second_model::model;
+use second_model::combinations::quick_limit;
+use second_model::model::{self, all_outputs};
 use second_model::random::Random;
 
 /// Each call gets `count` argument sets.
@@ -18,7 +19,7 @@ pub fn all(run: &mut Run, count: u64) {
 /// Once in four times another width. A width one off may well be accepted.
 fn width(random: &mut Random, right: u32, high: u32) -> u32 {
     if random.one_in(4) {
-        random.pick(&[0, right - 1, right + 1, high + 1, high + 2, 32, 33, 256 + right, 65536 + right, u32::MAX])
+        random.pick(&[0, right - 1, right + 1, high, high + 1, high + 2, 16, 17, 256 + right, 65536 + right, u32::MAX])
     } else {
         right
     }
@@ -36,9 +37,21 @@ fn length(random: &mut Random, right: usize) -> usize {
 /// Once in four times a number outside its range.
 fn parameter(random: &mut Random, low: u32, high: u32) -> u32 {
     if random.one_in(4) {
-        random.pick(&[low.wrapping_sub(1), high + 1, low + (1 << 16), high + (1 << 31), u32::MAX])
+        let outside = [low.wrapping_sub(1), high.wrapping_add(1), low + (1 << 16), high.wrapping_add(1 << 31), u32::MAX];
+        random.pick(&outside)
     } else {
         random.between(low, high)
+    }
+}
+
+/// A limit for a box whose widths may be damaged: once in four times outside its range, else
+/// one that takes no long time.
+fn limit(random: &mut Random, n: u32, m: u32) -> u32 {
+    let (inputs, outputs) = (n.clamp(1, 8), m.clamp(1, 32));
+    if random.one_in(4) {
+        random.pick(&[0, outputs + 1, outputs + (1 << 16), outputs + (1 << 31), u32::MAX])
+    } else {
+        random.between(1, quick_limit(inputs, outputs))
     }
 }
 
@@ -62,18 +75,20 @@ fn power(n: u32) -> usize {
 struct DamagedBox {
     n: u32,
     m: u32,
-    rows: Vec<u16>,
+    rows: Vec<u32>,
 }
 
 fn damaged_box(random: &mut Random) -> DamagedBox {
-    let (right_n, right_m) = (random.between(1, 5), random.between(1, 6));
+    let most_outputs = random.pick(&[6, 6, 6, 32]);
+    let (right_n, right_m) = (random.between(1, 5), random.between(1, most_outputs));
     let kind = random.below(KINDS);
     let mut rows = boxes::of_kind(kind, right_n, right_m, random);
-    let (n, m) = (width(random, right_n, 8), width(random, right_m, 16));
+    let (n, m) = (width(random, right_n, 8), width(random, right_m, 32));
     // Either the rows follow the damaged width, or they are left as they were.
     let fitting = if random.one_in(2) { power(n) } else { rows.len() };
     rows.resize(length(random, fitting), 0);
-    let too_large = [1 << right_m, (1 << right_m) + 1, 65535];
+    let largest = all_outputs(right_m);
+    let too_large = [largest.saturating_add(1), largest.saturating_add(2), u32::MAX];
     spoil(random, &mut rows, &too_large);
     DamagedBox { n, m, rows }
 }
@@ -84,6 +99,12 @@ fn box_calls(run: &mut Run) {
         let figures_len = length(&mut run.random, call.figures);
         run.figures(call, n, m, &rows, figures_len);
     }
+    for call in &LIMITED_CALLS {
+        let DamagedBox { n, m, rows } = damaged_box(&mut run.random);
+        let i = limit(&mut run.random, n, m);
+        let figures_len = length(&mut run.random, call.figures);
+        run.limited_figures(call, n, m, &rows, i, figures_len);
+    }
     spectrum_of_combination(run);
     addition(run);
     row_of_xor_table(run);
@@ -93,7 +114,7 @@ fn box_calls(run: &mut Run) {
 
 fn spectrum_of_combination(run: &mut Run) {
     let DamagedBox { n, m, rows } = damaged_box(&mut run.random);
-    let c = parameter(&mut run.random, 1, (1 << m.clamp(1, 16)) - 1);
+    let c = parameter(&mut run.random, 1, all_outputs(m.clamp(1, 32)));
     let out_len = length(&mut run.random, power(n));
     run.component_spectrum(n, m, &rows, c, out_len);
 }
@@ -101,7 +122,7 @@ fn spectrum_of_combination(run: &mut Run) {
 fn addition(run: &mut Run) {
     let DamagedBox { n, m, rows } = damaged_box(&mut run.random);
     let random = &mut run.random;
-    let j = parameter(random, 1, m.clamp(1, 16));
+    let j = parameter(random, 1, m.clamp(1, 32));
     let w = parameter(random, 0, (1 << n.clamp(1, 8)) - 1);
     let b = parameter(random, 0, 1);
     let out_len = length(random, power(n));
@@ -111,7 +132,7 @@ fn addition(run: &mut Run) {
 fn row_of_xor_table(run: &mut Run) {
     let DamagedBox { n, m, rows } = damaged_box(&mut run.random);
     let a = parameter(&mut run.random, 1, (1 << n.clamp(1, 8)) - 1);
-    let counts_len = length(&mut run.random, 1 << m.clamp(1, 16));
+    let counts_len = length(&mut run.random, 1 << m.clamp(1, 17));
     run.xor_row(n, m, &rows, a, counts_len);
 }
 
@@ -125,7 +146,7 @@ fn cell_list(run: &mut Run) {
 
 fn distance(run: &mut Run) {
     let DamagedBox { n, m, rows } = damaged_box(&mut run.random);
-    let i = parameter(&mut run.random, 1, m.clamp(1, 16));
+    let i = limit(&mut run.random, n, m);
     let j = parameter(&mut run.random, 1, n.clamp(1, 8));
     let figures_len = length(&mut run.random, 3);
     run.dynamic_distance(n, m, &rows, (i, j), figures_len);
@@ -180,7 +201,7 @@ fn enlargements(run: &mut Run) {
     let kind = random.below(KINDS);
     let mut rows = boxes::of_kind(kind, right, right, random);
     rows.resize(length(random, power(n)), 0);
-    spoil(random, &mut rows, &[1 << right, 65535]);
+    spoil(random, &mut rows, &[1 << right, 65535, u32::MAX]);
     let k = parameter(random, 1, right);
     let out_len = length(random, 2 * power(n));
     run.enlarge_box(n, &rows, &table, k, out_len);

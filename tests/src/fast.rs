@@ -1,9 +1,8 @@
 //! The same figures as `model`, quickly: for wide boxes and for the benchmark.
 //!
-//! The boxes given here have been checked. Buffers lie on the stack and are used again for
-//! every combination. Combinations are visited in Gray-code order, where each differs from
-//! the one before in a single column; the witness still is the first in ascending order,
-//! since among combinations that reach the same figure the least is kept.
+//! The boxes and limits given here have been checked. Buffers lie on the stack and are used
+//! again for many combinations. No combination outside the limit is visited, and each one's
+//! truth table is made by adding a single column to that of another one.
 use std::ops::{Add, Sub};
 
 /// The most inputs a box can have, as a number of rows.
@@ -48,22 +47,43 @@ where
     }
 }
 
-/// Calls `visit` with every nonzero combination and its truth table.
-fn visit_combinations(m: u32, rows: &[u16], mut visit: impl FnMut(u32, &[u8])) {
-    let mut columns = [[0u8; ROWS]; 16];
-    for (j, column) in columns.iter_mut().enumerate().take(m as usize) {
+/// A truth table; only as much of it is used as the box has rows.
+type Table = [u8; ROWS];
+
+fn columns_of(m: u32, rows: &[u32]) -> Vec<Table> {
+    let mut columns = vec![[0; ROWS]; m as usize];
+    for (j, column) in columns.iter_mut().enumerate() {
         for (bit, row) in column.iter_mut().zip(rows) {
             *bit = (row >> j) as u8 & 1;
         }
     }
-    let mut table = [0u8; ROWS];
-    let table = &mut table[..rows.len()];
-    for step in 1..1u32 << m {
-        let column = &columns[step.trailing_zeros() as usize];
-        for (bit, change) in table.iter_mut().zip(column) {
-            *bit ^= change;
+    columns
+}
+
+/// Calls `visit` with every combination of at most i outputs and its truth table, in
+/// ascending order.
+fn visit_combinations(m: u32, rows: &[u32], i: u32, mut visit: impl FnMut(u32, &[u8])) {
+    let nothing = [0; ROWS];
+    add_outputs(&columns_of(m, rows), 0, &nothing[..rows.len()], i, &mut visit);
+}
+
+/// Goes on from combination c, whose truth table is given: adds one more output, visits what
+/// comes out, and goes on from there until `left` outputs are added. The outputs that may be
+/// added, whose columns are given, lie below all that c has. So each combination is reached
+/// once, from its highest output downwards, and with a higher output added all comes after
+/// what comes with a lower one.
+fn add_outputs(columns: &[Table], c: u32, table: &[u8], left: u32, visit: &mut impl FnMut(u32, &[u8])) {
+    let mut buffer = [0; ROWS];
+    let sum = &mut buffer[..table.len()];
+    for (j, column) in columns.iter().enumerate() {
+        for ((bit, before), change) in sum.iter_mut().zip(table).zip(column) {
+            *bit = before ^ change;
         }
-        visit(step ^ (step >> 1), table);
+        let with_j = c | 1 << j;
+        visit(with_j, sum);
+        if j > 0 && left > 1 {
+            add_outputs(&columns[..j], with_j, sum, left - 1, visit);
+        }
     }
 }
 
@@ -79,7 +99,7 @@ fn signs_16(table: &[u8], signs: &mut [i16]) {
     }
 }
 
-/// Keeps the largest figure, and among equals the least combination.
+/// Keeps the largest figure, and among equals the one that was offered first.
 struct Best {
     figure: i32,
     c: u32,
@@ -91,18 +111,18 @@ impl Best {
     }
 
     fn offer(&mut self, figure: i32, c: u32) {
-        if figure > self.figure || (figure == self.figure && c < self.c) {
+        if figure > self.figure {
             *self = Best { figure, c };
         }
     }
 }
 
 /// Figures: d, c, w, b.
-pub fn nonlinearity(n: u32, m: u32, rows: &[u16]) -> [u32; 4] {
+pub fn nonlinearity(n: u32, m: u32, rows: &[u32], i: u32) -> [u32; 4] {
     let mut buffer = [0i32; ROWS];
     let values = &mut buffer[..1 << n];
     let mut best = Best::none();
-    visit_combinations(m, rows, |c, table| {
+    visit_combinations(m, rows, i, |c, table| {
         signs_32(table, values);
         walsh(values);
         let largest = values.iter().fold(0, |most, value| most.max(value.abs()));
@@ -113,11 +133,11 @@ pub fn nonlinearity(n: u32, m: u32, rows: &[u16]) -> [u32; 4] {
 
 /// As `nonlinearity`, with values of 16 bits, which are wide enough for n up to 8 and of
 /// which twice as many go through each instruction. Only the benchmark asks for it.
-pub fn nonlinearity_16(n: u32, m: u32, rows: &[u16]) -> [u32; 4] {
+pub fn nonlinearity_16(n: u32, m: u32, rows: &[u32], i: u32) -> [u32; 4] {
     let mut buffer = [0i16; ROWS];
     let values = &mut buffer[..1 << n];
     let mut best = Best::none();
-    visit_combinations(m, rows, |c, table| {
+    visit_combinations(m, rows, i, |c, table| {
         signs_16(table, values);
         walsh(values);
         let largest = values.iter().fold(0, |most, value| most.max(value.abs()));
@@ -127,7 +147,7 @@ pub fn nonlinearity_16(n: u32, m: u32, rows: &[u16]) -> [u32; 4] {
 }
 
 /// The first (w, b) at which the combination that was found reaches its figure.
-fn nonlinearity_witness(n: u32, rows: &[u16], best: &Best) -> [u32; 4] {
+fn nonlinearity_witness(n: u32, rows: &[u32], best: &Best) -> [u32; 4] {
     let values = spectrum(rows, best.c);
     let w = values.iter().position(|v| v.abs() == best.figure).expect("it was reached");
     let distance = ((1 << n) - best.figure) as u32 / 2;
@@ -136,9 +156,10 @@ fn nonlinearity_witness(n: u32, rows: &[u16], best: &Best) -> [u32; 4] {
 
 /// The truth table of one combination. Shifts fold the ones of (row AND c) onto bit 1; they
 /// are quicker here than counting ones, since many rows go through each instruction.
-fn combination(rows: &[u16], c: u32, table: &mut [u8]) {
+fn combination(rows: &[u32], c: u32, table: &mut [u8]) {
     for (bit, row) in table.iter_mut().zip(rows) {
-        let mut ones = row & c as u16;
+        let mut ones = row & c;
+        ones ^= ones >> 16;
         ones ^= ones >> 8;
         ones ^= ones >> 4;
         ones ^= ones >> 2;
@@ -148,7 +169,7 @@ fn combination(rows: &[u16], c: u32, table: &mut [u8]) {
 }
 
 /// The spectrum of combination c.
-pub fn spectrum(rows: &[u16], c: u32) -> Vec<i32> {
+pub fn spectrum(rows: &[u32], c: u32) -> Vec<i32> {
     let mut table = vec![0; rows.len()];
     let mut values = vec![0; rows.len()];
     combination(rows, c, &mut table);
@@ -172,11 +193,11 @@ fn correlations(n: u32, table: &[u8], values: &mut [i32]) {
 }
 
 /// Figures: figure, c, s.
-pub fn autocorrelation(n: u32, m: u32, rows: &[u16]) -> [u32; 3] {
+pub fn autocorrelation(n: u32, m: u32, rows: &[u32], i: u32) -> [u32; 3] {
     let mut buffer = [0i32; ROWS];
     let values = &mut buffer[..1 << n];
     let mut best = Best::none();
-    visit_combinations(m, rows, |c, table| {
+    visit_combinations(m, rows, i, |c, table| {
         correlations(n, table, values);
         let largest = values[1..].iter().fold(0, |most, value| most.max(value.abs()));
         best.offer(largest, c);
@@ -191,119 +212,25 @@ pub fn autocorrelation(n: u32, m: u32, rows: &[u16]) -> [u32; 3] {
 
 /// Figures: the doubled figure, c, d. An input changes the sum r(d) by -1 where f changes and
 /// by +1 where not, so |2^(n-1) - changes| is half of |r(d)|.
-pub fn dynamic_distance(n: u32, m: u32, rows: &[u16], i: u32, j: u32) -> [u32; 3] {
-    let (mut table, mut values) = ([0; ROWS], [0; ROWS]);
-    let (table, values) = (&mut table[..1 << n], &mut values[..1 << n]);
+pub fn dynamic_distance(n: u32, m: u32, rows: &[u32], i: u32, j: u32) -> [u32; 3] {
+    let mut buffer = [0; ROWS];
+    let values = &mut buffer[..1 << n];
+    let changes: Vec<u32> = (1..1u32 << n).filter(|d| d.count_ones() <= j).collect();
     let mut best: Option<[u32; 3]> = None;
-    for c in (1..1u32 << m).filter(|c| c.count_ones() <= i) {
-        combination(rows, c, table);
+    visit_combinations(m, rows, i, |c, table| {
         correlations(n, table, values);
-        for d in (1..1u32 << n).filter(|d| d.count_ones() <= j) {
+        for &d in &changes {
             let figure = values[d as usize].unsigned_abs() / 2;
             if best.is_none_or(|b| figure > b[0]) {
                 best = Some([figure, c, d]);
             }
         }
-    }
+    });
     best.expect("c = 1 and d = 1 always exist")
 }
 
-/// Counts of β for one difference at a time; between differences all of them are 0.
-struct Counts {
-    cells: Vec<u16>,
-}
-
-/// The pairs S(x) XOR S(x XOR a), once for x and x XOR a together: of the two, the one
-/// without the highest bit of a stands for both.
-fn differences(rows: &[u16], a: usize) -> impl Iterator<Item = u16> + '_ {
-    let top = 1 << (usize::BITS - 1 - a.leading_zeros());
-    let rest = a ^ top;
-    rows.chunks_exact(2 * top).flat_map(move |block| {
-        let (low, high) = block.split_at(top);
-        (0..top).map(move |x| low[x] ^ high[x ^ rest])
-    })
-}
-
-impl Counts {
-    fn new(m: u32) -> Counts {
-        Counts { cells: vec![0; 1 << m] }
-    }
-
-    /// Whether sweeping all cells is quicker than going to the counted ones again.
-    fn narrow(&self, rows: &[u16]) -> bool {
-        self.cells.len() <= rows.len()
-    }
-
-    /// `for_each` rather than a loop: `flat_map` is quick at it.
-    fn count(&mut self, rows: &[u16], a: usize) {
-        differences(rows, a).for_each(|beta| self.cells[usize::from(beta)] += 2);
-    }
-
-    /// Calls `visit` with every β that occurs for the difference a, each once, and its count.
-    fn visit(&mut self, rows: &[u16], a: usize, mut visit: impl FnMut(u32, u16)) {
-        self.count(rows, a);
-        differences(rows, a).for_each(|beta| {
-            let count = std::mem::take(&mut self.cells[usize::from(beta)]);
-            if count > 0 {
-                visit(u32::from(beta), count);
-            }
-        });
-    }
-
-    /// The largest count for the difference a and the first β that has it, if this count is
-    /// above `floor`.
-    fn largest_above(&mut self, floor: u16, rows: &[u16], a: usize) -> Option<(u16, u32)> {
-        if self.narrow(rows) {
-            self.count(rows, a);
-            let largest = self.cells.iter().fold(floor, |most, &count| most.max(count));
-            let place = || self.cells.iter().position(|&count| count == largest);
-            let found = if largest > floor { place() } else { None };
-            self.cells.fill(0);
-            return found.map(|beta| (largest, beta as u32));
-        }
-        let mut found: Option<(u16, u32)> = None;
-        self.visit(rows, a, |beta, count| {
-            let better = |(most, first)| count > most || (count == most && beta < first);
-            if count > floor && found.is_none_or(better) {
-                found = Some((count, beta));
-            }
-        });
-        found
-    }
-}
-
-/// Figures: count, a, β.
-pub fn largest_cell(m: u32, rows: &[u16]) -> [u32; 3] {
-    let mut counts = Counts::new(m);
-    let (mut largest, mut witness) = (0, (0, 0));
-    for a in 1..rows.len() {
-        if let Some((count, beta)) = counts.largest_above(largest, rows, a) {
-            (largest, witness) = (count, (a as u32, beta));
-        }
-    }
-    [u32::from(largest), witness.0, witness.1]
-}
-
-/// All largest cells, each as a * 65536 + β, ascending in a.
-pub fn largest_cells(m: u32, rows: &[u16]) -> Vec<u32> {
-    let mut counts = Counts::new(m);
-    let (mut largest, mut cells) = (0, Vec::new());
-    for a in 1..rows.len() {
-        counts.visit(rows, a, |beta, count| {
-            if count > largest {
-                largest = count;
-                cells.clear();
-            }
-            if count == largest {
-                cells.push(a as u32 * 65536 + beta);
-            }
-        });
-    }
-    cells
-}
-
 /// The normal forms of all columns at once: XOR does not mix the bits of a row.
-fn normal_forms(values: &mut [u16]) {
+fn normal_forms(values: &mut [u32]) {
     let mut half = 1;
     while half < values.len() {
         for block in values.chunks_exact_mut(2 * half) {
@@ -319,8 +246,8 @@ fn normal_forms(values: &mut [u16]) {
 /// Figures: degree, c. The coefficients of a combination are the combination of the
 /// coefficients, so the combinations are visited in the box of the normal forms. What is
 /// kept is the largest difference from n, which is the least degree.
-pub fn degree(n: u32, m: u32, rows: &[u16]) -> [u32; 2] {
-    let mut buffer = [0u16; ROWS];
+pub fn degree(n: u32, m: u32, rows: &[u32], i: u32) -> [u32; 2] {
+    let mut buffer = [0; ROWS];
     let coefficients = &mut buffer[..rows.len()];
     coefficients.copy_from_slice(rows);
     normal_forms(coefficients);
@@ -329,7 +256,7 @@ pub fn degree(n: u32, m: u32, rows: &[u16]) -> [u32; 2] {
         *count = u.count_ones() as u8;
     }
     let mut best = Best::none();
-    visit_combinations(m, coefficients, |c, form| {
+    visit_combinations(m, coefficients, i, |c, form| {
         let present = form.iter().zip(&ones).map(|(&coefficient, &count)| count & coefficient.wrapping_neg());
         let degree = present.fold(0, u8::max);
         best.offer(n as i32 - i32::from(degree), c);
@@ -337,61 +264,99 @@ pub fn degree(n: u32, m: u32, rows: &[u16]) -> [u32; 2] {
     [(n as i32 - best.figure) as u32, best.c]
 }
 
-pub fn complete(n: u32, m: u32, rows: &[u16]) -> bool {
-    let all_columns = ((1u32 << m) - 1) as u16;
+pub fn complete(n: u32, m: u32, rows: &[u32]) -> bool {
+    let all_columns = u32::MAX >> (32 - m);
     (0..n).all(|k| {
         let changed = |sum, x: usize| sum | (rows[x] ^ rows[x ^ (1 << k)]);
         (0..rows.len()).fold(0, changed) == all_columns
     })
 }
 
-pub fn bijective(n: u32, m: u32, rows: &[u16]) -> bool {
+pub fn bijective(n: u32, m: u32, rows: &[u32]) -> bool {
     let mut seen = [false; ROWS];
-    n == m && rows.iter().all(|&row| !std::mem::replace(&mut seen[usize::from(row)], true))
+    n == m && rows.iter().all(|&row| !std::mem::replace(&mut seen[row as usize], true))
 }
 
 #[cfg(test)]
 mod tests {
     use super::*;
     use crate::boxes::{self, KINDS};
+    use crate::combinations::{how_many, quick_limit, within};
     use crate::model;
     use crate::random::Random;
 
-    fn agrees(n: u32, m: u32, rows: &[u16], random: &mut Random) {
-        let shown = format!("n = {n}, m = {m}, rows = {rows:?}");
-        assert_eq!(nonlinearity(n, m, rows), model::nonlinearity_by_definition(n, m, rows), "{shown}");
-        assert_eq!(nonlinearity_16(n, m, rows), nonlinearity(n, m, rows), "{shown}");
-        assert_eq!(autocorrelation(n, m, rows), model::autocorrelation_by_definition(n, m, rows), "{shown}");
-        let (i, j) = (random.between(1, m), random.between(1, n));
+    fn agrees(n: u32, m: u32, rows: &[u32], i: u32, random: &mut Random) {
+        let shown = format!("n = {n}, m = {m}, i = {i}, rows = {rows:?}");
+        assert_eq!(nonlinearity(n, m, rows, i), model::nonlinearity_by_definition(n, m, rows, i), "{shown}");
+        assert_eq!(nonlinearity_16(n, m, rows, i), nonlinearity(n, m, rows, i), "{shown}");
+        assert_eq!(autocorrelation(n, m, rows, i), model::autocorrelation_by_definition(n, m, rows, i), "{shown}");
+        assert_eq!(degree(n, m, rows, i), model::degree_by_definition(m, rows, i), "{shown}");
+        let j = random.between(1, n);
         let distance = model::dynamic_distance_by_definition(n, m, rows, i, j);
-        assert_eq!(dynamic_distance(n, m, rows, i, j), distance, "order ({i}, {j}), {shown}");
-        assert_eq!(degree(n, m, rows), model::degree_by_definition(m, rows), "{shown}");
-        cheap_figures_agree(n, m, rows);
+        assert_eq!(dynamic_distance(n, m, rows, i, j), distance, "j = {j}, {shown}");
     }
 
-    fn cheap_figures_agree(n: u32, m: u32, rows: &[u16]) {
+    fn cheap_figures_agree(n: u32, m: u32, rows: &[u32], c: u32) {
         let shown = format!("n = {n}, m = {m}, rows = {rows:?}");
-        assert_eq!(largest_cell(m, rows), model::largest_cell_by_definition(n, m, rows), "{shown}");
-        let mut cells = largest_cells(m, rows);
-        cells.sort();
-        assert_eq!(cells, model::largest_cells_by_definition(n, m, rows), "{shown}");
         assert_eq!(complete(n, m, rows), model::complete_by_definition(n, m, rows), "{shown}");
         assert_eq!(bijective(n, m, rows), model::bijective_by_definition(n, m, rows), "{shown}");
-        let c = rows.len() as u32 % ((1 << m) - 1) + 1;
-        assert_eq!(Ok(spectrum(rows, c)), model::component_spectrum(n, m, rows, c, rows.len()));
+        assert_eq!(Ok(spectrum(rows, c)), model::component_spectrum(n, m, rows, c, rows.len()), "c = {c}, {shown}");
     }
 
     #[test]
-    fn agrees_with_the_definitions_at_every_bearable_width() {
+    fn combinations_within_the_limit_are_visited_in_ascending_order() {
+        let mut random = Random::new(10);
+        for m in 1..=32 {
+            let rows = boxes::random_rows(3, m, &mut random);
+            for i in [1, 2, 3, 4, m].into_iter().filter(|&i| i <= quick_limit(3, m)) {
+                let mut visited = Vec::new();
+                visit_combinations(m, &rows, i, |c, table| {
+                    assert_eq!(table, model::combination(&rows, c), "m = {m}, c = {c}");
+                    visited.push(c);
+                });
+                assert_eq!(visited, within(m, i), "m = {m}, i = {i}");
+            }
+        }
+    }
+
+    /// A limit at random among those at which the definitions take no long time.
+    fn short_limit(n: u32, m: u32, random: &mut Random) -> u32 {
+        let most = (1..=m).rev().find(|&i| how_many(m, i) << (2 * n) <= 1 << 20).unwrap_or(1);
+        random.between(1, most)
+    }
+
+    #[test]
+    fn agrees_with_the_definitions_at_every_width() {
         let mut random = Random::new(11);
-        for n in 1..=8 {
-            for m in 1..=16u32 {
-                let cost = m + 2 * n;
-                let kinds = if cost <= 18 { KINDS } else if cost <= 21 { 3 } else { 1 };
-                for kind in (0..kinds).filter(|_| cost <= 24) {
-                    let rows = boxes::of_kind(kind + m, n, m, &mut random);
-                    agrees(n, m, &rows, &mut random);
-                }
+        for (n, m) in (1..=8).flat_map(|n| (1..=32).map(move |m| (n, m))) {
+            for kind in 0..3 {
+                let rows = boxes::of_kind(kind + 3 * m, n, m, &mut random);
+                let i = short_limit(n, m, &mut random);
+                agrees(n, m, &rows, i, &mut random);
+                cheap_figures_agree(n, m, &rows, random.between(1, model::all_outputs(m)));
+            }
+        }
+    }
+
+    /// As many outputs together as the definitions bear, and the widest box there is.
+    #[test]
+    fn agrees_with_the_definitions_at_high_limits() {
+        let mut random = Random::new(13);
+        let widths = [(2, 20, 20), (4, 16, 16), (4, 32, 4), (5, 14, 14), (6, 12, 12), (7, 10, 10), (8, 8, 8), (8, 16, 2), (8, 32, 3)];
+        for (n, m, i) in widths {
+            let rows = boxes::random_rows(n, m, &mut random);
+            agrees(n, m, &rows, i, &mut random);
+        }
+    }
+
+    #[test]
+    fn agrees_with_the_definitions_on_boxes_of_every_kind() {
+        let mut random = Random::new(12);
+        for (n, m) in (1..=5).flat_map(|n| (1..=8).map(move |m| (n, m))) {
+            for kind in 0..KINDS {
+                let rows = boxes::of_kind(kind, n, m, &mut random);
+                agrees(n, m, &rows, m, &mut random);
+                agrees(n, m, &rows, random.between(1, m), &mut random);
             }
         }
     }
@@ -400,38 +365,60 @@ mod tests {
     fn cheap_figures_agree_at_the_widest() {
         let mut random = Random::new(12);
         for kind in 0..KINDS {
-            let rows = boxes::of_kind(kind, 8, 16, &mut random);
-            cheap_figures_agree(8, 16, &rows);
+            let rows = boxes::of_kind(kind, 8, 32, &mut random);
+            cheap_figures_agree(8, 32, &rows, random.draw() as u32 | 1);
         }
     }
 
     /// Beyond the definitions' reach, the combination that is named is looked at by itself,
     /// and others at random.
-    #[test]
-    fn no_combination_is_weaker_at_the_widest() {
-        let mut random = Random::new(14);
+    fn no_combination_is_weaker(m: u32, i: u32, random: &mut Random) {
         for kind in 0..KINDS {
-            let rows = boxes::of_kind(kind, 8, 16, &mut random);
+            let rows = boxes::of_kind(kind, 8, m, random);
             let of = |c| model::degree_of_function(&model::combination(&rows, c));
-            let [least, first] = degree(8, 16, &rows);
+            let [least, first] = degree(8, m, &rows, i);
             assert_eq!(of(first), least, "{rows:?}");
+            let all = within(m, i);
             for _ in 0..40 {
-                let c = random.between(1, 65535);
+                let c = random.pick(&all);
                 assert!(of(c) > least || (of(c) == least && c >= first), "c = {c}, {rows:?}");
             }
         }
+    }
+
+    #[test]
+    fn no_combination_is_weaker_at_the_widest() {
+        let mut random = Random::new(14);
+        no_combination_is_weaker(16, 16, &mut random);
+        no_combination_is_weaker(32, 4, &mut random);
     }
 
     /// Two criteria that must agree: a combination of degree 1 or 0 is an affine function.
     #[test]
     fn the_degree_is_at_most_1_exactly_when_the_nonlinearity_is_0() {
         let mut random = Random::new(15);
-        for (n, m) in (1..=8).flat_map(|n| (1..=8).map(move |m| (n, m))) {
+        for (n, m) in (1..=8).flat_map(|n| [1, 2, 4, 8, 19, 32].map(|m| (n, m))) {
             for kind in 0..KINDS {
                 let rows = boxes::of_kind(kind, n, m, &mut random);
-                let [weakest, _] = degree(n, m, &rows);
-                let [nearest, ..] = nonlinearity(n, m, &rows);
-                assert_eq!(weakest <= 1, nearest == 0, "n = {n}, m = {m}, rows = {rows:?}");
+                let i = random.between(1, m.min(3));
+                let [weakest, _] = degree(n, m, &rows, i);
+                let [nearest, ..] = nonlinearity(n, m, &rows, i);
+                assert_eq!(weakest <= 1, nearest == 0, "n = {n}, m = {m}, i = {i}, rows = {rows:?}");
+            }
+        }
+    }
+
+    /// With a higher limit more combinations are looked at, and the worst of more is no better.
+    #[test]
+    fn a_higher_limit_never_gives_a_better_figure() {
+        let mut random = Random::new(16);
+        for kind in 0..KINDS {
+            let rows = boxes::of_kind(kind, 5, 32, &mut random);
+            for i in 1..4 {
+                let shown = format!("i = {i}, rows = {rows:?}");
+                assert!(nonlinearity(5, 32, &rows, i + 1)[0] <= nonlinearity(5, 32, &rows, i)[0], "{shown}");
+                assert!(autocorrelation(5, 32, &rows, i + 1)[0] >= autocorrelation(5, 32, &rows, i)[0], "{shown}");
+                assert!(degree(5, 32, &rows, i + 1)[0] <= degree(5, 32, &rows, i)[0], "{shown}");
             }
         }
     }
@@ -439,7 +426,11 @@ mod tests {
     /// Beyond the definitions' reach, the two number widths at least check each other.
     #[test]
     fn both_number_widths_agree_at_the_widest() {
-        let rows = boxes::of_kind(0, 8, 14, &mut Random::new(13));
-        assert_eq!(nonlinearity(8, 14, &rows), nonlinearity_16(8, 14, &rows));
+        let mut random = Random::new(17);
+        for (m, i) in [(14, 14), (32, 4)] {
+            assert!(!model::bearable(8, m, i) && how_many(m, i) < 50_000);
+            let rows = boxes::random_rows(8, m, &mut random);
+            assert_eq!(nonlinearity(8, m, &rows, i), nonlinearity_16(8, m, &rows, i));
+        }
     }
 }

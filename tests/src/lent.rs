@@ -28,6 +28,12 @@ impl Pattern for u32 {
     }
 }
 
+impl Pattern for u64 {
+    fn pattern(random: &mut Random) -> u64 {
+        random.draw()
+    }
+}
+
 impl Pattern for i32 {
     fn pattern(random: &mut Random) -> i32 {
         random.draw() as i32

@@ -1,9 +1,12 @@
-//! A second program for the measures of substitution boxes, written from document 01 alone.
+//! A second program for the measures of substitution boxes, written from documents 01 and 02
+//! alone.
 //!
-//! `model` follows the definitions word for word and is slow; `fast` gives the same figures
-//! quickly; `sheet` prints the box sheet. None of them uses the library.
+//! `model` follows the definitions word for word and is slow; `fast` and `fast_cells` give the
+//! same figures quickly; `sheet` prints the box sheet. None of them uses the library.
 pub mod boxes;
+pub mod combinations;
 pub mod fast;
+pub mod fast_cells;
 pub mod model;
 pub mod published;
 pub mod random;

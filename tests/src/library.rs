@@ -9,22 +9,22 @@ mod raw {
     extern "C" {
         pub fn satmegwo_spectrum(n: u32, table: *const u8, table_len: usize, out: *mut i32, out_len: usize) -> u32;
         pub fn satmegwo_inverse_spectrum(n: u32, values: *const i32, values_len: usize, table: *mut u8, table_len: usize) -> u32;
-        pub fn satmegwo_component_spectrum(n: u32, m: u32, rows: *const u16, rows_len: usize, c: u32, out: *mut i32, out_len: usize) -> u32;
-        pub fn satmegwo_nonlinearity(n: u32, m: u32, rows: *const u16, rows_len: usize, figures: *mut u32, figures_len: usize) -> u32;
-        pub fn satmegwo_add_to_column(n: u32, m: u32, rows: *const u16, rows_len: usize, j: u32, w: u32, b: u32, out: *mut u16, out_len: usize) -> u32;
-        pub fn satmegwo_xor_row(n: u32, m: u32, rows: *const u16, rows_len: usize, a: u32, counts: *mut u16, counts_len: usize) -> u32;
-        pub fn satmegwo_largest_cell(n: u32, m: u32, rows: *const u16, rows_len: usize, figures: *mut u32, figures_len: usize) -> u32;
-        pub fn satmegwo_largest_cells(n: u32, m: u32, rows: *const u16, rows_len: usize, list: *mut u32, list_len: usize, figures: *mut u32, figures_len: usize) -> u32;
-        pub fn satmegwo_autocorrelation(n: u32, m: u32, rows: *const u16, rows_len: usize, figures: *mut u32, figures_len: usize) -> u32;
-        pub fn satmegwo_dynamic_distance(n: u32, m: u32, rows: *const u16, rows_len: usize, i: u32, j: u32, figures: *mut u32, figures_len: usize) -> u32;
+        pub fn satmegwo_component_spectrum(n: u32, m: u32, rows: *const u32, rows_len: usize, c: u32, out: *mut i32, out_len: usize) -> u32;
+        pub fn satmegwo_nonlinearity(n: u32, m: u32, rows: *const u32, rows_len: usize, i: u32, figures: *mut u32, figures_len: usize) -> u32;
+        pub fn satmegwo_add_to_column(n: u32, m: u32, rows: *const u32, rows_len: usize, j: u32, w: u32, b: u32, out: *mut u32, out_len: usize) -> u32;
+        pub fn satmegwo_xor_row(n: u32, m: u32, rows: *const u32, rows_len: usize, a: u32, counts: *mut u16, counts_len: usize) -> u32;
+        pub fn satmegwo_largest_cell(n: u32, m: u32, rows: *const u32, rows_len: usize, figures: *mut u32, figures_len: usize) -> u32;
+        pub fn satmegwo_largest_cells(n: u32, m: u32, rows: *const u32, rows_len: usize, list: *mut u64, list_len: usize, figures: *mut u32, figures_len: usize) -> u32;
+        pub fn satmegwo_autocorrelation(n: u32, m: u32, rows: *const u32, rows_len: usize, i: u32, figures: *mut u32, figures_len: usize) -> u32;
+        pub fn satmegwo_dynamic_distance(n: u32, m: u32, rows: *const u32, rows_len: usize, i: u32, j: u32, figures: *mut u32, figures_len: usize) -> u32;
         pub fn satmegwo_normal_form(n: u32, table: *const u8, table_len: usize, out: *mut u8, out_len: usize) -> u32;
-        pub fn satmegwo_degree(n: u32, m: u32, rows: *const u16, rows_len: usize, figures: *mut u32, figures_len: usize) -> u32;
-        pub fn satmegwo_complete(n: u32, m: u32, rows: *const u16, rows_len: usize, figures: *mut u32, figures_len: usize) -> u32;
-        pub fn satmegwo_bijective(n: u32, m: u32, rows: *const u16, rows_len: usize, figures: *mut u32, figures_len: usize) -> u32;
+        pub fn satmegwo_degree(n: u32, m: u32, rows: *const u32, rows_len: usize, i: u32, figures: *mut u32, figures_len: usize) -> u32;
+        pub fn satmegwo_complete(n: u32, m: u32, rows: *const u32, rows_len: usize, figures: *mut u32, figures_len: usize) -> u32;
+        pub fn satmegwo_bijective(n: u32, m: u32, rows: *const u32, rows_len: usize, figures: *mut u32, figures_len: usize) -> u32;
         pub fn satmegwo_enlarge_column(n: u32, table: *const u8, table_len: usize, k: u32, a: u32, out: *mut u8, out_len: usize) -> u32;
-        pub fn satmegwo_enlarge_box(n: u32, rows: *const u16, rows_len: usize, table: *const u8, table_len: usize, k: u32, out: *mut u16, out_len: usize) -> u32;
+        pub fn satmegwo_enlarge_box(n: u32, rows: *const u32, rows_len: usize, table: *const u8, table_len: usize, k: u32, out: *mut u32, out_len: usize) -> u32;
         pub fn satmegwo_bent_function(n: u32, permutation: *const u8, permutation_len: usize, table: *const u8, table_len: usize, out: *mut u8, out_len: usize) -> u32;
-        pub fn satmegwo_read_box(file: *const u8, file_len: usize, rows: *mut u16, rows_len: usize, figures: *mut u32, figures_len: usize) -> u32;
+        pub fn satmegwo_read_box(file: *const u8, file_len: usize, rows: *mut u32, rows_len: usize, figures: *mut u32, figures_len: usize) -> u32;
     }
 }
 
@@ -39,37 +39,37 @@ pub fn inverse_spectrum(n: u32, values: &[i32], table: &mut [u8]) -> u32 {
     unsafe { raw::satmegwo_inverse_spectrum(n, values.as_ptr(), values.len(), table.as_mut_ptr(), table.len()) }
 }
 
-pub fn component_spectrum(n: u32, m: u32, rows: &[u16], c: u32, out: &mut [i32]) -> u32 {
+pub fn component_spectrum(n: u32, m: u32, rows: &[u32], c: u32, out: &mut [i32]) -> u32 {
     unsafe { raw::satmegwo_component_spectrum(n, m, rows.as_ptr(), rows.len(), c, out.as_mut_ptr(), out.len()) }
 }
 
-pub fn nonlinearity(n: u32, m: u32, rows: &[u16], figures: &mut [u32]) -> u32 {
-    unsafe { raw::satmegwo_nonlinearity(n, m, rows.as_ptr(), rows.len(), figures.as_mut_ptr(), figures.len()) }
+pub fn nonlinearity(n: u32, m: u32, rows: &[u32], i: u32, figures: &mut [u32]) -> u32 {
+    unsafe { raw::satmegwo_nonlinearity(n, m, rows.as_ptr(), rows.len(), i, figures.as_mut_ptr(), figures.len()) }
 }
 
-pub fn add_to_column(n: u32, m: u32, rows: &[u16], j: u32, w: u32, b: u32, out: &mut [u16]) -> u32 {
+pub fn add_to_column(n: u32, m: u32, rows: &[u32], j: u32, w: u32, b: u32, out: &mut [u32]) -> u32 {
     unsafe { raw::satmegwo_add_to_column(n, m, rows.as_ptr(), rows.len(), j, w, b, out.as_mut_ptr(), out.len()) }
 }
 
-pub fn xor_row(n: u32, m: u32, rows: &[u16], a: u32, counts: &mut [u16]) -> u32 {
+pub fn xor_row(n: u32, m: u32, rows: &[u32], a: u32, counts: &mut [u16]) -> u32 {
     unsafe { raw::satmegwo_xor_row(n, m, rows.as_ptr(), rows.len(), a, counts.as_mut_ptr(), counts.len()) }
 }
 
-pub fn largest_cell(n: u32, m: u32, rows: &[u16], figures: &mut [u32]) -> u32 {
+pub fn largest_cell(n: u32, m: u32, rows: &[u32], figures: &mut [u32]) -> u32 {
     unsafe { raw::satmegwo_largest_cell(n, m, rows.as_ptr(), rows.len(), figures.as_mut_ptr(), figures.len()) }
 }
 
-pub fn largest_cells(n: u32, m: u32, rows: &[u16], list: &mut [u32], figures: &mut [u32]) -> u32 {
+pub fn largest_cells(n: u32, m: u32, rows: &[u32], list: &mut [u64], figures: &mut [u32]) -> u32 {
     unsafe {
         raw::satmegwo_largest_cells(n, m, rows.as_ptr(), rows.len(), list.as_mut_ptr(), list.len(), figures.as_mut_ptr(), figures.len())
     }
 }
 
-pub fn autocorrelation(n: u32, m: u32, rows: &[u16], figures: &mut [u32]) -> u32 {
-    unsafe { raw::satmegwo_autocorrelation(n, m, rows.as_ptr(), rows.len(), figures.as_mut_ptr(), figures.len()) }
+pub fn autocorrelation(n: u32, m: u32, rows: &[u32], i: u32, figures: &mut [u32]) -> u32 {
+    unsafe { raw::satmegwo_autocorrelation(n, m, rows.as_ptr(), rows.len(), i, figures.as_mut_ptr(), figures.len()) }
 }
 
-pub fn dynamic_distance(n: u32, m: u32, rows: &[u16], i: u32, j: u32, figures: &mut [u32]) -> u32 {
+pub fn dynamic_distance(n: u32, m: u32, rows: &[u32], i: u32, j: u32, figures: &mut [u32]) -> u32 {
     unsafe { raw::satmegwo_dynamic_distance(n, m, rows.as_ptr(), rows.len(), i, j, figures.as_mut_ptr(), figures.len()) }
 }
 
@@ -77,15 +77,15 @@ pub fn normal_form(n: u32, table: &[u8], out: &mut [u8]) -> u32 {
     unsafe { raw::satmegwo_normal_form(n, table.as_ptr(), table.len(), out.as_mut_ptr(), out.len()) }
 }
 
-pub fn degree(n: u32, m: u32, rows: &[u16], figures: &mut [u32]) -> u32 {
-    unsafe { raw::satmegwo_degree(n, m, rows.as_ptr(), rows.len(), figures.as_mut_ptr(), figures.len()) }
+pub fn degree(n: u32, m: u32, rows: &[u32], i: u32, figures: &mut [u32]) -> u32 {
+    unsafe { raw::satmegwo_degree(n, m, rows.as_ptr(), rows.len(), i, figures.as_mut_ptr(), figures.len()) }
 }
 
-pub fn complete(n: u32, m: u32, rows: &[u16], figures: &mut [u32]) -> u32 {
+pub fn complete(n: u32, m: u32, rows: &[u32], figures: &mut [u32]) -> u32 {
     unsafe { raw::satmegwo_complete(n, m, rows.as_ptr(), rows.len(), figures.as_mut_ptr(), figures.len()) }
 }
 
-pub fn bijective(n: u32, m: u32, rows: &[u16], figures: &mut [u32]) -> u32 {
+pub fn bijective(n: u32, m: u32, rows: &[u32], figures: &mut [u32]) -> u32 {
     unsafe { raw::satmegwo_bijective(n, m, rows.as_ptr(), rows.len(), figures.as_mut_ptr(), figures.len()) }
 }
 
@@ -93,7 +93,7 @@ pub fn enlarge_column(n: u32, table: &[u8], k: u32, a: u32, out: &mut [u8]) -> u
     unsafe { raw::satmegwo_enlarge_column(n, table.as_ptr(), table.len(), k, a, out.as_mut_ptr(), out.len()) }
 }
 
-pub fn enlarge_box(n: u32, rows: &[u16], table: &[u8], k: u32, out: &mut [u16]) -> u32 {
+pub fn enlarge_box(n: u32, rows: &[u32], table: &[u8], k: u32, out: &mut [u32]) -> u32 {
     unsafe { raw::satmegwo_enlarge_box(n, rows.as_ptr(), rows.len(), table.as_ptr(), table.len(), k, out.as_mut_ptr(), out.len()) }
 }
 
@@ -103,6 +103,6 @@ pub fn bent_function(n: u32, permutation: &[u8], table: &[u8], out: &mut [u8]) -
     }
 }
 
-pub fn read_box(file: &[u8], rows: &mut [u16], figures: &mut [u32]) -> u32 {
+pub fn read_box(file: &[u8], rows: &mut [u32], figures: &mut [u32]) -> u32 {
     unsafe { raw::satmegwo_read_box(file.as_ptr(), file.len(), rows.as_mut_ptr(), rows.len(), figures.as_mut_ptr(), figures.len()) }
 }

@@ -1,9 +1,11 @@
-//! The second program: every call of document 01, from its definition.
+//! The second program: every call of documents 01 and 02, from its definition.
 //!
 //! Each call first looks for a refusal, down the table of document 01, and then counts
 //! inputs and adds up plus and minus ones as the definition says. A lent array shows up
 //! here only as its length; what the call would write to it is the value returned.
+use crate::combinations::{how_many, within};
 use crate::fast;
+use std::collections::BTreeMap;
 
 /// The refusals' numbers.
 pub const INPUT_WIDTH: u32 = 1;
@@ -16,6 +18,10 @@ pub const WRITTEN_LENGTH: u32 = 7;
 pub const NO_FUNCTION: u32 = 8;
 pub const LIST_TOO_SHORT: u32 = 9;
 pub const FILE_LENGTH: u32 = 10;
+
+/// The most outputs of a box, and of a box of which a whole XOR row is given.
+const MOST_OUTPUTS: u32 = 32;
+const MOST_OUTPUTS_OF_A_ROW: u32 = 16;
 
 /// A result, or the number of the refusal.
 pub type Answer<T> = Result<T, u32>;
@@ -36,16 +42,16 @@ fn check_inputs(n: u32, most: u32) -> Answer<()> {
     refuse_when(n < 1 || n > most, INPUT_WIDTH)
 }
 
-fn check_outputs(m: u32) -> Answer<()> {
-    refuse_when(!(1..=16).contains(&m), OUTPUT_WIDTH)
+fn check_outputs(m: u32, most: u32) -> Answer<()> {
+    refuse_when(m < 1 || m > most, OUTPUT_WIDTH)
 }
 
 fn check_read(length: usize, right: usize) -> Answer<()> {
     refuse_when(length != right, READ_LENGTH)
 }
 
-fn check_rows(m: u32, rows: &[u16]) -> Answer<()> {
-    refuse_when(rows.iter().any(|&row| u32::from(row) >= 1 << m), READ_VALUE)
+fn check_rows(m: u32, rows: &[u32]) -> Answer<()> {
+    refuse_when(rows.iter().any(|&row| u64::from(row) >= 1 << m), READ_VALUE)
 }
 
 fn check_truth_values(table: &[u8]) -> Answer<()> {
@@ -60,12 +66,17 @@ fn check_written(length: usize, right: usize) -> Answer<()> {
     refuse_when(length != right, WRITTEN_LENGTH)
 }
 
-/// Refusals 1 to 4 of a box.
-fn check_box(n: u32, m: u32, rows: &[u16]) -> Answer<()> {
+/// Refusals 1 to 4 of a box with at most `most` outputs.
+fn check_box_up_to(most: u32, n: u32, m: u32, rows: &[u32]) -> Answer<()> {
     check_inputs(n, 8)?;
-    check_outputs(m)?;
+    check_outputs(m, most)?;
     check_read(rows.len(), 1 << n)?;
     check_rows(m, rows)
+}
+
+/// Refusals 1 to 4 of a box.
+fn check_box(n: u32, m: u32, rows: &[u32]) -> Answer<()> {
+    check_box_up_to(MOST_OUTPUTS, n, m, rows)
 }
 
 /// Refusals 1, 3 and 4 of a truth table with at most `most` inputs.
@@ -84,9 +95,14 @@ pub fn parity(number: u32) -> u8 {
     (number.count_ones() & 1) as u8
 }
 
+/// The combination of all outputs, 2^m - 1, which is also the largest row.
+pub fn all_outputs(m: u32) -> u32 {
+    ((1u64 << m) - 1) as u32
+}
+
 /// The truth table of combination c.
-pub fn combination(rows: &[u16], c: u32) -> Vec<u8> {
-    rows.iter().map(|&row| parity(u32::from(row) & c)).collect()
+pub fn combination(rows: &[u32], c: u32) -> Vec<u8> {
+    rows.iter().map(|&row| parity(row & c)).collect()
 }
 
 /// The truth table of x -> w·x.
@@ -108,10 +124,10 @@ fn count_of_differing(f: &[u8], line: &[u8], b: u32) -> u32 {
 }
 
 /// The least count with its first witness: d, c, w, b.
-pub fn nonlinearity_by_definition(n: u32, m: u32, rows: &[u16]) -> [u32; 4] {
+pub fn nonlinearity_by_definition(n: u32, m: u32, rows: &[u32], i: u32) -> [u32; 4] {
     let lines: Vec<Vec<u8>> = (0..1 << n).map(|w| linear(n, w)).collect();
     let mut best = [u32::MAX, 0, 0, 0];
-    for c in 1..1u32 << m {
+    for c in within(m, i) {
         let f = combination(rows, c);
         for w in 0..1u32 << n {
             for b in 0..2 {
@@ -125,36 +141,46 @@ pub fn nonlinearity_by_definition(n: u32, m: u32, rows: &[u16]) -> [u32; 4] {
     best
 }
 
-/// One row of the XOR table: for each β the count of x with S(x) XOR S(x XOR a) = β.
-fn xor_row_by_definition(m: u32, rows: &[u16], a: u32) -> Vec<u16> {
-    let mut counts = vec![0; 1 << m];
+/// The cells of one row of the XOR table that are not 0: for each β its count of x with
+/// S(x) XOR S(x XOR a) = β, in ascending β.
+fn cells_by_definition(rows: &[u32], a: u32) -> BTreeMap<u32, u32> {
+    let mut cells = BTreeMap::new();
     for x in 0..rows.len() {
-        counts[usize::from(rows[x] ^ rows[x ^ a as usize])] += 1;
+        *cells.entry(rows[x] ^ rows[x ^ a as usize]).or_insert(0) += 1;
     }
-    counts
+    cells
 }
 
-/// The largest count with its first witness: count, a, β.
-pub fn largest_cell_by_definition(n: u32, m: u32, rows: &[u16]) -> [u32; 3] {
+/// One row of the XOR table, whole.
+fn xor_row_by_definition(m: u32, rows: &[u32], a: u32) -> Vec<u16> {
+    let mut row = vec![0; 1 << m];
+    for (beta, count) in cells_by_definition(rows, a) {
+        row[beta as usize] = count as u16;
+    }
+    row
+}
+
+/// The largest count with its first witness: count, a, β. A cell of 0 is never the largest.
+pub fn largest_cell_by_definition(n: u32, rows: &[u32]) -> [u32; 3] {
     let mut best = [0, 0, 0];
     for a in 1..1u32 << n {
-        for (beta, &count) in xor_row_by_definition(m, rows, a).iter().enumerate() {
-            if u32::from(count) > best[0] {
-                best = [u32::from(count), a, beta as u32];
+        for (beta, count) in cells_by_definition(rows, a) {
+            if count > best[0] {
+                best = [count, a, beta];
             }
         }
     }
     best
 }
 
-/// All cells that reach the largest count, each as a * 65536 + β, ascending.
-pub fn largest_cells_by_definition(n: u32, m: u32, rows: &[u16]) -> Vec<u32> {
-    let largest = largest_cell_by_definition(n, m, rows)[0];
+/// All cells that reach the largest count, each as a * 2^32 + β, ascending.
+pub fn largest_cells_by_definition(n: u32, rows: &[u32]) -> Vec<u64> {
+    let largest = largest_cell_by_definition(n, rows)[0];
     let mut cells = Vec::new();
     for a in 1..1u32 << n {
-        for (beta, &count) in xor_row_by_definition(m, rows, a).iter().enumerate() {
-            if u32::from(count) == largest {
-                cells.push(a * 65536 + beta as u32);
+        for (beta, count) in cells_by_definition(rows, a) {
+            if count == largest {
+                cells.push((u64::from(a) << 32) + u64::from(beta));
             }
         }
     }
@@ -167,9 +193,9 @@ fn correlation(f: &[u8], s: u32) -> i32 {
 }
 
 /// The largest |r(s)| with its first witness: figure, c, s.
-pub fn autocorrelation_by_definition(n: u32, m: u32, rows: &[u16]) -> [u32; 3] {
+pub fn autocorrelation_by_definition(n: u32, m: u32, rows: &[u32], i: u32) -> [u32; 3] {
     let mut best: Option<[u32; 3]> = None;
-    for c in 1..1u32 << m {
+    for c in within(m, i) {
         let f = combination(rows, c);
         for s in 1..1u32 << n {
             let figure = correlation(&f, s).unsigned_abs();
@@ -187,10 +213,10 @@ fn count_of_changes(f: &[u8], d: u32) -> u32 {
 }
 
 /// The dynamic distance of order (i, j), not halved, with its first witness: figure, c, d.
-pub fn dynamic_distance_by_definition(n: u32, m: u32, rows: &[u16], i: u32, j: u32) -> [u32; 3] {
+pub fn dynamic_distance_by_definition(n: u32, m: u32, rows: &[u32], i: u32, j: u32) -> [u32; 3] {
     let mut best: Option<[u32; 3]> = None;
     let half = 1u32 << (n - 1);
-    for c in (1..1u32 << m).filter(|c| c.count_ones() <= i) {
+    for c in within(m, i) {
         let f = combination(rows, c);
         for d in (1..1u32 << n).filter(|d| d.count_ones() <= j) {
             let figure = half.abs_diff(count_of_changes(&f, d));
@@ -215,10 +241,10 @@ pub fn degree_of_function(f: &[u8]) -> u32 {
     present.map(|u| u.count_ones()).max().unwrap_or(0)
 }
 
-/// The least degree of a nonzero combination, and the first that has it: degree, c.
-pub fn degree_by_definition(m: u32, rows: &[u16]) -> [u32; 2] {
+/// The least degree of a combination, and the first that has it: degree, c.
+pub fn degree_by_definition(m: u32, rows: &[u32], i: u32) -> [u32; 2] {
     let mut best = [u32::MAX, 0];
-    for c in 1..1u32 << m {
+    for c in within(m, i) {
         let degree = degree_of_function(&combination(rows, c));
         if degree < best[0] {
             best = [degree, c];
@@ -227,23 +253,23 @@ pub fn degree_by_definition(m: u32, rows: &[u16]) -> [u32; 2] {
     best
 }
 
-pub fn complete_by_definition(n: u32, m: u32, rows: &[u16]) -> bool {
+pub fn complete_by_definition(n: u32, m: u32, rows: &[u32]) -> bool {
     (1..=m).all(|j| {
         let f = combination(rows, 1 << (j - 1));
         (1..=n).all(|k| count_of_changes(&f, 1 << (k - 1)) > 0)
     })
 }
 
-pub fn bijective_by_definition(n: u32, m: u32, rows: &[u16]) -> bool {
+pub fn bijective_by_definition(n: u32, m: u32, rows: &[u32]) -> bool {
     let no_two_equal = (0..rows.len()).all(|x| !rows[x + 1..].contains(&rows[x]));
     n == m && no_two_equal
 }
 
-/// Whether counting by definition over all combinations takes a bearable time.
-/// For wider boxes the model takes the figure from `fast`, which the unit tests
+/// Whether counting by definition over the combinations within the limit takes a bearable
+/// time. For wider boxes the model takes the figure from `fast`, which the unit tests
 /// compare with the definitions at every width within this bound.
-fn bearable(n: u32, m: u32) -> bool {
-    m + 2 * n <= 24
+pub fn bearable(n: u32, m: u32, i: u32) -> bool {
+    how_many(m, i) << (2 * n) <= 1 << 24
 }
 
 // ---------------------------------------------------------------------------
@@ -271,75 +297,77 @@ pub fn inverse_spectrum(n: u32, values: &[i32], table_len: usize) -> Answer<Vec<
     Ok(candidate)
 }
 
-pub fn component_spectrum(n: u32, m: u32, rows: &[u16], c: u32, out_len: usize) -> Answer<Vec<i32>> {
+pub fn component_spectrum(n: u32, m: u32, rows: &[u32], c: u32, out_len: usize) -> Answer<Vec<i32>> {
     check_box(n, m, rows)?;
-    check_parameter(c, 1, (1 << m) - 1)?;
+    check_parameter(c, 1, all_outputs(m))?;
     check_written(out_len, 1 << n)?;
     Ok(spectrum_by_definition(n, &combination(rows, c)))
 }
 
 /// Figures: d, c, w, b.
-pub fn nonlinearity(n: u32, m: u32, rows: &[u16], figures_len: usize) -> Answer<[u32; 4]> {
+pub fn nonlinearity(n: u32, m: u32, rows: &[u32], i: u32, figures_len: usize) -> Answer<[u32; 4]> {
     check_box(n, m, rows)?;
+    check_parameter(i, 1, m)?;
     check_written(figures_len, 4)?;
-    Ok(if bearable(n, m) {
-        nonlinearity_by_definition(n, m, rows)
+    Ok(if bearable(n, m, i) {
+        nonlinearity_by_definition(n, m, rows, i)
     } else {
-        fast::nonlinearity(n, m, rows)
+        fast::nonlinearity(n, m, rows, i)
     })
 }
 
-pub fn add_to_column(n: u32, m: u32, rows: &[u16], j: u32, w: u32, b: u32, out_len: usize) -> Answer<Vec<u16>> {
+pub fn add_to_column(n: u32, m: u32, rows: &[u32], j: u32, w: u32, b: u32, out_len: usize) -> Answer<Vec<u32>> {
     check_box(n, m, rows)?;
     check_parameter(j, 1, m)?;
     check_parameter(w, 0, (1 << n) - 1)?;
     check_parameter(b, 0, 1)?;
     check_written(out_len, 1 << n)?;
-    let added = |x: u32| u16::from(parity(w & x) ^ b as u8) << (j - 1);
+    let added = |x: u32| u32::from(parity(w & x) ^ b as u8) << (j - 1);
     Ok((0..1 << n).map(|x| rows[x as usize] ^ added(x)).collect())
 }
 
-pub fn xor_row(n: u32, m: u32, rows: &[u16], a: u32, counts_len: usize) -> Answer<Vec<u16>> {
-    check_box(n, m, rows)?;
+pub fn xor_row(n: u32, m: u32, rows: &[u32], a: u32, counts_len: usize) -> Answer<Vec<u16>> {
+    check_box_up_to(MOST_OUTPUTS_OF_A_ROW, n, m, rows)?;
     check_parameter(a, 1, (1 << n) - 1)?;
     check_written(counts_len, 1 << m)?;
     Ok(xor_row_by_definition(m, rows, a))
 }
 
 /// Figures: count, a, β.
-pub fn largest_cell(n: u32, m: u32, rows: &[u16], figures_len: usize) -> Answer<[u32; 3]> {
+pub fn largest_cell(n: u32, m: u32, rows: &[u32], figures_len: usize) -> Answer<[u32; 3]> {
     check_box(n, m, rows)?;
     check_written(figures_len, 3)?;
-    Ok(largest_cell_by_definition(n, m, rows))
+    Ok(largest_cell_by_definition(n, rows))
 }
 
 /// The cells in ascending order; their number is the figure.
-pub fn largest_cells(n: u32, m: u32, rows: &[u16], list_len: usize, figures_len: usize) -> Answer<Vec<u32>> {
+pub fn largest_cells(n: u32, m: u32, rows: &[u32], list_len: usize, figures_len: usize) -> Answer<Vec<u64>> {
     check_box(n, m, rows)?;
     check_written(figures_len, 1)?;
-    let cells = largest_cells_by_definition(n, m, rows);
+    let cells = largest_cells_by_definition(n, rows);
     refuse_when(list_len < cells.len(), LIST_TOO_SHORT)?;
     Ok(cells)
 }
 
 /// Figures: figure, c, s.
-pub fn autocorrelation(n: u32, m: u32, rows: &[u16], figures_len: usize) -> Answer<[u32; 3]> {
+pub fn autocorrelation(n: u32, m: u32, rows: &[u32], i: u32, figures_len: usize) -> Answer<[u32; 3]> {
     check_box(n, m, rows)?;
+    check_parameter(i, 1, m)?;
     check_written(figures_len, 3)?;
-    Ok(if bearable(n, m) {
-        autocorrelation_by_definition(n, m, rows)
+    Ok(if bearable(n, m, i) {
+        autocorrelation_by_definition(n, m, rows, i)
     } else {
-        fast::autocorrelation(n, m, rows)
+        fast::autocorrelation(n, m, rows, i)
     })
 }
 
 /// Figures: the doubled figure, c, d.
-pub fn dynamic_distance(n: u32, m: u32, rows: &[u16], i: u32, j: u32, figures_len: usize) -> Answer<[u32; 3]> {
+pub fn dynamic_distance(n: u32, m: u32, rows: &[u32], i: u32, j: u32, figures_len: usize) -> Answer<[u32; 3]> {
     check_box(n, m, rows)?;
     check_parameter(i, 1, m)?;
     check_parameter(j, 1, n)?;
     check_written(figures_len, 3)?;
-    Ok(if bearable(n, m) {
+    Ok(if bearable(n, m, i) {
         dynamic_distance_by_definition(n, m, rows, i, j)
     } else {
         fast::dynamic_distance(n, m, rows, i, j)
@@ -353,25 +381,26 @@ pub fn normal_form(n: u32, table: &[u8], out_len: usize) -> Answer<Vec<u8>> {
 }
 
 /// Figures: degree, c.
-pub fn degree(n: u32, m: u32, rows: &[u16], figures_len: usize) -> Answer<[u32; 2]> {
+pub fn degree(n: u32, m: u32, rows: &[u32], i: u32, figures_len: usize) -> Answer<[u32; 2]> {
     check_box(n, m, rows)?;
+    check_parameter(i, 1, m)?;
     check_written(figures_len, 2)?;
-    Ok(if bearable(n, m) {
-        degree_by_definition(m, rows)
+    Ok(if bearable(n, m, i) {
+        degree_by_definition(m, rows, i)
     } else {
-        fast::degree(n, m, rows)
+        fast::degree(n, m, rows, i)
     })
 }
 
 /// Figure: 1 for yes, 0 for no.
-pub fn complete(n: u32, m: u32, rows: &[u16], figures_len: usize) -> Answer<[u32; 1]> {
+pub fn complete(n: u32, m: u32, rows: &[u32], figures_len: usize) -> Answer<[u32; 1]> {
     check_box(n, m, rows)?;
     check_written(figures_len, 1)?;
     Ok([u32::from(complete_by_definition(n, m, rows))])
 }
 
 /// Figure: 1 for yes, 0 for no.
-pub fn bijective(n: u32, m: u32, rows: &[u16], figures_len: usize) -> Answer<[u32; 1]> {
+pub fn bijective(n: u32, m: u32, rows: &[u32], figures_len: usize) -> Answer<[u32; 1]> {
     check_box(n, m, rows)?;
     check_written(figures_len, 1)?;
     Ok([u32::from(bijective_by_definition(n, m, rows))])
@@ -386,7 +415,7 @@ pub fn enlarge_column(n: u32, table: &[u8], k: u32, a: u32, out_len: usize) -> A
     Ok(table.iter().copied().chain(upper).collect())
 }
 
-pub fn enlarge_box(n: u32, rows: &[u16], table: &[u8], k: u32, out_len: usize) -> Answer<Vec<u16>> {
+pub fn enlarge_box(n: u32, rows: &[u32], table: &[u8], k: u32, out_len: usize) -> Answer<Vec<u32>> {
     check_inputs(n, 7)?;
     check_read(rows.len(), 1 << n)?;
     check_read(table.len(), 1 << n)?;
@@ -394,7 +423,7 @@ pub fn enlarge_box(n: u32, rows: &[u16], table: &[u8], k: u32, out_len: usize) -
     check_truth_values(table)?;
     check_parameter(k, 1, n)?;
     check_written(out_len, 2 << n)?;
-    let top_bit = |value: u8| u16::from(value) << n;
+    let top_bit = |value: u8| u32::from(value) << n;
     let lower = (0..rows.len()).map(|x| rows[x] | top_bit(table[x]));
     let flipped = (0..rows.len()).map(|x| x ^ (1 << (k - 1)));
     let upper = flipped.map(|x| rows[x] | top_bit(table[x] ^ 1));
@@ -427,7 +456,7 @@ pub fn bent_function(n: u32, permutation: &[u8], table: &[u8], out_len: usize) -
 pub struct FileBox {
     pub n: u32,
     pub m: u32,
-    pub rows: Vec<u16>,
+    pub rows: Vec<u32>,
 }
 
 /// Everything about the file itself, before any array is lent.
@@ -435,9 +464,10 @@ pub fn parse_file(file: &[u8]) -> Answer<FileBox> {
     refuse_when(file.len() < 2, FILE_LENGTH)?;
     let (n, m) = (u32::from(file[0]), u32::from(file[1]));
     check_inputs(n, 8)?;
-    check_outputs(m)?;
-    refuse_when(file.len() != 2 + 2 * (1 << n), FILE_LENGTH)?;
-    let rows: Vec<u16> = file[2..].chunks(2).map(|two| u16::from_le_bytes([two[0], two[1]])).collect();
+    check_outputs(m, MOST_OUTPUTS)?;
+    refuse_when(file.len() != 2 + 4 * (1 << n), FILE_LENGTH)?;
+    let row = |four: &[u8]| u32::from_le_bytes([four[0], four[1], four[2], four[3]]);
+    let rows: Vec<u32> = file[2..].chunks(4).map(row).collect();
     check_rows(m, &rows)?;
     Ok(FileBox { n, m, rows })
 }
@@ -451,7 +481,7 @@ pub fn read_box(file: &[u8], rows_len: usize, figures_len: usize) -> Answer<File
 }
 
 /// The file that holds a box.
-pub fn file_of(n: u32, m: u32, rows: &[u16]) -> Vec<u8> {
+pub fn file_of(n: u32, m: u32, rows: &[u32]) -> Vec<u8> {
     let mut file = vec![n as u8, m as u8];
     file.extend(rows.iter().flat_map(|row| row.to_le_bytes()));
     file
@@ -461,26 +491,26 @@ pub fn file_of(n: u32, m: u32, rows: &[u16]) -> Vec<u8> {
 mod tests {
     use super::*;
 
-    const F: [u16; 8] = [3, 1, 4, 0, 2, 5, 6, 7];
+    const F: [u32; 8] = [3, 1, 4, 0, 2, 5, 6, 7];
 
     #[test]
     fn case_1_the_identity_of_one_bit() {
-        assert_eq!(nonlinearity(1, 1, &[0, 1], 4), Ok([0, 1, 1, 0]));
+        assert_eq!(nonlinearity(1, 1, &[0, 1], 1, 4), Ok([0, 1, 1, 0]));
         assert_eq!(dynamic_distance(1, 1, &[0, 1], 1, 1, 3).unwrap()[0], 1);
-        assert_eq!(degree(1, 1, &[0, 1], 2), Ok([1, 1]));
+        assert_eq!(degree(1, 1, &[0, 1], 1, 2), Ok([1, 1]));
     }
 
     #[test]
     fn case_2_a_constant() {
-        assert_eq!(nonlinearity(1, 1, &[0, 0], 4), Ok([0, 1, 0, 0]));
-        assert_eq!(degree(1, 1, &[0, 0], 2), Ok([0, 1]));
+        assert_eq!(nonlinearity(1, 1, &[0, 0], 1, 4), Ok([0, 1, 0, 0]));
+        assert_eq!(degree(1, 1, &[0, 0], 1, 2), Ok([0, 1]));
     }
 
     #[test]
     fn case_3_the_product_of_two_bits() {
         assert_eq!(spectrum(2, &[0, 0, 0, 1], 4), Ok(vec![2, 2, 2, -2]));
         assert_eq!(component_spectrum(2, 1, &[0, 0, 0, 1], 1, 4), Ok(vec![2, 2, 2, -2]));
-        assert_eq!(nonlinearity(2, 1, &[0, 0, 0, 1], 4), Ok([1, 1, 0, 0]));
+        assert_eq!(nonlinearity(2, 1, &[0, 0, 0, 1], 1, 4), Ok([1, 1, 0, 0]));
         assert_eq!(dynamic_distance(2, 1, &[0, 0, 0, 1], 1, 2, 3).unwrap()[0], 0);
     }
 
@@ -494,9 +524,9 @@ mod tests {
     #[test]
     fn case_7_the_identity_of_two_bits() {
         let rows = [0, 1, 2, 3];
-        assert_eq!(nonlinearity(2, 2, &rows, 4), Ok([0, 1, 1, 0]));
+        assert_eq!(nonlinearity(2, 2, &rows, 2, 4), Ok([0, 1, 1, 0]));
         assert_eq!(largest_cell(2, 2, &rows, 3), Ok([4, 1, 1]));
-        assert_eq!(autocorrelation(2, 2, &rows, 3), Ok([4, 1, 1]));
+        assert_eq!(autocorrelation(2, 2, &rows, 2, 3), Ok([4, 1, 1]));
     }
 
     #[test]
@@ -511,7 +541,7 @@ mod tests {
     fn case_9_a_box_enlarged() {
         let wide = enlarge_box(3, &F, &[1, 0, 0, 0, 1, 1, 0, 1], 1, 16).unwrap();
         assert_eq!(wide, [11, 1, 4, 0, 10, 13, 6, 15, 9, 3, 8, 12, 5, 2, 7, 14]);
-        assert_eq!(nonlinearity(4, 4, &wide, 4), Ok([0, 7, 15, 0]));
+        assert_eq!(nonlinearity(4, 4, &wide, 4, 4), Ok([0, 7, 15, 0]));
         assert_eq!(bijective(4, 4, &wide, 1), Ok([1]));
         assert_eq!(dynamic_distance(4, 4, &wide, 1, 1, 3).unwrap()[0], 0);
     }
@@ -520,24 +550,68 @@ mod tests {
     fn case_10_a_bent_function() {
         let f = bent_function(4, &[0, 1, 2, 3], &[0; 4], 16).unwrap();
         assert_eq!(f, [0, 0, 0, 0, 0, 1, 0, 1, 0, 0, 1, 1, 0, 1, 1, 0]);
-        let rows: Vec<u16> = f.iter().map(|&v| u16::from(v)).collect();
-        assert_eq!(nonlinearity(4, 1, &rows, 4).unwrap()[0], 6);
+        let rows: Vec<u32> = f.iter().map(|&v| u32::from(v)).collect();
+        assert_eq!(nonlinearity(4, 1, &rows, 1, 4).unwrap()[0], 6);
         assert!(spectrum(4, &f, 16).unwrap().iter().all(|v| v.abs() == 4));
     }
 
     #[test]
     fn the_bounds_document_01_names() {
-        assert_eq!(nonlinearity(0, 1, &[0], 4), Err(1));
-        assert_eq!(nonlinearity(9, 1, &[0; 512], 4), Err(1));
+        assert_eq!(nonlinearity(0, 1, &[0], 1, 4), Err(1));
+        assert_eq!(nonlinearity(9, 1, &[0; 512], 1, 4), Err(1));
         assert!(enlarge_column(7, &[0; 128], 7, 0, 256).is_ok());
         assert_eq!(enlarge_column(8, &[0; 256], 7, 0, 512), Err(1));
-        assert_eq!(degree(1, 17, &[0, 0], 2), Err(2));
-        assert!(degree(1, 3, &[0, 7], 2).is_ok());
-        assert_eq!(degree(1, 3, &[0, 8], 2), Err(4));
-        assert!(degree(1, 16, &[0, 65535], 2).is_ok());
+        assert!(complete(1, 3, &[0, 7], 1).is_ok());
+        assert_eq!(complete(1, 3, &[0, 8], 1), Err(4));
         assert!(enlarge_box(3, &F, &[0; 8], 3, 16).is_ok());
         assert_eq!(enlarge_box(3, &F, &[0; 8], 4, 16), Err(6));
         assert_eq!(dynamic_distance(1, 1, &[0, 1], 2, 1, 3), Err(6));
+    }
+
+    /// The bounds of document 02, section 2.
+    #[test]
+    fn a_box_has_at_most_32_outputs() {
+        assert!(complete(1, 32, &[0, u32::MAX], 1).is_ok());
+        assert_eq!(complete(1, 33, &[0, 0], 1), Err(2));
+        assert!(complete(1, 31, &[0, (1 << 31) - 1], 1).is_ok());
+        assert_eq!(complete(1, 31, &[0, 1 << 31], 1), Err(4));
+        assert!(component_spectrum(1, 32, &[0, 1], u32::MAX, 2).is_ok());
+        assert_eq!(component_spectrum(1, 32, &[0, 1], 0, 2), Err(6));
+        assert_eq!(component_spectrum(1, 31, &[0, 1], 1 << 31, 2), Err(6));
+        assert_eq!(add_to_column(1, 32, &[0, 1], 32, 1, 0, 2), Ok(vec![0, (1 << 31) + 1]));
+        assert_eq!(add_to_column(1, 32, &[0, 1], 33, 1, 0, 2), Err(6));
+    }
+
+    /// A whole XOR row is given up to 16 outputs; above, 2 comes before 3.
+    #[test]
+    fn an_xor_row_has_at_most_16_outputs() {
+        assert!(xor_row(1, 16, &[0, 65535], 1, 65536).is_ok());
+        assert_eq!(xor_row(1, 17, &[0, 0], 1, 131072), Err(2));
+        assert_eq!(xor_row(1, 32, &[0, 0, 0], 9, 7), Err(2));
+        assert_eq!(xor_row(1, 16, &[0, 0, 0], 9, 7), Err(3));
+        assert_eq!(xor_row(9, 17, &[0, 0], 1, 7), Err(1));
+        assert_eq!(largest_cell(1, 17, &[0, 65536], 3), Ok([2, 1, 65536]));
+    }
+
+    #[test]
+    fn a_limit_is_1_to_m() {
+        assert_eq!([0, 1, 3, 4].map(|i| nonlinearity(3, 3, &F, i, 4).err()), [Some(6), None, None, Some(6)]);
+        assert_eq!([0, 1, 3, 4].map(|i| autocorrelation(3, 3, &F, i, 3).err()), [Some(6), None, None, Some(6)]);
+        assert_eq!([0, 1, 3, 4].map(|i| degree(3, 3, &F, i, 2).err()), [Some(6), None, None, Some(6)]);
+    }
+
+    /// The three columns together are affine; no one or two of them are.
+    #[test]
+    fn figures_within_a_limit() {
+        assert_eq!(nonlinearity(3, 3, &F, 3, 4), Ok([0, 7, 7, 0]));
+        assert_eq!(nonlinearity(3, 3, &F, 2, 4).unwrap()[0], 2);
+        assert_eq!(degree(3, 3, &F, 3, 2), Ok([1, 7]));
+        assert_eq!(degree(3, 3, &F, 2, 2), Ok([2, 1]));
+        // Column 1 is x1·x2 and column 2 is x1·x2 XOR x1: each is bent, and their sum is x1.
+        let rows = [0, 2, 0, 1];
+        assert_eq!(autocorrelation(2, 2, &rows, 1, 3), Ok([0, 1, 1]));
+        assert_eq!(autocorrelation(2, 2, &rows, 2, 3), Ok([4, 3, 1]));
+        assert_eq!(dynamic_distance(2, 2, &rows, 2, 1, 3), Ok([2, 3, 1]));
     }
 
     #[test]
@@ -548,13 +622,41 @@ mod tests {
         assert_eq!(inverse_spectrum(1, &[0, 0], 3), Err(7));
         assert_eq!(largest_cells(1, 1, &[0, 0], 0, 2), Err(7));
         assert_eq!(largest_cells(1, 1, &[0, 0], 0, 1), Err(9));
+    }
+
+    /// 1, 2, 3, 4, then 6 for the limit, then 7.
+    #[test]
+    fn a_limit_is_looked_at_after_the_box_and_before_the_figures() {
+        assert_eq!(nonlinearity(9, 33, &[4, 4], 0, 1), Err(1));
+        assert_eq!(nonlinearity(1, 33, &[4], 0, 1), Err(2));
+        assert_eq!(nonlinearity(1, 2, &[4], 0, 1), Err(3));
+        assert_eq!(nonlinearity(1, 2, &[0, 4], 0, 1), Err(4));
+        assert_eq!(nonlinearity(1, 2, &[0, 3], 0, 1), Err(6));
+        assert_eq!(nonlinearity(1, 2, &[0, 3], 1, 1), Err(7));
+        assert_eq!(nonlinearity(1, 32, &[0, 3], 33, 1), Err(6));
+        assert_eq!(nonlinearity(1, 32, &[0, 3], 32, 1), Err(7));
+    }
+
+    #[test]
+    fn a_file_row_has_four_bytes_low_byte_first() {
+        assert_eq!(file_of(1, 32, &[0x0403_0201, 255]), [1, 32, 1, 2, 3, 4, 255, 0, 0, 0]);
+        let read = read_box(&[1, 32, 1, 2, 3, 4, 255, 0, 0, 0], 2, 2);
+        assert_eq!(read, Ok(FileBox { n: 1, m: 32, rows: vec![0x0403_0201, 255] }));
+    }
+
+    #[test]
+    fn the_order_of_a_files_checks() {
         assert_eq!(read_box(&[9], 2, 2), Err(10));
         assert_eq!(read_box(&[9, 0], 2, 2), Err(1));
         assert_eq!(read_box(&[8, 0], 2, 2), Err(2));
-        assert_eq!(read_box(&[1, 1, 2, 0, 0], 2, 2), Err(10));
-        assert_eq!(read_box(&[1, 1, 2, 0, 0, 0], 1, 2), Err(4));
-        assert_eq!(read_box(&[1, 1, 1, 0, 0, 0], 1, 2), Err(7));
-        assert_eq!(read_box(&[1, 1, 1, 0, 0, 0], 2, 1), Err(7));
+        assert_eq!(read_box(&[8, 33], 2, 2), Err(2));
+        assert_eq!(read_box(&[8, 32], 2, 2), Err(10));
+        assert_eq!(read_box(&[1, 1, 2, 0, 0, 0, 0, 0, 0], 2, 2), Err(10));
+        assert_eq!(read_box(&[1, 1, 2, 0, 0, 0, 0, 0, 0, 0, 0], 2, 2), Err(10));
+        assert_eq!(read_box(&[1, 1, 2, 0, 0, 0, 0, 0, 0, 0], 1, 2), Err(4));
+        assert_eq!(read_box(&[1, 31, 0, 0, 0, 128, 0, 0, 0, 0], 1, 2), Err(4));
+        assert_eq!(read_box(&[1, 1, 1, 0, 0, 0, 0, 0, 0, 0], 1, 2), Err(7));
+        assert_eq!(read_box(&[1, 1, 1, 0, 0, 0, 0, 0, 0, 0], 2, 1), Err(7));
     }
 
     #[test]
@@ -572,35 +674,47 @@ mod tests {
         assert_eq!(normal_form(2, &[1, 1, 1, 0], 4), Ok(vec![1, 0, 0, 1]));
     }
 
+    /// A listed cell keeps all 32 bits of β, and a above them.
+    #[test]
+    fn cells_of_32_outputs() {
+        let rows = [0, u32::MAX, 1, 0];
+        assert_eq!(xor_row(2, 16, &[0, 65535, 1, 0], 3, 65536).unwrap()[65534], 2);
+        assert_eq!(largest_cell(2, 32, &rows, 3), Ok([2, 1, 1]));
+        let wanted = [(1, 1), (1, u32::MAX), (2, 1), (2, u32::MAX), (3, 0), (3, u32::MAX - 1)];
+        let wanted: Vec<u64> = wanted.iter().map(|&(a, beta)| (a << 32) + u64::from(beta)).collect();
+        assert_eq!(largest_cells(2, 32, &rows, 6, 1), Ok(wanted));
+        assert_eq!(largest_cells(2, 32, &rows, 5, 1), Err(9));
+    }
+
     /// Each column of the example has degree 2; the three of them together are affine.
     #[test]
     fn the_degree_is_that_of_the_weakest_combination() {
         assert_eq!([1, 2, 4].map(|c| degree_of_function(&combination(&F, c))), [2, 2, 2]);
-        assert_eq!(degree(3, 3, &F, 2), Ok([1, 7]));
+        assert_eq!(degree(3, 3, &F, 3, 2), Ok([1, 7]));
     }
 
     /// Two columns that are equal, or that differ everywhere, are together constant.
     #[test]
     fn a_constant_combination_has_degree_0() {
-        assert_eq!(degree(2, 2, &[0, 0, 0, 3], 2), Ok([0, 3]));
-        assert_eq!(degree(2, 2, &[2, 2, 2, 1], 2), Ok([0, 3]));
-        assert_eq!(degree(2, 3, &[4, 4, 4, 7], 2), Ok([0, 3]));
+        assert_eq!(degree(2, 2, &[0, 0, 0, 3], 2, 2), Ok([0, 3]));
+        assert_eq!(degree(2, 2, &[2, 2, 2, 1], 2, 2), Ok([0, 3]));
+        assert_eq!(degree(2, 3, &[4, 4, 4, 7], 3, 2), Ok([0, 3]));
     }
 
     /// Columns made of x1·x2, x1, 1 and, in the last box, of x3 too.
     #[test]
     fn the_first_weakest_combination_of_small_boxes() {
-        assert_eq!(degree(2, 1, &[0, 0, 0, 1], 2), Ok([2, 1]));
-        assert_eq!(degree(2, 2, &[0, 2, 0, 3], 2), Ok([1, 2]));
-        assert_eq!(degree(2, 3, &[4, 6, 4, 7], 2), Ok([0, 4]));
-        assert_eq!(degree(2, 3, &[0, 2, 0, 7], 2), Ok([0, 5]));
-        assert_eq!(degree(3, 2, &[0, 0, 0, 1, 0, 0, 0, 2], 2), Ok([2, 3]));
+        assert_eq!(degree(2, 1, &[0, 0, 0, 1], 1, 2), Ok([2, 1]));
+        assert_eq!(degree(2, 2, &[0, 2, 0, 3], 2, 2), Ok([1, 2]));
+        assert_eq!(degree(2, 3, &[4, 6, 4, 7], 3, 2), Ok([0, 4]));
+        assert_eq!(degree(2, 3, &[0, 2, 0, 7], 3, 2), Ok([0, 5]));
+        assert_eq!(degree(3, 2, &[0, 0, 0, 1, 0, 0, 0, 2], 2, 2), Ok([2, 3]));
     }
 
     #[test]
     fn the_degree_looks_at_its_array_last() {
-        assert_eq!(degree(3, 3, &F, 1), Err(7));
-        assert_eq!(degree(3, 3, &F, 3), Err(7));
-        assert_eq!(degree(3, 2, &F, 1), Err(4));
+        assert_eq!(degree(3, 3, &F, 3, 1), Err(7));
+        assert_eq!(degree(3, 3, &F, 3, 3), Err(7));
+        assert_eq!(degree(3, 2, &F, 2, 1), Err(4));
     }
 }

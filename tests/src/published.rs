@@ -8,7 +8,9 @@ pub struct Published {
     pub name: String,
     pub n: u32,
     pub m: u32,
-    pub rows: Vec<u16>,
+    pub rows: Vec<u32>,
+    /// This figure, the autocorrelation and the degree are those of the sheet: over all
+    /// combinations up to 16 outputs, and over those of at most 4 outputs above.
     pub nonlinearity: Option<u32>,
     pub xor: Option<u32>,
     pub autocorrelation: Option<u32>,
@@ -20,33 +22,33 @@ pub struct Published {
 }
 
 /// Document 01's example, first printed in document 000.
-pub const EXAMPLE: [u16; 8] = [3, 1, 4, 0, 2, 5, 6, 7];
+pub const EXAMPLE: [u32; 8] = [3, 1, 4, 0, 2, 5, 6, 7];
 
 /// The other boxes of document 000, all bijective and with the strict avalanche criterion.
 /// The box with three inputs of its Example 2, put together from three columns:
-const KIM_3: [u16; 8] = [6, 4, 2, 7, 3, 5, 0, 1];
+const KIM_3: [u32; 8] = [6, 4, 2, 7, 3, 5, 0, 1];
 /// The box with four inputs of its Example 4, and the two with six inputs after it:
-const KIM_4: [u16; 16] = [
+const KIM_4: [u32; 16] = [
     11, 1, 4, 0, 10, 13, 6, 15, 9, 3, 8, 12, 5, 2, 7, 14,
 ];
-const KIM_6A: [u16; 64] = [
+const KIM_6A: [u32; 64] = [
     4, 53, 16, 57, 43, 45, 2, 6, 12, 55, 63, 33, 8, 26, 30, 51,
     37, 20, 41, 0, 61, 59, 22, 18, 39, 28, 49, 47, 10, 24, 35, 14,
     21, 36, 25, 48, 13, 11, 38, 34, 23, 44, 1, 31, 58, 40, 19, 62,
     52, 5, 32, 9, 27, 29, 50, 54, 60, 7, 15, 17, 56, 42, 46, 3,
 ];
-const KIM_6B: [u16; 64] = [
+const KIM_6B: [u32; 64] = [
     36, 21, 48, 57, 43, 45, 2, 38, 12, 23, 63, 1, 8, 58, 30, 19,
     37, 20, 9, 0, 29, 27, 22, 50, 39, 60, 49, 15, 10, 56, 35, 46,
     53, 4, 25, 16, 13, 11, 6, 34, 55, 44, 33, 31, 26, 40, 51, 62,
     52, 5, 32, 41, 59, 61, 18, 54, 28, 7, 47, 17, 24, 42, 14, 3,
 ];
 
-const PRESENT: [u16; 16] = [
+const PRESENT: [u32; 16] = [
     12, 5, 6, 11, 9, 0, 10, 13, 3, 14, 15, 8, 4, 7, 1, 2,
 ];
 
-const SERPENT: [[u16; 16]; 8] = [
+const SERPENT: [[u32; 16]; 8] = [
     [3, 8, 15, 1, 10, 6, 5, 11, 14, 13, 4, 2, 7, 0, 9, 12],
     [15, 12, 2, 7, 9, 0, 5, 10, 1, 11, 14, 8, 6, 13, 3, 4],
     [8, 6, 7, 9, 3, 12, 10, 15, 13, 1, 14, 4, 0, 11, 5, 2],
@@ -58,7 +60,7 @@ const SERPENT: [[u16; 16]; 8] = [
 ];
 
 /// S1 to S8 as the standard prints them.
-const DES: [[u16; 64]; 8] = [
+const DES: [[u32; 64]; 8] = [
     [
         14, 4, 13, 1, 2, 15, 11, 8, 3, 10, 6, 12, 5, 9, 0, 7,
         0, 15, 7, 4, 14, 2, 13, 1, 10, 6, 12, 11, 9, 5, 3, 8,
@@ -112,7 +114,7 @@ const DES: [[u16; 64]; 8] = [
 /// The nonlinearity of S1 to S8.
 const DES_NONLINEARITY: [u32; 8] = [14, 16, 16, 16, 12, 18, 14, 16];
 
-const AES: [u16; 256] = [
+const AES: [u32; 256] = [
     99, 124, 119, 123, 242, 107, 111, 197, 48, 1, 103, 43, 254, 215, 171, 118,
     202, 130, 201, 125, 250, 89, 71, 240, 173, 212, 162, 175, 156, 164, 114, 192,
     183, 253, 147, 38, 54, 63, 247, 204, 52, 165, 229, 241, 113, 216, 49, 21,
@@ -133,13 +135,13 @@ const AES: [u16; 256] = [
 
 /// A DES box by its six input bits b1 to b6, b1 being the highest: b1 and b6 choose the
 /// printed row, the four bits between them the place in it.
-fn des_rows(printed: &[u16; 64]) -> Vec<u16> {
+fn des_rows(printed: &[u32; 64]) -> Vec<u32> {
     let place = |x: usize| ((x >> 4) & 2 | x & 1) * 16 + (x >> 1 & 15);
     (0..64).map(|x| printed[place(x)]).collect()
 }
 
 /// A box of document 000: its inputs and outputs are equally many.
-fn kim(name: &str, n: u32, rows: &[u16]) -> Published {
+fn kim(name: &str, n: u32, rows: &[u32]) -> Published {
     Published {
         name: name.to_string(),
         n,
@@ -170,7 +172,7 @@ fn des(number: usize) -> Published {
 }
 
 /// A box of four bits with the best nonlinearity and XOR table there are.
-fn four_bits(name: String, rows: &[u16; 16], degree: Option<u32>) -> Published {
+fn four_bits(name: String, rows: &[u32; 16], degree: Option<u32>) -> Published {
     Published {
         name,
         n: 4,
@@ -201,6 +203,41 @@ fn aes() -> Published {
     }
 }
 
+/// Twice a number in the field of AES.
+fn twice(number: u32) -> u32 {
+    let doubled = 2 * number;
+    if doubled < 256 {
+        doubled
+    } else {
+        doubled ^ 0x11B
+    }
+}
+
+/// What one byte of AES gives to a column in one round, as tables of it have it: with S the
+/// output of the box, the lowest byte of the row is 2·S, the next two are S, the highest is
+/// 3·S, multiplied in the field of AES.
+fn aes_round_row(s: u32) -> u32 {
+    twice(s) + (s << 8) + (s << 16) + ((twice(s) ^ s) << 24)
+}
+
+/// The 32 outputs are linear in the eight of the box, and no two of its outputs give the same
+/// row, so the XOR table has the same counts. Three outputs together are constant: the two
+/// lowest bits of 2·S and the lowest bit of S.
+fn aes_round() -> Published {
+    Published {
+        name: "aes-round".to_string(),
+        n: 8,
+        m: 32,
+        rows: AES.map(aes_round_row).to_vec(),
+        nonlinearity: Some(0),
+        xor: Some(4),
+        autocorrelation: Some(256),
+        degree: Some(0),
+        avalanche: false,
+        bijective: false,
+    }
+}
+
 /// All of them, document 01's example first.
 pub fn all() -> Vec<Published> {
     let mut boxes = vec![
@@ -212,6 +249,7 @@ pub fn all() -> Vec<Published> {
     ];
     boxes.extend((1..=8).map(des));
     boxes.push(aes());
+    boxes.push(aes_round());
     // The lowest output of PRESENT is known as x1 + x2·x3 + x3 + x4, and no combination is affine.
     boxes.push(four_bits("present".to_string(), &PRESENT, Some(2)));
     boxes.extend((0..8).map(|number| four_bits(format!("serpent-s{number}"), &SERPENT[number], None)));
@@ -222,6 +260,7 @@ pub fn all() -> Vec<Published> {
 mod tests {
     use super::*;
     use crate::model;
+    use crate::sheet;
 
     fn same(name: &str, published: Option<u32>, measured: u32) {
         if let Some(figure) = published {
@@ -233,10 +272,11 @@ mod tests {
     fn the_model_finds_the_published_figures() {
         for known in all() {
             let Published { ref name, n, m, ref rows, .. } = known;
-            same(name, known.nonlinearity, model::nonlinearity(n, m, rows, 4).unwrap()[0]);
+            let i = sheet::limit(m);
+            same(name, known.nonlinearity, model::nonlinearity(n, m, rows, i, 4).unwrap()[0]);
             same(name, known.xor, model::largest_cell(n, m, rows, 3).unwrap()[0]);
-            same(name, known.autocorrelation, model::autocorrelation(n, m, rows, 3).unwrap()[0]);
-            same(name, known.degree, model::degree(n, m, rows, 2).unwrap()[0]);
+            same(name, known.autocorrelation, model::autocorrelation(n, m, rows, i, 3).unwrap()[0]);
+            same(name, known.degree, model::degree(n, m, rows, i, 2).unwrap()[0]);
             assert_eq!(known.bijective, model::bijective(n, m, rows, 1) == Ok([1]), "{name}");
             if known.avalanche {
                 assert_eq!(model::dynamic_distance(n, m, rows, 1, 1, 3).unwrap()[0], 0, "{name}");
@@ -245,12 +285,12 @@ mod tests {
     }
 
     #[test]
-    fn there_are_23_boxes_with_unlike_names() {
+    fn there_are_24_boxes_with_unlike_names() {
         let mut names: Vec<String> = all().into_iter().map(|known| known.name).collect();
-        assert_eq!(names.len(), 23);
+        assert_eq!(names.len(), 24);
         names.sort();
         names.dedup();
-        assert_eq!(names.len(), 23);
+        assert_eq!(names.len(), 24);
     }
 
     /// Every row of every DES box, as printed, is a permutation of 0 to 15.
@@ -260,8 +300,30 @@ mod tests {
             for row in printed.chunks(16) {
                 let mut sorted = row.to_vec();
                 sorted.sort();
-                assert_eq!(sorted, (0..16).collect::<Vec<u16>>());
+                assert_eq!(sorted, (0..16).collect::<Vec<u32>>());
             }
         }
+    }
+    /// The first rows of the table as it is printed in programs for AES, and the witnesses: the
+    /// three columns 1, 2 and 9, which are combination 1 + 2 + 256, sum up to 0.
+    #[test]
+    fn the_round_table_of_aes() {
+        let rows = aes_round().rows;
+        assert_eq!(rows[..4], [0xA563_63C6, 0x847C_7CF8, 0x9977_77EE, 0x8D7B_7BF6]);
+        assert_eq!(model::combination(&rows, 259), [0; 256]);
+        assert_eq!(model::nonlinearity(8, 32, &rows, 4, 4), Ok([0, 259, 0, 0]));
+        assert_eq!(model::autocorrelation(8, 32, &rows, 4, 3), Ok([256, 259, 1]));
+        assert_eq!(model::degree(8, 32, &rows, 4, 2), Ok([0, 259]));
+    }
+
+    /// One or two outputs of the table are as good as those of the box, or constant together.
+    #[test]
+    fn small_limits_on_the_round_table_of_aes() {
+        let rows = aes_round().rows;
+        assert_eq!(model::nonlinearity(8, 32, &rows, 1, 4).unwrap()[0], 112);
+        assert_eq!(model::degree(8, 32, &rows, 1, 2), Ok([7, 1]));
+        // Bit 3 of 2·S is bit 2 of S.
+        assert_eq!(model::nonlinearity(8, 32, &rows, 2, 4), Ok([0, 4 + 512, 0, 0]));
+        assert_eq!(model::degree(8, 32, &rows, 2, 2), Ok([0, 4 + 512]));
     }
 }

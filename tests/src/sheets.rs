@@ -9,7 +9,7 @@ use std::path::{Path, PathBuf};
 use std::process::{Command, Stdio};
 
 /// How many files are made from the seed if nothing else is said.
-pub const DEFAULT_COUNT: u64 = 600;
+pub const DEFAULT_COUNT: u64 = 800;
 
 struct Tally {
     sheets: u64,
@@ -88,11 +88,11 @@ fn output_of(program: &str, file: &[u8]) -> Result<Vec<u8>, String> {
     output.map(|finished| finished.stdout).map_err(failed)
 }
 
-/// The first 128 files are boxes of all widths, one of each; then sound and damaged files
+/// The first 256 files are boxes of all widths, one of each; then sound and damaged files
 /// follow by turns.
 fn made_file(number: u32, random: &mut Random) -> Vec<u8> {
-    if number < 128 {
-        return sound_file(number / 16 + 1, number % 16 + 1, random);
+    if number < 256 {
+        return sound_file(number / 32 + 1, number % 32 + 1, random);
     }
     match number % 12 {
         0 => small_file(1, random),
@@ -100,10 +100,11 @@ fn made_file(number: u32, random: &mut Random) -> Vec<u8> {
         2 => longer_file(random),
         3 => file_with_row_too_large(random),
         4 => file_with_width(0, &[0, 9, 10, 64, 128, 255], random),
-        5 => file_with_width(1, &[0, 17, 18, 32, 128, 255], random),
+        5 => file_with_width(1, &[0, 33, 34, 64, 128, 255], random),
         6 => file_with_other_width(random),
         7 => noise(random),
         8 => tiny_file(number, random),
+        9 => file_of_two_byte_rows(random),
         _ => small_file(12, random),
     }
 }
@@ -122,9 +123,10 @@ fn small_file(most_outputs: u32, random: &mut Random) -> Vec<u8> {
 
 fn cut_file(random: &mut Random) -> Vec<u8> {
     let mut file = small_file(12, random);
-    let length = match random.below(3) {
+    let length = match random.below(4) {
         0 => random.below(file.len() as u32) as usize,
-        1 => file.len() - 2,
+        1 => file.len() - 4,
+        2 => file.len() - 2,
         _ => file.len() - 1,
     };
     file.truncate(length);
@@ -134,18 +136,27 @@ fn cut_file(random: &mut Random) -> Vec<u8> {
 /// A few bytes too long, or several megabytes.
 fn longer_file(random: &mut Random) -> Vec<u8> {
     let mut file = small_file(12, random);
-    let more = random.pick(&[1, 1, 2, 2, 510, 4096, 65536, 1 << 20, 5_000_000]);
+    let more = random.pick(&[1, 1, 2, 4, 510, 4096, 65536, 1 << 20, 5_000_000]);
     file.resize(file.len() + more, random.draw() as u8);
     file
 }
 
-/// With 16 outputs no row is too large, so there are at most 15.
+/// With 32 outputs no row is too large, so there are at most 31.
 fn file_with_row_too_large(random: &mut Random) -> Vec<u8> {
-    let (n, m) = (random.between(1, 8), random.between(1, 15));
+    let (n, m) = (random.between(1, 8), random.between(1, 31));
     let mut file = sound_file(n, m, random);
-    let row = random.pick(&[1 << m, (1 << m) + 1, 1 << 15, 65535]);
-    let place = 2 + 2 * random.below(1 << n) as usize;
-    file[place..place + 2].copy_from_slice(&(row as u16).to_le_bytes());
+    let row: u32 = random.pick(&[1 << m, (1 << m) + 1, 1 << 31, u32::MAX]);
+    let place = 2 + 4 * random.below(1 << n) as usize;
+    file[place..place + 4].copy_from_slice(&row.to_le_bytes());
+    file
+}
+
+/// The rows in the two bytes that they had before they became 32-bit numbers.
+fn file_of_two_byte_rows(random: &mut Random) -> Vec<u8> {
+    let (n, m) = (random.between(1, 8), random.between(1, 16));
+    let rows = boxes::random_rows(n, m, random);
+    let mut file = vec![n as u8, m as u8];
+    file.extend(rows.iter().flat_map(|&row| (row as u16).to_le_bytes()));
     file
 }
 
@@ -161,17 +172,17 @@ fn file_with_width(place: usize, widths: &[u8], random: &mut Random) -> Vec<u8> 
 fn file_with_other_width(random: &mut Random) -> Vec<u8> {
     let mut file = small_file(8, random);
     file[0] = random.between(1, 8) as u8;
-    file[1] = random.between(1, 8) as u8;
+    file[1] = random.between(1, 32) as u8;
     file
 }
 
 fn noise(random: &mut Random) -> Vec<u8> {
-    let length = random.pick(&[2, 3, 6, 18, 34, 258, 514, 1000]);
+    let length = random.pick(&[2, 3, 10, 18, 34, 258, 514, 1026, 2000]);
     (0..length).map(|_| random.draw() as u8).collect()
 }
 
 /// No byte, one byte, or two.
 fn tiny_file(number: u32, random: &mut Random) -> Vec<u8> {
     let length = number / 12 % 3;
-    (0..length).map(|_| random.below(20) as u8).collect()
+    (0..length).map(|_| random.below(36) as u8).collect()
 }

@@ -1,5 +1,5 @@
--- The normal form twice is the table again; the degree is the least of the combinations', and their first has it; where it is at most 1 the
--- nonlinearity is 0; and bijective boxes, by their rows.
+-- The normal form twice is the table again; the degree is the least of the combinations' within the limit, and their first has it, in whichever
+-- order they are visited; where it is at most 1 the nonlinearity is 0; and bijective boxes, by their rows.
 use mathlib.Core.Path.{_≡_, sym, ap, _∙_, subst}
 use mathlib.Core.Logic.{_↔_}
 use mathlib.Core.Bool.{true}
@@ -11,25 +11,26 @@ use native.Mathlib.Omega.{arith}
 use borrow.Author.Tests.{eqb-true, eq-eqb}
 use lib.Dec.{eqb}
 use lib.ListN.{length, List·getD-eq-default}
-use Rattle.boolean.specs.Sums.{distinct}
-use Rattle.boolean.specs.Functions.{at, component, degree, normalForm}
-use Rattle.boolean.specs.Selection.{Candidate, shown, firstLeast, First}
+use Rattle.boolean.specs.Sums.{each, distinct}
+use Rattle.boolean.specs.Functions.{at, Within, component, components, degree, normalForm}
+use Rattle.boolean.specs.Selection.{Candidate, shown, lower, firstBest, firstLeast, SameMembers, ranked, First}
 use Rattle.boolean.proofs.AffineForms.{constant-degree, degree-constant, degree-affine, affine-degree, distance-none, distance-same}
 use Rattle.boolean.proofs.Degrees.{length-normal-form, at-normal-form, normal-form-twice, degree-le}
 use Rattle.boolean.proofs.Digits.{component-lt}
 use Rattle.boolean.proofs.Distinct.{distinct-at, distinct-of}
 use Rattle.boolean.proofs.Every.{both}
+use Rattle.boolean.proofs.Lists.{each-same}
 use Rattle.boolean.proofs.NormalForm.{coefficient-boolean}
-use Rattle.boolean.proofs.Selection.{firstLeast-le, firstLeast-mem, firstLeast-first, first-ranked}
-use Rattle.refusals.specs.Table.{tableCallChecks, boxChecks, first, figures, Table, Box}
+use Rattle.boolean.proofs.Selection.{firstLeast-le, firstLeast-mem, firstLeast-first, firstLeast-any-order, first-ranked}
+use Rattle.refusals.specs.Table.{tableCallChecks, limitChecks, first, figures, Table}
 use Rattle.refusals.specs.declared.Checked.the-variants.{Accepted}
-use Rattle.refusals.proofs.Checks.{found-after, skip, end, table-accepted, box, reply-accepted}
+use Rattle.refusals.proofs.Checks.{found-after, skip, end, table-accepted, Limited, limited, reply-accepted}
 use Rattle.linear.specs.Nonlinearity.{nonlinearity}
 use Rattle.linear.proofs.Theorems as linear
 use Rattle.algebraic.specs.Algebraic.{withDegree, degrees, boxDegree, bijective}
-use Rattle.algebraic.specs.Statements.{DegreeReported, Constant, Injective}
+use Rattle.algebraic.specs.Statements.{DegreeReported, degreeRank, Constant, Injective}
 use Rattle.algebraic.proofs.Bijections.{bijective-equal}
-use Rattle.algebraic.proofs.Sweeping.{mask, degreesBy, in-degrees, mem-degrees, ascending-degrees, degrees-nonempty}
+use Rattle.algebraic.proofs.Sweeping.{degreesBy, in-degrees, mem-degrees, ascending-degrees, degrees-nonempty}
 
 -- ---- the normal form of an accepted table
 module _ (n : ℕ) (table : List ℕ) (t : Table n table) where
@@ -50,76 +51,96 @@ module _ (n : ℕ) (table : List ℕ) (t : Table n table) where
   unfolding tableCallChecks
   form-accepted room e = sym (found-after _ (table-accepted n (normalForm n (at table)) form-is-table) (skip (eq-eqb room (2 ^ n) e) end))
 
--- ---- the degree of an accepted box
-module _ (n m : ℕ) (rows : List ℕ) (accepted : first (boxChecks n m rows) ≡ Accepted) where
-  accepted-box : Box n m rows
-  accepted-box = box n m rows [] accepted
+-- ---- the degree of a combination
+module _ (n : ℕ) (rows : List ℕ) (c : ℕ) where
+  boolean : (x : ℕ) → x < 2 ^ n → component rows c x < 2
+  boolean x l = component-lt rows c x
 
+  -- Document 02: "A constant combination has degree 0." And no other has.
+  pub constant-combination : (degree n (component rows c) ≡ 0) ↔ Constant n (component rows c)
+  constant-combination = (degree-constant n (component rows c) boolean, constant-degree n (component rows c) (component rows c 0))
+
+-- ---- the degree of a box within a limit
+module _ (n m : ℕ) (rows : List ℕ) (i : ℕ) where
   abbrev degreeOfMask : ℕ → ℕ
   degreeOfMask c = degree n (component rows c)
 
-  -- no nonzero combination has a lower degree
-  no-lower : (c : ℕ) → 1 ≤ c → c < 2 ^ m → boxDegree n m rows .figure ≤ degree n (component rows c)
+  -- no combination has a lower degree
+  no-lower : (c : ℕ) → Within i (2 ^ m) c → boxDegree n m rows i .figure ≤ degree n (component rows c)
   unfolding boxDegree degrees
-  no-lower c lo hi = firstLeast-le (degreesBy degreeOfMask m) (withDegree n rows c) (in-degrees degreeOfMask m c lo hi)
+  no-lower c w = firstLeast-le (degreesBy degreeOfMask m i) (withDegree n rows c) (in-degrees degreeOfMask m i c w)
 
-  -- a combination has it
-  has-it : (c : ℕ) × (1 ≤ c) × (c < 2 ^ m) × (boxDegree n m rows ≡ withDegree n rows c)
+  -- "Combinations may be visited in any order without effect on any answer." Over any list with the members of `degrees`, in any order and some of
+  -- them more than once, the least degree, and of those that have it the one of the lowest rank, is the degree with its witness.
+  pub degree-any-order : (visited : List Candidate) → SameMembers visited (degrees n m rows i)
+      → firstBest (ranked lower degreeRank) visited ≡ boxDegree n m rows i
   unfolding boxDegree degrees
-  has-it =
-      let t = degrees-nonempty degreeOfMask m (accepted-box .m-low) in
-      mem-degrees degreeOfMask m (boxDegree n m rows) (subst (λ (l : List Candidate). List·Memᴰ (firstLeast l) l) (sym (t .2)) (firstLeast-mem (t .0) (t .1)))
+  degree-any-order visited = firstLeast-any-order degreeRank (degreesBy degreeOfMask m i) visited (ascending-degrees degreeOfMask m i)
 
-  -- and each combination before it has a higher one
-  higher : (c : ℕ) → boxDegree n m rows ≡ withDegree n rows c → (c′ : ℕ) → 1 ≤ c′ → c′ < 2 ^ m → c′ < c → boxDegree n m rows .figure < degree n (component rows c′)
-  unfolding boxDegree degrees
-  higher c e c′ lo hi l =
-      let t = degrees-nonempty degreeOfMask m (accepted-box .m-low) in
-      first-ranked mask (λ r p. r .figure < p .figure) (ascending-degrees degreeOfMask m)
-      (subst (λ (l : List Candidate). First (λ r p. r .figure < p .figure) (firstLeast l) l) (sym (t .2)) (firstLeast-first (t .0) (t .1)))
-      (withDegree n rows c′) (in-degrees degreeOfMask m c′ lo hi) (omega (arith, ap mask e))
+  -- so where the components are visited in any order, each with its degree
+  pub degree-any-component-order : (order : List ℕ) → SameMembers order (components m i)
+      → firstBest (ranked lower degreeRank) (each order (λ c. withDegree n rows c ∷ [])) ≡ boxDegree n m rows i
+  unfolding degrees
+  degree-any-component-order order same =
+      degree-any-order (each order (λ c. withDegree n rows c ∷ [])) (each-same order (components m i) (λ c. withDegree n rows c ∷ []) same)
 
-  -- Document 02: "The box's degree becomes that least value, with the first combination that has it."
-  pub degree-reported : DegreeReported n m rows (boxDegree n m rows .figure)
-  degree-reported =
-      let t = has-it in
-      record {
-        c = t .0;
-        reply = sym (reply-accepted accepted (shown (boxDegree n m rows))) ∙ ap (λ (p : Candidate). figures (boxDegree n m rows .figure ∷ p .witness)) (t .3);
-        least = no-lower;
-        c-low = t .1;
-        c-high = t .2;
-        reached = sym (ap (λ (p : Candidate). p .figure) (t .3));
-        higher-before = λ c′ lo l. higher (t .0) (t .3) c′ lo (omega (arith, t .2)) l;
-      }
+  -- ---- of an accepted box and limit
+  module _ (accepted : first (limitChecks n m rows i) ≡ Accepted) where
+    accepted-box : Limited n m rows i
+    accepted-box = limited n m rows i accepted
 
-  -- it is at most n
-  pub degree-at-most : boxDegree n m rows .figure ≤ n
-  degree-at-most = let t = has-it in omega (arith, ap (λ (p : Candidate). p .figure) (t .3), degree-le n (component rows (t .0)))
+    nonempty : (p : Candidate) × (ps : List Candidate) × (degreesBy degreeOfMask m i ≡ p ∷ ps)
+    nonempty = degrees-nonempty degreeOfMask m i (accepted-box .box .m-low) (accepted-box .i-low)
 
-  boolean : (c x : ℕ) → x < 2 ^ n → component rows c x < 2
-  boolean c x l = component-lt rows c x
+    -- a combination has it
+    has-it : (c : ℕ) × Within i (2 ^ m) c × (boxDegree n m rows i ≡ withDegree n rows c)
+    unfolding boxDegree degrees
+    has-it =
+        let t = nonempty in
+        mem-degrees degreeOfMask m i (boxDegree n m rows i) (subst (λ (l : List Candidate). List·Memᴰ (firstLeast l) l) (sym (t .2)) (firstLeast-mem (t .0) (t .1)))
 
-  -- Document 02: "A constant combination has degree 0." And no other has.
-  pub constant-combination : (c : ℕ) → (degree n (component rows c) ≡ 0) ↔ Constant n (component rows c)
-  constant-combination c = (degree-constant n (component rows c) (boolean c), constant-degree n (component rows c) (component rows c 0))
+    -- and each combination before it has a higher one
+    higher : (c : ℕ) → boxDegree n m rows i ≡ withDegree n rows c → (c′ : ℕ) → Within i (2 ^ m) c′ → c′ < c → boxDegree n m rows i .figure < degree n (component rows c′)
+    unfolding boxDegree degrees
+    higher c e c′ w l =
+        let t = nonempty in
+        first-ranked degreeRank (λ r p. r .figure < p .figure) (ascending-degrees degreeOfMask m i)
+        (subst (λ (l : List Candidate). First (λ r p. r .figure < p .figure) (firstLeast l) l) (sym (t .2)) (firstLeast-first (t .0) (t .1)))
+        (withDegree n rows c′) (in-degrees degreeOfMask m i c′ w) (omega (arith, ap degreeRank e))
 
-  -- Two criteria tied together: the degree is at most 1 exactly when the nonlinearity is 0. For a combination of degree 1 or 0 is an affine
-  -- function, and one that differs from an affine function at no input is that function.
-  pub degree-and-nonlinearity : (boxDegree n m rows .figure ≤ 1) ↔ (nonlinearity n m rows .figure ≡ 0)
-  degree-and-nonlinearity = (
-    λ h.
+    -- Document 02: "The box's degree becomes that least value, with the first combination that has it." Of the "combinations of at most i outputs".
+    pub degree-reported : DegreeReported n m rows i (boxDegree n m rows i .figure)
+    degree-reported =
         let t = has-it in
-        let f = component rows (t .0) in
-        let s = degree-affine n f (boolean (t .0)) (omega (arith, ap (λ (p : Candidate). p .figure) (t .3))) in
-        let least = linear.least n m rows (t .0) (s .0) (s .1) (record { c-low = t .1; c-high = t .2; w-high = s .2; b-high = s .3 }) in
-        omega (arith, distance-none n f (s .0) (s .1) (s .4)),
-    λ z.
-        let t = linear.reached n m rows (accepted-box .m-low) in
-        let f = component rows (t .0) in
-        let same = distance-same n f (t .1) (t .2) (sym (ap (λ (p : Candidate). p .figure) (t .4)) ∙ z) in
-        omega (arith, no-lower (t .0) (t .3 .c-low) (t .3 .c-high), affine-degree n f (t .1) (t .2) (t .3 .w-high) same),
-  )
+        record {
+          c = t .0;
+          reply = sym (reply-accepted accepted (shown (boxDegree n m rows i))) ∙ ap (λ (p : Candidate). figures (boxDegree n m rows i .figure ∷ p .witness)) (t .2);
+          least = no-lower;
+          c-within = t .1;
+          reached = sym (ap (λ (p : Candidate). p .figure) (t .2));
+          higher-before = higher (t .0) (t .2);
+        }
+
+    -- it is at most n
+    pub degree-at-most : boxDegree n m rows i .figure ≤ n
+    degree-at-most = let t = has-it in omega (arith, ap (λ (p : Candidate). p .figure) (t .2), degree-le n (component rows (t .0)))
+
+    -- Two criteria tied together, within the same limit: the degree is at most 1 exactly when the nonlinearity is 0. For a combination of degree 1 or 0
+    -- is an affine function, and one that differs from an affine function at no input is that function.
+    pub degree-and-nonlinearity : (boxDegree n m rows i .figure ≤ 1) ↔ (nonlinearity n m rows i .figure ≡ 0)
+    degree-and-nonlinearity = (
+      λ h.
+          let t = has-it in
+          let f = component rows (t .0) in
+          let s = degree-affine n f (boolean n rows (t .0)) (omega (arith, ap (λ (p : Candidate). p .figure) (t .2))) in
+          let least = linear.least n m rows i (t .0) (s .0) (s .1) (record { mask = t .1; w-high = s .2; b-high = s .3 }) in
+          omega (arith, distance-none n f (s .0) (s .1) (s .4)),
+      λ z.
+          let t = linear.reached n m rows i (accepted-box .box .m-low) (accepted-box .i-low) in
+          let f = component rows (t .0) in
+          let same = distance-same n f (t .1) (t .2) (sym (ap (λ (p : Candidate). p .figure) (t .4)) ∙ z) in
+          omega (arith, no-lower (t .0) (t .3 .mask), affine-degree n f (t .1) (t .2) (t .3 .w-high) same),
+    )
 
 -- ---- a bijective box
 module _ (n m : ℕ) (rows : List ℕ) (size : length rows ≡ 2 ^ n) where

@@ -11,15 +11,15 @@ use Rattle.boolean.specs.Selection.{Candidate, firstLeast}
 abbrev pub withDegree : ℕ → List ℕ → ℕ → Candidate
 withDegree n rows c = record { figure = degree n (component rows c); witness = c ∷ [] }
 
--- all components with their degrees, in the components' order
-unfoldable pub degrees : ℕ → ℕ → List ℕ → List Candidate
+-- all components within the limit i with their degrees, in the components' order
+unfoldable pub degrees : ℕ → ℕ → List ℕ → ℕ → List Candidate
 unfolding each degree component components
-degrees n m rows = each (components m) (λ c. withDegree n rows c ∷ [])
+degrees n m rows i = each (components m i) (λ c. withDegree n rows c ∷ [])
 
--- the degree of a box: the least degree of a component, with the first component that has it
-unfoldable pub boxDegree : ℕ → ℕ → List ℕ → Candidate
+-- the degree of a box: the least degree of a component within the limit i, with the first component that has it
+unfoldable pub boxDegree : ℕ → ℕ → List ℕ → ℕ → Candidate
 unfolding firstLeast degrees
-boxDegree n m rows = firstLeast (degrees n m rows)
+boxDegree n m rows i = firstLeast (degrees n m rows i)
 
 -- bijective: n = m and no two rows equal
 unfoldable pub bijective : ℕ → ℕ → List ℕ → Bool

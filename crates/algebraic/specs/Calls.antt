@@ -12,7 +12,7 @@ use Rattle.boolean.specs.Bits.{dot}
 use Rattle.boolean.specs.Sums.{largestBelow, each}
 use Rattle.boolean.specs.Functions.{at, components}
 use Rattle.boolean.specs.Selection.{Candidate, shown}
-use Rattle.refusals.specs.Table.{first, boxChecks, Reply, figures, refusal, number, replyAfter, asFigure}
+use Rattle.refusals.specs.Table.{first, boxChecks, limitChecks, Reply, figures, refusal, number, replyAfter, asFigure}
 use Rattle.algebraic.specs.Algebraic.{boxDegree, bijective}
 use Rattle.algebraic.specs.declared.Weakest.{Weakest}
 use Rattle.algebraic.specs.declared.DegreeFound.{DegreeFound}
@@ -24,8 +24,8 @@ degreeReply (Reached degree c) = figures (degree ∷ c ∷ [])
 degreeReply (Declined e) = refusal (number e)
 
 -- what the calls on a box reply: their figures, or the number of the refusal
-abbrev pub boxDegreeReply : ℕ → ℕ → List ℕ → Reply
-boxDegreeReply n m rows = replyAfter (first (boxChecks n m rows)) (shown (boxDegree n m rows))
+abbrev pub boxDegreeReply : ℕ → ℕ → List ℕ → ℕ → Reply
+boxDegreeReply n m rows i = replyAfter (first (limitChecks n m rows i)) (shown (boxDegree n m rows i))
 
 abbrev pub bijectiveReply : ℕ → ℕ → List ℕ → Reply
 bijectiveReply n m rows = replyAfter (first (boxChecks n m rows)) (asFigure (bijective n m rows))
@@ -53,10 +53,10 @@ unfoldable pub degreeOf : List ℕ → ℕ → ℕ
 unfolding largestBelow dot
 degreeOf words c = largestBelow (length words) (λ u. cond (eqb (dot (at words u) c) 1) (ones u) 0)
 
--- all components with their degrees, by the words
-unfoldable pub degreesOf : ℕ → List ℕ → List Candidate
+-- all components within the limit i with their degrees, by the words
+unfoldable pub degreesOf : ℕ → List ℕ → ℕ → List Candidate
 unfolding each components degreeOf
-degreesOf m words = each (components m) (λ c. degreeAt (degreeOf words c) c ∷ [])
+degreesOf m words i = each (components m i) (λ c. degreeAt (degreeOf words c) c ∷ [])
 
 -- a table of all inputs of 8 bits, those with the most ones first
 pub record ByOnes (table : List ℕ) : Type 0 where
@@ -70,9 +70,10 @@ pub record Gathered (words inputs : List ℕ) (count : ℕ) : Type 0 where
   pub all : (u : ℕ) → u < length words → (at words u ≡ 0) ⊎ ((i : ℕ) × (i < count) × (at inputs i ≡ u))
   pub falling : (i j : ℕ) → i ≤ j → j < count → ones (at inputs j) ≤ ones (at inputs i)
 
--- the words of an accepted box
-pub record Swept (n m : ℕ) (words : List ℕ) : Type 0 where
+-- the words of an accepted box, and a limit
+pub record Swept (n m : ℕ) (words : List ℕ) (i : ℕ) : Type 0 where
   pub n-high : n ≤ 8
   pub m-low : 1 ≤ m
-  pub m-high : m ≤ 16
+  pub m-high : m ≤ 32
   pub size : length words ≡ 2 ^ n
+  pub i-low : 1 ≤ i

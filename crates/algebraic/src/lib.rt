@@ -17,6 +17,7 @@ ghost use Rattle.boolean.specs.Sums.{every, distinct};
 ghost use Rattle.boolean.specs.Functions.{at, normalForm};
 ghost use Rattle.boolean.specs.Selection.{best, lower, firstLeast};
 ghost use Rattle.refusals.specs.Table.{tableCallChecks, first, replyAfter, contentAfter, written, verdict, Box, Table};
+ghost use Rattle.masks.specs.Masks.{Next};
 ghost use Rattle.algebraic.specs.Algebraic.{boxDegree};
 ghost use Rattle.algebraic.specs.Calls.{degreeReply, boxDegreeReply, bijectiveReply, degreeAt, candidate, degreeOf, degreesOf, Added, Gathered, Swept};
 
@@ -33,13 +34,13 @@ pub enum DegreeFound {
 }
 
 // A truth value as a word, and a word that is a truth value.
-fn word_of(bit: u8) -> u16
+fn word_of(bit: u8) -> u32
     ensures { λ r. ⌜ r ≡ bit ⌝ }
 {
-    bit as u16
+    bit as u32
 }
 
-fn bit_of(word: u16) -> u8
+fn bit_of(word: u32) -> u8
     requires { ⌜ word < 2 ⌝ }
     ensures { λ r. ⌜ r ≡ word ⌝ }
 {
@@ -47,7 +48,7 @@ fn bit_of(word: u16) -> u8
 }
 
 // The truth table, copied to the words that the transform works on.
-fn write_words(table: &[u8], words: &mut [u16])
+fn write_words(table: &[u8], words: &mut [u32])
     requires { ⌜ length (now words) ≡ length (now table) ⌝ }
     ensures { λ _. ⌜ now (words .exit) ≡ now (table .entry) ⌝ }
 {
@@ -59,7 +60,7 @@ fn write_words(table: &[u8], words: &mut [u16])
 }
 
 // And back.
-fn write_bits(words: &[u16], out: &mut [u8])
+fn write_bits(words: &[u32], out: &mut [u8])
     requires { ⌜ (length (now out) ≡ length (now words)) × ((x : ℕ) → at (now words) x < 2) ⌝ }
     ensures { λ _. ⌜ now (out .exit) ≡ now (words .entry) ⌝ }
 {
@@ -71,7 +72,7 @@ fn write_bits(words: &[u16], out: &mut [u8])
 }
 
 // The rows, copied to the words that the transform works on.
-fn copy(rows: &[u16], words: &mut [u16])
+fn copy(rows: &[u32], words: &mut [u32])
     requires { ⌜ length (now words) ≡ length (now rows) ⌝ }
     ensures { λ _. ⌜ now (words .exit) ≡ now (rows .entry) ⌝ }
 {
@@ -83,7 +84,7 @@ fn copy(rows: &[u16], words: &mut [u16])
 }
 
 // The lower half is XORed to the upper half, and stays.
-fn add_lower_half(values: &mut [u16], h: usize)
+fn add_lower_half(values: &mut [u32], h: usize)
     requires { ⌜ length (now values) ≡ h + h ⌝ }
     ensures { λ _. ⌜ Added h (now (values .entry)) (now (values .exit)) ⌝ }
 {
@@ -97,7 +98,7 @@ fn add_lower_half(values: &mut [u16], h: usize)
 // The normal form in place, of a truth table or of all columns of a box at once: XOR does not mix the bits of a word. A number with the top
 // bit has within it what lies within the rest, with the top bit and without: so each half is brought to its normal form, and the lower is
 // then XORed to the upper. The width falls by one at each cut.
-fn moebius(n: u32, values: &mut [u16])
+fn moebius(n: u32, values: &mut [u32])
     requires { ⌜ length (now values) ≡ 2 ^ n ⌝ }
     ensures { λ _. ⌜ now (values .exit) ≡ normalForm n (at (now (values .entry))) ⌝ }
 {
@@ -110,7 +111,7 @@ fn moebius(n: u32, values: &mut [u16])
 }
 
 // The normal form of a truth table, with an array of words to work in.
-fn write_form(n: u32, table: &[u8], words: &mut [u16], out: &mut [u8])
+fn write_form(n: u32, table: &[u8], words: &mut [u32], out: &mut [u8])
     requires { ⌜ Table n (now table) × (length (now words) ≡ 2 ^ n) × (length (now out) ≡ 2 ^ n) ⌝ }
     ensures { λ _. ⌜ now (out .exit) ≡ normalForm n (at (now (table .entry))) ⌝ }
 {
@@ -127,7 +128,7 @@ pub fn normal_form(n: u32, table: &[u8], out: &mut [u8]) -> Written
     if let Checked::Refused(e) = refusals::check_table_call(n, table, out.len()) {
         return Written::Declined(e);
     }
-    let mut words = [0u16; 256];
+    let mut words = [0u32; 256];
     let size = table.len();
     write_form(n, table, &mut words[..size], out);
     Written::Done
@@ -147,14 +148,14 @@ fn ones_of(u: u8) -> u32
 }
 
 // Whether the component at the mask c has the coefficient 1 where the normal form has this word.
-fn is_odd(word: u16, c: u32) -> bool
+fn is_odd(word: u32, c: u32) -> bool
     ensures { λ r. ⌜ r ≡ eqb (dot word c) 1 ⌝ }
 {
-    boolean::dot(word as u32, c) == 1
+    boolean::dot(word, c) == 1
 }
 
 // Whether the normal form has a word other than 0 at u. A word of 0 is a coefficient 0 of every component.
-fn is_present(words: &[u16], u: u8) -> bool
+fn is_present(words: &[u32], u: u8) -> bool
     ensures { λ r. ⌜ r ≡ not (eqb (at (now (words .entry)) u) 0) ⌝ }
 {
     let place = place_of(u);
@@ -166,7 +167,7 @@ fn is_present(words: &[u16], u: u8) -> bool
 }
 
 // The inputs at which the normal form has a word other than 0, those with the most ones first, and their number.
-fn gather(words: &[u16], inputs: &mut [u8]) -> usize
+fn gather(words: &[u32], inputs: &mut [u8]) -> usize
     requires { ⌜ (length (now words) ≤ 256) × (length (now inputs) ≡ 256) ⌝ }
     ensures { λ r. ⌜ Gathered (now (words .entry)) (now (inputs .exit)) r ⌝ }
 {
@@ -184,7 +185,7 @@ fn gather(words: &[u16], inputs: &mut [u8]) -> usize
 }
 
 // The degree of the component at the mask c: the first input that is found odd has the most ones.
-fn component_degree(words: &[u16], inputs: &[u8], count: usize, c: u32) -> u32
+fn component_degree(words: &[u32], inputs: &[u8], count: usize, c: u32) -> u32
     requires { ⌜ Gathered (now words) (now inputs) count ⌝ }
     ensures { λ r. ⌜ r ≡ degreeOf (now (words .entry)) c ⌝ }
 {
@@ -210,47 +211,62 @@ fn weaker(found: Weakest, degree: u32, c: u32) -> Weakest
     }
 }
 
-// Every component in turn, from 1 to 2^m − 1. It starts from a degree that no component has.
-fn sweep(n: u32, m: u32, words: &[u16], inputs: &[u8], count: usize) -> Weakest
-    requires { ⌜ Swept n m (now words) × Gathered (now words) (now inputs) count ⌝ }
-    ensures { λ r. ⌜ candidate r ≡ firstLeast (degreesOf m (now (words .entry))) ⌝ }
+// The mask that comes next within the limit. Where the limit leaves no combination out it is c + 1, without a count of the ones of c, which
+// takes longer than most degrees do.
+fn next_within(m: u32, i: u32, c: u64) -> u64
+    requires { ⌜ (1 ≤ i) × (m ≤ 32) × (c < 2 ^ m) × (ones c ≤ i) ⌝ }
+    ensures { λ r. ⌜ Next i c r ⌝ }
 {
-    let masks = boolean::power_of_two(m) as u32;
+    if m <= i {
+        c + 1
+    } else {
+        masks::next_mask(i, c)
+    }
+}
+
+// Every component within the limit in turn. It starts from a degree that no component has. The walk ends at 2^m itself, so that != tells its
+// end; < a power of two would be compiled to a shift in each turn.
+fn sweep(n: u32, m: u32, words: &[u32], i: u32, inputs: &[u8], count: usize) -> Weakest
+    requires { ⌜ Swept n m (now words) i × Gathered (now words) (now inputs) count ⌝ }
+    ensures { λ r. ⌜ candidate r ≡ firstLeast (degreesOf m (now (words .entry)) i) ⌝ }
+{
+    let masks = boolean::power_of_two(m) as u64;
     let mut found = Weakest {
         degree: n + 1,
         c: 0,
     };
-    let mut c: u32 = 1;
-    while c < masks {
-        let degree = component_degree(words, inputs, count, c);
-        found = weaker(found, degree, c);
-        c += 1;
+    let mut c: u64 = 1;
+    while c != masks {
+        let mask = c as u32;
+        let degree = component_degree(words, inputs, count, mask);
+        found = weaker(found, degree, mask);
+        c = next_within(m, i, c);
     }
     found
 }
 
-// The weakest component of a box, with two arrays to work in.
-fn weakest_of(n: u32, m: u32, rows: &[u16], words: &mut [u16], inputs: &mut [u8]) -> Weakest
-    requires { ⌜ Box n m (now rows) × (length (now words) ≡ 2 ^ n) × (length (now inputs) ≡ 256) ⌝ }
-    ensures { λ r. ⌜ candidate r ≡ boxDegree n m (now (rows .entry)) ⌝ }
+// The weakest component of a box within the limit, with two arrays to work in.
+fn weakest_of(n: u32, m: u32, rows: &[u32], i: u32, words: &mut [u32], inputs: &mut [u8]) -> Weakest
+    requires { ⌜ Box n m (now rows) × (1 ≤ i) × (length (now words) ≡ 2 ^ n) × (length (now inputs) ≡ 256) ⌝ }
+    ensures { λ r. ⌜ candidate r ≡ boxDegree n m (now (rows .entry)) i ⌝ }
 {
     copy(rows, words);
     moebius(n, words);
     let count = gather(words, inputs);
-    sweep(n, m, words, inputs, count)
+    sweep(n, m, words, i, inputs, count)
 }
 
-// The degree of a box: the least degree of a nonzero combination, with the first that has it.
-pub fn degree(n: u32, m: u32, rows: &[u16]) -> DegreeFound
-    ensures { λ r. ⌜ degreeReply r ≡ boxDegreeReply n m (now (rows .entry)) ⌝ }
+// The degree of a box over its combinations of at most i outputs: the least degree of one, with the first that has it.
+pub fn degree(n: u32, m: u32, rows: &[u32], i: u32) -> DegreeFound
+    ensures { λ r. ⌜ degreeReply r ≡ boxDegreeReply n m (now (rows .entry)) i ⌝ }
 {
-    if let Checked::Refused(e) = refusals::check_box(n, m, rows) {
+    if let Checked::Refused(e) = refusals::check_limited(n, m, rows, i) {
         return DegreeFound::Declined(e);
     }
-    let mut words = [0u16; 256];
+    let mut words = [0u32; 256];
     let mut inputs = [0u8; 256];
     let size = rows.len();
-    let found = weakest_of(n, m, rows, &mut words[..size], &mut inputs);
+    let found = weakest_of(n, m, rows, i, &mut words[..size], &mut inputs);
     DegreeFound::Reached {
         degree: found.degree,
         c: found.c,
@@ -258,7 +274,7 @@ pub fn degree(n: u32, m: u32, rows: &[u16]) -> DegreeFound
 }
 
 // Whether no row equals this one.
-fn none_equal(rows: &[u16], row: u16) -> bool
+fn none_equal(rows: &[u32], row: u32) -> bool
     ensures { λ r. ⌜ r ≡ every (λ y. not (eqb row y)) (now (rows .entry)) ⌝ }
 {
     let mut y = 0;
@@ -272,7 +288,7 @@ fn none_equal(rows: &[u16], row: u16) -> bool
 }
 
 // Whether no two rows are equal: no later row equals row x, for each x.
-fn all_distinct(rows: &[u16]) -> bool
+fn all_distinct(rows: &[u32]) -> bool
     ensures { λ r. ⌜ r ≡ distinct (now (rows .entry)) ⌝ }
 {
     let mut x = 0;
@@ -287,7 +303,7 @@ fn all_distinct(rows: &[u16]) -> bool
 }
 
 // Whether n = m and no two rows are equal.
-pub fn is_bijective(n: u32, m: u32, rows: &[u16]) -> Verdict
+pub fn is_bijective(n: u32, m: u32, rows: &[u32]) -> Verdict
     ensures { λ r. ⌜ verdict r ≡ bijectiveReply n m (now (rows .entry)) ⌝ }
 {
     if let Checked::Refused(e) = refusals::check_box(n, m, rows) {

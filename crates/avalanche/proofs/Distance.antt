@@ -51,8 +51,8 @@ measured-changed : (n m i j : ℕ) (figure : ℕ → ℕ → ℕ) (g : ℕ → �
     → measured n m i j (λ c s. g (figure c s)) ≡ each (measured n m i j figure) (λ p. withFigure g p ∷ [])
 unfolding measured each
 measured-changed n m i j figure g =
-    sym (each-each (atMost i (components m)) (λ c. each (atMost j (shifts n)) (λ s. change figure c s ∷ [])) (λ p. withFigure g p ∷ [])
-    ∙ each-cong (atMost i (components m)) _ _ (λ c. each-each (atMost j (shifts n)) (λ s. change figure c s ∷ []) (λ p. withFigure g p ∷ [])))
+    sym (each-each (components m i) (λ c. each (atMost j (shifts n)) (λ s. change figure c s ∷ [])) (λ p. withFigure g p ∷ [])
+    ∙ each-cong (components m i) _ _ (λ c. each-each (atMost j (shifts n)) (λ s. change figure c s ∷ []) (λ p. withFigure g p ∷ [])))
 
 correlation-doubled : (n m : ℕ) (rows : List ℕ) (i j : ℕ) → 1 ≤ n
     → firstLargest (measured n m i j (correlated n rows)) ≡ withFigure twice (dynamicDistance n m rows i j)

@@ -10,8 +10,8 @@ use borrow.Author.Tests.{le-leb, lt-leb}
 use lib.Count.{ones, ones-le}
 use lib.IntN.{ℤ, natAbs}
 use lib.ListN.{length}
-use Rattle.boolean.specs.Functions.{valueAt}
-use Rattle.avalanche.specs.Calls.{sizeWithin, Within, LargestWithin, FirstWithin}
+use Rattle.boolean.specs.Functions.{valueAt, Within}
+use Rattle.avalanche.specs.Calls.{sizeWithin, LargestWithin, FirstWithin}
 
 -- ---- the magnitude at one change
 pub size-within : (j s : ℕ) (value : ℤ) → ones s ≤ j → sizeWithin j s value ≡ natAbs value

@@ -7,12 +7,12 @@ use Prim.Native.Nat.{ℕ, suc, _+_, _*_, _-_, _^_, _<_, _≤_}
 use native.Mathlib.Nat.{le-refl, le-of-eq, mul-le-mul-right, suc-mul}
 use native.Mathlib.Omega.{arith}
 use lib.Bits.{bitXor, xor-lt}
-use lib.Count.{ones-le}
 use lib.IntN.{ℤ, pos, negsuc, _+ℤ_, _-ℤ_, natAbs, +ℤ-idl, +ℤ-invr, -ℤ-+ℤ-cancel}
 use lib.Pow.{pow-pos, pow-lt}
 use Rattle.boolean.specs.Sums.{each}
-use Rattle.boolean.specs.Functions.{changes, component, components, column}
+use Rattle.boolean.specs.Functions.{Within, changes, component, components, column}
 use Rattle.boolean.specs.Selection.{Candidate, higher, firstBest, firstLargest, SameMembers, ranked, First}
+use Rattle.boolean.proofs.Components.{whole-within}
 use Rattle.boolean.proofs.Correlation.{changes-cong}
 use Rattle.boolean.proofs.FirstLargest.{firstLargest-none}
 use Rattle.boolean.proofs.Digits.{component-xor}
@@ -21,8 +21,8 @@ use Rattle.boolean.proofs.TwoBits.{xor-powers, ones-powers, powers-of-ones}
 use Rattle.boolean.proofs.Columns.{component-column}
 use Rattle.boolean.proofs.Selection.{firstLargest-ge, firstLargest-mem, firstLargest-first, firstLargest-any-order, first-ranked}
 use Rattle.refusals.specs.Table.{Box}
-use Rattle.avalanche.specs.Avalanche.{atMost, measured, boxAutocorrelation, imbalance, dynamicDistance}
-use Rattle.avalanche.specs.Calls.{correlated, change, changesOf, Within}
+use Rattle.avalanche.specs.Avalanche.{measured, boxAutocorrelation, imbalance, dynamicDistance}
+use Rattle.avalanche.specs.Calls.{correlated, change, changesOf}
 use Rattle.avalanche.specs.Statements.{Before, changeRank, Widest, distanceOf}
 use Rattle.avalanche.proofs.Changes.{in-measured, mem-measured, ascending-measured, measured-first, measured-same}
 
@@ -56,41 +56,38 @@ module _ (n m i j : ℕ) (figure : ℕ → ℕ → ℕ) (n-low : 1 ≤ n) (m-low
 
 -- ---- "Combinations may be visited in any order without effect on any answer." Over any list with the members of `measured`, in any order and some
 -- of them more than once, the largest figure, and of its changes the one of the lowest rank, is the box's figure with its witness.
-module _ (n m : ℕ) (rows : List ℕ) where
-  pub autocorrelation-any-order : (visited : List Candidate) → SameMembers visited (measured n m m n (correlated n rows))
-      → firstBest (ranked higher (changeRank n)) visited ≡ boxAutocorrelation n m rows
+module _ (n m : ℕ) (rows : List ℕ) (i : ℕ) where
+  pub autocorrelation-any-order : (visited : List Candidate) → SameMembers visited (measured n m i n (correlated n rows))
+      → firstBest (ranked higher (changeRank n)) visited ≡ boxAutocorrelation n m rows i
   unfolding boxAutocorrelation
   autocorrelation-any-order visited =
-      firstLargest-any-order (changeRank n) (measured n m m n (correlated n rows)) visited (ascending-measured n m m n (correlated n rows))
+      firstLargest-any-order (changeRank n) (measured n m i n (correlated n rows)) visited (ascending-measured n m i n (correlated n rows))
 
-  pub distance-any-order : (i j : ℕ) (visited : List Candidate) → SameMembers visited (measured n m i j (distanceOf n rows))
+  pub distance-any-order : (j : ℕ) (visited : List Candidate) → SameMembers visited (measured n m i j (distanceOf n rows))
       → firstBest (ranked higher (changeRank n)) visited ≡ dynamicDistance n m rows i j
   unfolding dynamicDistance
-  distance-any-order i j visited =
+  distance-any-order j visited =
       firstLargest-any-order (changeRank n) (measured n m i j (distanceOf n rows)) visited (ascending-measured n m i j (distanceOf n rows))
 
-  -- so where the components are visited in any order, each with its changes
-  pub autocorrelation-any-component-order : (order : List ℕ) → SameMembers order (components m)
-      → firstBest (ranked higher (changeRank n)) (each (atMost m order) (changesOf n n (correlated n rows))) ≡ boxAutocorrelation n m rows
+  -- so where the components within the limit are visited in any order, each with its changes
+  pub autocorrelation-any-component-order : (order : List ℕ) → SameMembers order (components m i)
+      → firstBest (ranked higher (changeRank n)) (each order (changesOf n n (correlated n rows))) ≡ boxAutocorrelation n m rows i
   autocorrelation-any-component-order order same =
-      autocorrelation-any-order (each (atMost m order) (changesOf n n (correlated n rows))) (measured-same n m m n (correlated n rows) order same)
+      autocorrelation-any-order (each order (changesOf n n (correlated n rows))) (measured-same n m i n (correlated n rows) order same)
 
-  pub distance-any-component-order : (i j : ℕ) (order : List ℕ) → SameMembers order (components m)
-      → firstBest (ranked higher (changeRank n)) (each (atMost i order) (changesOf n j (distanceOf n rows))) ≡ dynamicDistance n m rows i j
-  distance-any-component-order i j order same =
-      distance-any-order i j (each (atMost i order) (changesOf n j (distanceOf n rows))) (measured-same n m i j (distanceOf n rows) order same)
+  pub distance-any-component-order : (j : ℕ) (order : List ℕ) → SameMembers order (components m i)
+      → firstBest (ranked higher (changeRank n)) (each order (changesOf n j (distanceOf n rows))) ≡ dynamicDistance n m rows i j
+  distance-any-component-order j order same =
+      distance-any-order j (each order (changesOf n j (distanceOf n rows))) (measured-same n m i j (distanceOf n rows) order same)
 
 module _ (n m : ℕ) (rows : List ℕ) (b : Box n m rows) where
-  -- ---- the autocorrelation: no component and no change from 1 is left out
-  pub autocorrelation-widest : Widest n m m n (correlated n rows) (boxAutocorrelation n m rows)
+  -- ---- the autocorrelation: no component within the limit and no change from 1 is left out
+  pub autocorrelation-widest : (i : ℕ) → 1 ≤ i → Widest n m i n (correlated n rows) (boxAutocorrelation n m rows i)
   unfolding boxAutocorrelation
-  autocorrelation-widest = widest n m m n (correlated n rows) (b .n-low) (b .m-low) (b .m-low) (b .n-low)
+  autocorrelation-widest i i-low = widest n m i n (correlated n rows) (b .n-low) (b .m-low) i-low (b .n-low)
 
-  all-within : (k v : ℕ) → 1 ≤ v → v < 2 ^ k → Within k (2 ^ k) v
-  all-within k v l h = record { low = l; high = h; few = ones-le k v h }
-
-  pub autocorrelation-most : (c s : ℕ) → 1 ≤ c → c < 2 ^ m → 1 ≤ s → s < 2 ^ n → correlated n rows c s ≤ boxAutocorrelation n m rows .figure
-  autocorrelation-most c s lc hc ls hs = autocorrelation-widest .most c s (all-within m c lc hc) (all-within n s ls hs)
+  pub autocorrelation-most : (i : ℕ) → 1 ≤ i → (c s : ℕ) → Within i (2 ^ m) c → 1 ≤ s → s < 2 ^ n → correlated n rows c s ≤ boxAutocorrelation n m rows i .figure
+  autocorrelation-most i i-low c s hc ls hs = autocorrelation-widest i i-low .most c s hc (whole-within n s ls hs)
 
   -- ---- the dynamic distance
   pub distance-widest : (i j : ℕ) → 1 ≤ i → 1 ≤ j → Widest n m i j (distanceOf n rows) (dynamicDistance n m rows i j)

@@ -10,12 +10,12 @@ use borrow.Author.Tests.{lt-ltb, le-ltb}
 use lib.Pow.{pow-pos}
 use lib.IntN.{ℤ, pos, _*ℤ_, natAbs}
 use lib.ListN.{length}
-use Rattle.boolean.specs.Functions.{valueAt, component, autocorrelation}
+use Rattle.boolean.specs.Functions.{valueAt, component, autocorrelation, Within}
 use Rattle.boolean.specs.Selection.{Candidate, best, higher}
 use Rattle.boolean.proofs.Lists.{length-listBelow, getD-listBelow}
 use Rattle.boolean.proofs.Products.{abs-multiple}
 use Rattle.boolean.proofs.Selection.{best-stays, best-is, ranked-first}
-use Rattle.avalanche.specs.Calls.{correlations, correlated, change, changesOf, Within, LargestWithin, FirstWithin}
+use Rattle.avalanche.specs.Calls.{correlations, correlated, change, changesOf, LargestWithin, FirstWithin}
 use Rattle.avalanche.specs.Statements.{changeRank}
 use Rattle.avalanche.proofs.Changes.{in-changesOf, mem-changesOf, ascending-changesOf}
 

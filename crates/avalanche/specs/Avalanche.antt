@@ -14,22 +14,22 @@ unfoldable pub shifts : ℕ → List ℕ
 unfolding listFrom
 shifts n = listFrom 1 (2 ^ n - 1) (λ s. s)
 
--- those of a list of masks that have at most k ones
+-- those of a list of changes that have at most k ones
 unfoldable pub atMost : ℕ → List ℕ → List ℕ
 unfolding keep
-atMost k masks = keep (λ v. leb (ones v) k) masks
+atMost k changes = keep (λ v. leb (ones v) k) changes
 
 -- a figure for each component of at most i outputs and each change of at most j inputs, first in the components' order, then in that of
 -- the changes
 unfoldable pub measured : ℕ → ℕ → ℕ → ℕ → (ℕ → ℕ → ℕ) → List Candidate
-unfolding each atMost components shifts
+unfolding each components atMost shifts
 measured n m i j figure =
-    each (atMost i (components m)) (λ c. each (atMost j (shifts n)) (λ s. record { figure = figure c s; witness = c ∷ s ∷ [] } ∷ []))
+    each (components m i) (λ c. each (atMost j (shifts n)) (λ s. record { figure = figure c s; witness = c ∷ s ∷ [] } ∷ []))
 
--- the box's autocorrelation: the first largest |r(s)| over all components and all s from 1
-unfoldable pub boxAutocorrelation : ℕ → ℕ → List ℕ → Candidate
+-- the box's autocorrelation: the first largest |r(s)| over the components within the limit i and all s from 1
+unfoldable pub boxAutocorrelation : ℕ → ℕ → List ℕ → ℕ → Candidate
 unfolding firstLargest measured
-boxAutocorrelation n m rows = firstLargest (measured n m m n (λ c s. natAbs (autocorrelation n (component rows c) s)))
+boxAutocorrelation n m rows i = firstLargest (measured n m i n (λ c s. natAbs (autocorrelation n (component rows c) s)))
 
 -- |2^(n−1) − the count of x where f changes under d|: twice document 001's figure, which is a half at n = 1
 unfoldable pub imbalance : ℕ → (ℕ → ℕ) → ℕ → ℕ

@@ -8,9 +8,9 @@ use lib.Dec.{leb}
 use lib.IntN.{ℤ, pos, _*ℤ_, natAbs}
 use lib.ListN.{length}
 use Rattle.boolean.specs.Sums.{listBelow, each}
-use Rattle.boolean.specs.Functions.{valueAt, autocorrelation, component}
-use Rattle.boolean.specs.Selection.{Candidate, best, higher, shown}
-use Rattle.refusals.specs.Table.{Check, _unless_, first, inRange, boxChecks, Reply, figures, refusal, number, replyAfter, asFigure}
+use Rattle.boolean.specs.Functions.{valueAt, autocorrelation, component, Within}
+use Rattle.boolean.specs.Selection.{Candidate, shown}
+use Rattle.refusals.specs.Table.{Check, _unless_, first, inRange, boxChecks, limitChecks, Reply, figures, refusal, number, replyAfter, asFigure}
 use Rattle.refusals.specs.declared.Refusal.the-variants.{Parameter}
 use Rattle.avalanche.specs.Avalanche.{shifts, atMost, boxAutocorrelation, dynamicDistance, complete}
 use Rattle.avalanche.specs.declared.FoundChange.{FoundChange}
@@ -31,8 +31,8 @@ changeReply (Reached figure c s) = figures (figure ∷ c ∷ s ∷ [])
 changeReply (Declined e) = refusal (number e)
 
 -- what the calls reply: the figure and its witness, yes or no, or the number of the refusal
-abbrev pub autocorrelationReply : ℕ → ℕ → List ℕ → Reply
-autocorrelationReply n m rows = replyAfter (first (boxChecks n m rows)) (shown (boxAutocorrelation n m rows))
+abbrev pub autocorrelationReply : ℕ → ℕ → List ℕ → ℕ → Reply
+autocorrelationReply n m rows i = replyAfter (first (limitChecks n m rows i)) (shown (boxAutocorrelation n m rows i))
 
 abbrev pub distanceReply : ℕ → ℕ → List ℕ → ℕ → ℕ → Reply
 distanceReply n m rows i j = replyAfter (first (distanceChecks n m rows i j)) (shown (dynamicDistance n m rows i j))
@@ -69,13 +69,7 @@ changesOf n j figure c = each (atMost j (shifts n)) (λ s. change figure c s ∷
 unfoldable pub sizeWithin : ℕ → ℕ → ℤ → ℕ
 sizeWithin j s value = cond (leb (ones s) j) (natAbs value) 0
 
--- a change of some inputs below the end: not 0, with at most j ones
-pub record Within (j end s : ℕ) : Type 0 where
-  pub low : 1 ≤ s
-  pub high : s < end
-  pub few : ones s ≤ j
-
--- the largest magnitude at such a change, and 0 where there is none
+-- the largest magnitude at a change within the limit j, and 0 where there is none
 pub record LargestWithin (values : List ℤ) (j largest : ℕ) : Type 0 where
   pub bounds : (s : ℕ) → Within j (length values) s → natAbs (valueAt values s) ≤ largest
   pub reached : 0 < largest → (s : ℕ) × Within j (length values) s × (natAbs (valueAt values s) ≡ largest)
@@ -85,17 +79,3 @@ pub record FirstWithin (values : List ℤ) (j size s : ℕ) : Type 0 where
   pub within : Within j (length values) s
   pub has : natAbs (valueAt values s) ≡ size
   pub first : (t : ℕ) → t < s → Within j (length values) t → natAbs (valueAt values t) ≡ size → ⊥
-
--- the figure 0 with the first candidate's witness
-abbrev pub start : Candidate
-start = record { figure = 0; witness = 1 ∷ 1 ∷ [] }
-
--- what the last of some masks leaves of a rule, and what was there before where there is no mask
-unfoldable pub lastOf : {A : Type 0} → (ℕ → A) → A → List ℕ → A
-lastOf rule old [] = old
-lastOf rule old (c ∷ cs) = lastOf rule (rule c) cs
-
--- some components in turn, those with more than i ones passed over: the best change then, and what the array of values holds
-pub record TakenIn (n : ℕ) (rows : List ℕ) (i j : ℕ) (cs : List ℕ) (found new : Candidate) (values values′ : List ℤ) : Type 0 where
-  pub taken : new ≡ best higher found (each (atMost i cs) (changesOf n j (correlated n rows)))
-  pub values-are : values′ ≡ lastOf (correlations n rows) values (atMost i cs)

@@ -3,10 +3,10 @@ use Prim.Native.Nat.{ℕ, _+_, _*_, _^_, _<_, _≤_}
 use mathlib.Core.Path.{_≡_}
 use mathlib.Core.Logic.{_⊎_}
 use mathlib.Core.List.{List, [], _∷_}
-use Rattle.boolean.specs.Functions.{at, component}
+use Rattle.boolean.specs.Functions.{at, component, Within}
 use Rattle.boolean.specs.Selection.{Candidate}
 use Rattle.avalanche.specs.Avalanche.{imbalance}
-use Rattle.avalanche.specs.Calls.{change, Within}
+use Rattle.avalanche.specs.Calls.{change}
 
 -- (c′, s′) comes before (c, s): by c, then s
 abbrev pub Before : (c′ s′ c s : ℕ) → Type 0

@@ -4,21 +4,21 @@ use refusals::Refusal;
 use refusals::Verdict;
 ghost use mathlib.Core.Path.{_≡_};
 ghost use mathlib.Core.Bool.{not};
-ghost use mathlib.Core.List.{[], _∷_};
 ghost use Prim.Native.Nat.{ℕ, _*_, _^_, _≤_, _<_};
 ghost use lib.Dec.{eqb};
 ghost use lib.IntN.{_*ℤ_, natAbs};
 ghost use lib.ListN.{length};
 ghost use Rattle.boolean.specs.Bits.{bit};
 ghost use Rattle.boolean.specs.Sums.{listFrom, listBelow, every};
-ghost use Rattle.boolean.specs.Functions.{valueAt, changes, column, components};
+ghost use Rattle.boolean.specs.Functions.{valueAt, changes, column};
 ghost use Rattle.boolean.specs.Selection.{best, higher, firstLargest};
 ghost use Rattle.refusals.specs.Table.{first, verdict, Box};
 ghost use Rattle.walsh.specs.Work.{Spectra};
-ghost use Rattle.linear.specs.Calls.{Swept, Stepping};
+ghost use Rattle.masks.specs.Steps.{Stepping};
+ghost use Rattle.linear.specs.Calls.{Swept};
 ghost use Rattle.avalanche.specs.Avalanche.{measured};
 ghost use Rattle.avalanche.specs.Avalanche as spec;
-ghost use Rattle.avalanche.specs.Calls.{distanceChecks, changeReply, autocorrelationReply, distanceReply, completeReply, candidate, truthTable, correlations, correlated, changesOf, sizeWithin, LargestWithin, FirstWithin, start, TakenIn};
+ghost use Rattle.avalanche.specs.Calls.{distanceChecks, changeReply, autocorrelationReply, distanceReply, completeReply, candidate, truthTable, correlations, correlated, changesOf, sizeWithin, LargestWithin, FirstWithin};
 
 // The best so far.
 pub struct FoundChange {
@@ -34,7 +34,7 @@ pub enum LargestChange {
 }
 
 // The checks of the dynamic distance: those of a box, then the order (i, j).
-fn check_distance(n: u32, m: u32, rows: &[u16], i: u32, j: u32) -> Checked
+fn check_distance(n: u32, m: u32, rows: &[u32], i: u32, j: u32) -> Checked
     ensures { λ r. ⌜ r ≡ first (distanceChecks n m (now (rows .entry)) i j) ⌝ }
 {
     if let Checked::Refused(e) = refusals::check_box(n, m, rows) {
@@ -68,8 +68,8 @@ fn correlate(
     fixed: &[i32; 2048],
     n: u32,
     m: u32,
-    rows: &[u16],
-    c: u32,
+    rows: &[u32],
+    c: u64,
     table: &[u8],
     values: &mut [i32],
 )
@@ -79,6 +79,25 @@ fn correlate(
     walsh::descend(fixed, n, table, values);
     square_all(values);
     walsh::transform(n, values);
+}
+
+// The same, from the truth table of component `last`, the mask before c.
+fn next_correlation(
+    fixed: &[i32; 2048],
+    n: u32,
+    m: u32,
+    rows: &[u32],
+    steps: &[u8],
+    last: u64,
+    c: u64,
+    table: &mut [u8],
+    values: &mut [i32],
+)
+    requires { ⌜ Swept n m (now rows) (now table) (now values) × Spectra (now fixed) × Stepping m (now rows) (now steps) last c (now table) ⌝ }
+    ensures { λ _. ⌜ (now (values .exit) ≡ correlations n (now (rows .entry)) c) × (now (table .exit) ≡ truthTable n (now (rows .entry)) c) ⌝ }
+{
+    masks::next_component(m, rows, steps, last, c, table);
+    correlate(fixed, n, m, rows, c, table, values);
 }
 
 // The magnitude of the value at s, or 0 where s has more than j ones.
@@ -156,7 +175,7 @@ fn with_correlation(
     found: FoundChange,
     n: u32,
     m: u32,
-    rows: &[u16],
+    rows: &[u32],
     j: u32,
     c: u32,
     values: &[i32],
@@ -174,70 +193,48 @@ fn with_correlation(
     }
 }
 
-// The best change so far, with those of component c, whose truth table is made from that of component c − 1. A component with more than i
-// ones is then passed over.
-fn with_component(
-    found: FoundChange,
-    fixed: &[i32; 2048],
-    n: u32,
-    m: u32,
-    rows: &[u16],
-    i: u32,
-    j: u32,
-    steps: &[u8],
-    c: u32,
-    table: &mut [u8],
-    values: &mut [i32],
-) -> FoundChange
-    requires { ⌜ Swept n m (now rows) (now table) (now values) × Spectra (now fixed) × Stepping m (now rows) (now steps) c (now table) ⌝ }
-    ensures { λ r. ⌜ TakenIn n (now (rows .entry)) i j (c ∷ []) (candidate found) (candidate r) (now (values .entry)) (now (values .exit)) × (now (table .exit) ≡ truthTable n (now (rows .entry)) c) ⌝ }
-{
-    linear::next_component(m, rows, steps, c, table);
-    if i < u32::count_ones(c) {
-        return found;
-    }
-    correlate(fixed, n, m, rows, c, table, values);
-    with_correlation(found, n, m, rows, j, c, values)
-}
-
-// Every component in turn, from 1 to 2^m − 1, each from the one before. It starts from the figure 0 with the first candidate's witness.
+// Every component within the limit i in turn, each from the one before, from the component 0 on. It starts from the figure 0 with the
+// first candidate's witness.
 fn sweep(
     fixed: &[i32; 2048],
     n: u32,
     m: u32,
-    rows: &[u16],
+    rows: &[u32],
     i: u32,
     j: u32,
     steps: &mut [u8],
     table: &mut [u8],
     values: &mut [i32],
 ) -> FoundChange
-    requires { ⌜ Swept n m (now rows) (now table) (now values) × Spectra (now fixed) × (length (now steps) ≡ m * length (now rows)) ⌝ }
-    ensures { λ r. ⌜ TakenIn n (now (rows .entry)) i j (components m) start (candidate r) (now (values .entry)) (now (values .exit)) ⌝ }
+    requires { ⌜ Swept n m (now rows) (now table) (now values) × Spectra (now fixed) × (length (now steps) ≡ m * length (now rows)) × (1 ≤ i) × (1 ≤ j) ⌝ }
+    ensures { λ r. ⌜ candidate r ≡ firstLargest (measured n m i j (correlated n (now (rows .entry)))) ⌝ }
 {
-    linear::write_steps(m, rows, steps);
-    linear::write_component(rows, 0, table);
-    let masks = boolean::power_of_two(m) as u32;
+    masks::write_steps(m, rows, steps);
+    masks::write_component(rows, 0, table);
+    let masks = boolean::power_of_two(m) as u64;
     let mut found = FoundChange {
         figure: 0,
         c: 1,
         s: 1,
     };
-    let mut c: u32 = 1;
+    let mut last: u64 = 0;
+    let mut c: u64 = 1;
     while c < masks {
-        found = with_component(found, fixed, n, m, rows, i, j, steps, c, table, values);
-        c += 1;
+        next_correlation(fixed, n, m, rows, steps, last, c, table, values);
+        found = with_correlation(found, n, m, rows, j, c as u32, values);
+        last = c;
+        c = masks::next_mask(i, c);
     }
     found
 }
 
 // The largest |r(s)| over components with at most i ones and s with 1 to j ones, for an accepted box.
-fn largest_correlation(n: u32, m: u32, rows: &[u16], i: u32, j: u32) -> FoundChange
+fn largest_correlation(n: u32, m: u32, rows: &[u32], i: u32, j: u32) -> FoundChange
     requires { ⌜ Box n m (now rows) × (1 ≤ i) × (1 ≤ j) ⌝ }
     ensures { λ r. ⌜ candidate r ≡ firstLargest (measured n m i j (correlated n (now (rows .entry)))) ⌝ }
 {
     let fixed = walsh::spectra();
-    let mut steps = [0u8; 4096];
+    let mut steps = [0u8; 8192];
     let mut table = [0u8; 256];
     let mut values = [0i32; 256];
     let size = rows.len();
@@ -256,15 +253,15 @@ fn largest_correlation(n: u32, m: u32, rows: &[u16], i: u32, j: u32) -> FoundCha
 }
 
 // Whether bit j of two rows differs.
-fn bit_differs(a: u16, b: u16, j: u32) -> bool
-    requires { ⌜ (1 ≤ j) × (j ≤ 16) ⌝ }
+fn bit_differs(a: u32, b: u32, j: u32) -> bool
+    requires { ⌜ (1 ≤ j) × (j ≤ 32) ⌝ }
     ensures { λ r. ⌜ r ≡ not (eqb (bit j a) (bit j b)) ⌝ }
 {
     (a >> (j - 1)) % 2 != (b >> (j - 1)) % 2
 }
 
 // Whether column j changes at some input where `flip` is XORed to it.
-fn column_changes(n: u32, m: u32, rows: &[u16], flip: usize, j: u32) -> bool
+fn column_changes(n: u32, m: u32, rows: &[u32], flip: usize, j: u32) -> bool
     requires { ⌜ Box n m (now rows) × (flip < 2 ^ n) × (1 ≤ j) × (j ≤ m) ⌝ }
     ensures { λ r. ⌜ r ≡ not (eqb (changes n (column (now (rows .entry)) j) flip) 0) ⌝ }
 {
@@ -279,7 +276,7 @@ fn column_changes(n: u32, m: u32, rows: &[u16], flip: usize, j: u32) -> bool
 }
 
 // Whether every column does.
-fn every_column_changes(n: u32, m: u32, rows: &[u16], flip: usize) -> bool
+fn every_column_changes(n: u32, m: u32, rows: &[u32], flip: usize) -> bool
     requires { ⌜ Box n m (now rows) × (flip < 2 ^ n) ⌝ }
     ensures { λ r. ⌜ r ≡ every (λ j. not (eqb (changes n (column (now (rows .entry)) j) flip) 0)) (listFrom 1 m (λ j. j)) ⌝ }
 {
@@ -294,7 +291,7 @@ fn every_column_changes(n: u32, m: u32, rows: &[u16], flip: usize) -> bool
 }
 
 // Whether every input bit changes every column at some input, for an accepted box.
-fn all_complete(n: u32, m: u32, rows: &[u16]) -> bool
+fn all_complete(n: u32, m: u32, rows: &[u32]) -> bool
     requires { ⌜ Box n m (now rows) ⌝ }
     ensures { λ r. ⌜ r ≡ spec.complete n m (now (rows .entry)) ⌝ }
 {
@@ -308,14 +305,14 @@ fn all_complete(n: u32, m: u32, rows: &[u16]) -> bool
     true
 }
 
-// The largest |r(s)| over all components and all s from 1.
-pub fn autocorrelation(n: u32, m: u32, rows: &[u16]) -> LargestChange
-    ensures { λ r. ⌜ changeReply r ≡ autocorrelationReply n m (now (rows .entry)) ⌝ }
+// The largest |r(s)| over the combinations of at most i outputs and all s from 1.
+pub fn autocorrelation(n: u32, m: u32, rows: &[u32], i: u32) -> LargestChange
+    ensures { λ r. ⌜ changeReply r ≡ autocorrelationReply n m (now (rows .entry)) i ⌝ }
 {
-    if let Checked::Refused(e) = refusals::check_box(n, m, rows) {
+    if let Checked::Refused(e) = refusals::check_limited(n, m, rows, i) {
         return LargestChange::Declined(e);
     }
-    let found = largest_correlation(n, m, rows, m, n);
+    let found = largest_correlation(n, m, rows, i, n);
     LargestChange::Reached {
         figure: found.figure,
         c: found.c,
@@ -324,7 +321,7 @@ pub fn autocorrelation(n: u32, m: u32, rows: &[u16]) -> LargestChange
 }
 
 // The dynamic distance of order (i, j), as document 01 doubles it: half of the largest |r(s)|.
-pub fn dynamic_distance(n: u32, m: u32, rows: &[u16], i: u32, j: u32) -> LargestChange
+pub fn dynamic_distance(n: u32, m: u32, rows: &[u32], i: u32, j: u32) -> LargestChange
     ensures { λ r. ⌜ changeReply r ≡ distanceReply n m (now (rows .entry)) i j ⌝ }
 {
     if let Checked::Refused(e) = check_distance(n, m, rows, i, j) {
@@ -339,7 +336,7 @@ pub fn dynamic_distance(n: u32, m: u32, rows: &[u16], i: u32, j: u32) -> Largest
 }
 
 // Whether every input bit changes every column at some input.
-pub fn is_complete(n: u32, m: u32, rows: &[u16]) -> Verdict
+pub fn is_complete(n: u32, m: u32, rows: &[u32]) -> Verdict
     ensures { λ r. ⌜ verdict r ≡ completeReply n m (now (rows .entry)) ⌝ }
 {
     if let Checked::Refused(e) = refusals::check_box(n, m, rows) {

@@ -15,8 +15,8 @@ pub mod Selection
 pub mod FirstLargest
 pub mod Lists
 pub mod Kept
+pub mod Components
 pub mod Members
-pub mod Masks
 pub mod Every
 pub mod Ranges
 pub mod Distinct

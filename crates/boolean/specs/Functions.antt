@@ -1,16 +1,16 @@
 -- Boolean functions of n inputs and what is measured of them. A function is a rule that gives 0 or 1 for each input below 2^n.
-use Prim.Native.Nat.{ℕ, zero, suc, _+_, _-_, _*_, _^_, _<_}
+use Prim.Native.Nat.{ℕ, zero, suc, _+_, _-_, _*_, _^_, _≤_, _<_}
 use mathlib.Core.Path.{_≡_}
 use mathlib.Core.Logic.{_⊎_}
 use mathlib.Core.Bool.{Bool, true, false, not, cond, _&&_}
 use mathlib.Core.List.{List, [], _∷_}
 use lib.Bits.{bitAnd, bitXor}
 use lib.Count.{ones}
-use lib.Dec.{eqb}
+use lib.Dec.{eqb, leb}
 use lib.ListN.{getD}
 use lib.IntN.{ℤ, pos, negsuc, _*ℤ_, negℤ, natAbs}
 use Rattle.boolean.specs.Bits.{parity, dot, affine, bit, within}
-use Rattle.boolean.specs.Sums.{sumBelow, countBelow, xorBelow, largestBelow, listFrom, listBelow}
+use Rattle.boolean.specs.Sums.{sumBelow, countBelow, xorBelow, largestBelow, listFrom, listBelow, keep}
 
 -- every value of f at an input of n bits is 0 or 1
 abbrev pub Boolean : ℕ → (ℕ → ℕ) → Type 0
@@ -84,10 +84,16 @@ unfoldable pub component : List ℕ → ℕ → ℕ → ℕ
 unfolding parity
 component rows c x = parity (bitAnd (at rows x) c)
 
--- the masks of a box's components, in the order in which they come: 1, 2, .., 2^m − 1
-unfoldable pub components : ℕ → List ℕ
-unfolding listFrom
-components m = listFrom 1 (2 ^ m - 1) (λ c. c)
+-- v is not 0, lies below the end and has at most k ones
+pub record Within (k end v : ℕ) : Type 0 where
+  pub low : 1 ≤ v
+  pub high : v < end
+  pub few : ones v ≤ k
+
+-- the masks of a box's components within the limit i, in the order in which they come: from 1 to 2^m − 1, those with at most i ones
+unfoldable pub components : ℕ → ℕ → List ℕ
+unfolding keep listFrom
+components m i = keep (λ c. leb (ones c) i) (listFrom 1 (2 ^ m - 1) (λ c. c))
 
 -- a truth value as a sign: 0 is +1, and 1 is −1
 unfoldable pub sign : ℕ → ℤ

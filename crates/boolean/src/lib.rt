@@ -14,8 +14,8 @@ pub fn dot(w: u32, x: u32) -> u32
 
 // 2 to the power k.
 pub fn power_of_two(k: u32) -> usize
-    requires { ⌜ k ≤ 16 ⌝ }
-    ensures { λ r. ⌜ (r ≡ 2 ^ k) × (r ≤ 65536) ⌝ }
+    requires { ⌜ k ≤ 32 ⌝ }
+    ensures { λ r. ⌜ (r ≡ 2 ^ k) × (r ≤ 4294967296) ⌝ }
 {
     1usize << k
 }

@@ -1,4 +1,4 @@
--- A box file: n, m in a byte each, then the rows, two bytes each, low byte first.
+-- A box file: n, m in a byte each, then the rows, four bytes each, low byte first.
 use Prim.Native.Nat.{ℕ, _+_, _*_, _^_}
 use mathlib.Core.List.{List, [], _∷_}
 use lib.Dec.{leb, eqb}
@@ -10,9 +10,9 @@ use Rattle.refusals.specs.declared.Refusal.the-variants.{FileLength, InputWidth
 use Rattle.boxfile.specs.declared.BoxFile.{BoxFile}
 use Rattle.boxfile.specs.declared.BoxFile.the-variants.{Read, Declined}
 
--- row x, from its two bytes
+-- row x, from its four bytes
 unfoldable pub rowAt : List ℕ → ℕ → ℕ
-rowAt file x = at file (2 * x + 2) + 256 * at file (2 * x + 3)
+rowAt file x = at file (4 * x + 2) + 256 * at file (4 * x + 3) + 65536 * at file (4 * x + 4) + 16777216 * at file (4 * x + 5)
 
 -- the rows of a box of n inputs
 unfoldable pub rowsOf : List ℕ → ℕ → List ℕ
@@ -24,8 +24,8 @@ unfoldable pub readChecks : List ℕ → ℕ → ℕ → ℕ → List Check
 unfolding rowsOf
 readChecks file n m room =
     (InputWidth unless inRange 1 8 n)
-    ∷ (OutputWidth unless inRange 1 16 m)
-    ∷ (FileLength unless eqb (length file) (2 + 2 * 2 ^ n))
+    ∷ (OutputWidth unless inRange 1 32 m)
+    ∷ (FileLength unless eqb (length file) (2 + 4 * 2 ^ n))
     ∷ (Value unless allBelow (2 ^ m) (rowsOf file n))
     ∷ (WrittenLength unless eqb room (2 ^ n))
     ∷ []

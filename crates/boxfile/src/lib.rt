@@ -22,19 +22,29 @@ fn wide(x: u8) -> u32
     x as u32
 }
 
-// Row x of the file.
-fn row_at(file: &[u8], x: usize) -> u16
-    requires { ⌜ 2 * x + 3 < length (now file) ⌝ }
+// The number that two bytes make, low byte first.
+fn two_bytes(file: &[u8], place: usize) -> u32
+    requires { ⌜ place + 1 < length (now file) ⌝ }
+    ensures { λ r. ⌜ (r ≡ at (now (file .entry)) place + 256 * at (now (file .entry)) (place + 1)) × (r < 65536) ⌝ }
+{
+    let low = wide(file[place]);
+    let high = wide(file[place + 1]);
+    low + 256 * high
+}
+
+// Row x of the file, from its four bytes.
+fn row_at(file: &[u8], x: usize) -> u32
+    requires { ⌜ 4 * x + 5 < length (now file) ⌝ }
     ensures { λ r. ⌜ r ≡ rowAt (now (file .entry)) x ⌝ }
 {
-    let low = wide(file[2 * x + 2]);
-    let high = wide(file[2 * x + 3]);
-    (low + 256 * high) as u16
+    let low = two_bytes(file, 4 * x + 2);
+    let high = two_bytes(file, 4 * x + 4);
+    low + 65536 * high
 }
 
 // Whether every row of a file of n inputs is below the limit.
 fn rows_below(file: &[u8], n: u32, size: usize, limit: usize) -> bool
-    requires { ⌜ (size ≡ 2 ^ n) × (length (now file) ≡ 2 + 2 * size) ⌝ }
+    requires { ⌜ (size ≡ 2 ^ n) × (length (now file) ≡ 2 + 4 * size) ⌝ }
     ensures { λ r. ⌜ r ≡ allBelow limit (rowsOf (now (file .entry)) n) ⌝ }
 {
     let mut x = 0;
@@ -48,8 +58,8 @@ fn rows_below(file: &[u8], n: u32, size: usize, limit: usize) -> bool
 }
 
 // The rows of the file, written to an array that is as long.
-fn write_rows(file: &[u8], n: u32, rows: &mut [u16])
-    requires { ⌜ (length (now rows) ≡ 2 ^ n) × (length (now file) ≡ 2 + 2 * 2 ^ n) ⌝ }
+fn write_rows(file: &[u8], n: u32, rows: &mut [u32])
+    requires { ⌜ (length (now rows) ≡ 2 ^ n) × (length (now file) ≡ 2 + 4 * 2 ^ n) ⌝ }
     ensures { λ _. ⌜ now (rows .exit) ≡ rowsOf (now (file .entry)) n ⌝ }
 {
     let mut x = 0;
@@ -66,11 +76,11 @@ fn check_read(file: &[u8], n: u32, m: u32, room: usize) -> Checked
     if !refusals::in_range(1, 8, n) {
         return Checked::Refused(Refusal::InputWidth);
     }
-    if !refusals::in_range(1, 16, m) {
+    if !refusals::in_range(1, 32, m) {
         return Checked::Refused(Refusal::OutputWidth);
     }
     let size = boolean::power_of_two(n);
-    if file.len() != 2 + 2 * size {
+    if file.len() != 2 + 4 * size {
         return Checked::Refused(Refusal::FileLength);
     }
     if !rows_below(file, n, size, boolean::power_of_two(m)) {
@@ -93,7 +103,7 @@ pub fn check_file(file: &[u8], room: usize) -> Checked
 }
 
 // Reads a box from the bytes of its file: the widths are the answer, and the rows go to the lent array.
-pub fn read_box(file: &[u8], rows: &mut [u16]) -> BoxFile
+pub fn read_box(file: &[u8], rows: &mut [u32]) -> BoxFile
     ensures reply { λ r. ⌜ boxFile r ≡ replyAfter (first (fileChecks (now (file .entry)) (length (now (rows .entry))))) (at (now (file .entry)) 0 ∷ at (now (file .entry)) 1 ∷ []) ⌝ }
     ensures content { λ r. ⌜ now (rows .exit) ≡ contentAfter (first (fileChecks (now (file .entry)) (length (now (rows .entry))))) (rowsOf (now (file .entry)) (at (now (file .entry)) 0)) (now (rows .entry)) ⌝ }
 {

@@ -1,4 +1,5 @@
--- Document 01's proved cases, in a single theorem over a table of them, computed over the definitions that the contracts cite.
+-- Document 01's proved cases, with the limits of document 02, in a single theorem over a table of them, computed over the definitions that the
+-- contracts cite.
 use Prim.Native.Nat.{ℕ, _^_}
 use mathlib.Core.Bool.{Bool, true, false, _&&_}
 use mathlib.Core.List.{List, [], _∷_}
@@ -10,13 +11,13 @@ use Rattle.boolean.specs.Bits.{parity, dot, affine, bit, within}
 use Rattle.boolean.specs.Sums.{sumBelow, one-if, countBelow, xorBelow, listFrom, listBelow, each, every, keep, largestBelow, distinct}
 use Rattle.boolean.specs.Functions.{at, valueAt, agreement, walsh, spectrum, distance, autocorrelation, changes, coefficient, degree, column, component, components, sign, transform, signBit, inverse, sameValues, isSpectrum}
 use Rattle.boolean.specs.Selection.{best, firstLeast, firstLargest}
-use Rattle.refusals.specs.Table.{tableCallChecks, Reply, figures, refusal, first, replyAfter, contentAfter}
+use Rattle.refusals.specs.Table.{limitChecks, tableCallChecks, Reply, figures, refusal, first, replyAfter, contentAfter}
 use Rattle.walsh.specs.Calls.{inverseLengths, functionCheck, inverseChecks}
 use Rattle.linear.specs.Nonlinearity.{pairsOf, pairs, nonlinearity, nonlinearityReply}
 use Rattle.differential.specs.XorTable.{difference, cell, cellsOf, cells, largestCell}
-use Rattle.differential.specs.Calls.{xorReply}
-use Rattle.avalanche.specs.Avalanche.{shifts, atMost, measured, boxAutocorrelation, imbalance, dynamicDistance}
-use Rattle.avalanche.specs.Calls.{distanceChecks, distanceReply, autocorrelationReply}
+use Rattle.differential.specs.Calls.{rowChecks, xorReply}
+use Rattle.avalanche.specs.Avalanche.{shifts, atMost, measured, boxAutocorrelation, imbalance, dynamicDistance, complete}
+use Rattle.avalanche.specs.Calls.{distanceChecks, distanceReply, autocorrelationReply, completeReply}
 use Rattle.algebraic.specs.Algebraic.{degrees, boxDegree}
 use Rattle.algebraic.specs.Calls.{boxDegreeReply}
 use Rattle.constructions.specs.Enlargement.{enlarged, enlargedTable, enlargedRows}
@@ -61,21 +62,28 @@ abbrev pub right : List Case → Bool
 right [] = true
 right ((a is b) ∷ cs) = same a b && right cs
 
--- the replies and contents of the calls, as their contracts have them
-abbrev pub nonlinearityOf : ℕ → ℕ → List ℕ → Outcome
-nonlinearityOf n m rows = says (nonlinearityReply n m rows)
+-- the replies and contents of the calls, as their contracts have them; i is the limit on combinations
+abbrev pub nonlinearityOf : ℕ → ℕ → List ℕ → ℕ → Outcome
+nonlinearityOf n m rows i = says (nonlinearityReply n m rows i)
 
 abbrev pub distanceOf : ℕ → ℕ → List ℕ → ℕ → ℕ → Outcome
 distanceOf n m rows i j = says (distanceReply n m rows i j)
 
-abbrev pub degreeOf : ℕ → ℕ → List ℕ → Outcome
-degreeOf n m rows = says (boxDegreeReply n m rows)
+abbrev pub degreeOf : ℕ → ℕ → List ℕ → ℕ → Outcome
+degreeOf n m rows i = says (boxDegreeReply n m rows i)
 
 abbrev pub cellOf : ℕ → ℕ → List ℕ → Outcome
 cellOf n m rows = says (xorReply n m rows)
 
-abbrev pub autocorrelationOf : ℕ → ℕ → List ℕ → Outcome
-autocorrelationOf n m rows = says (autocorrelationReply n m rows)
+-- (an XOR row is written to an array with so much room)
+abbrev pub rowReply : ℕ → ℕ → List ℕ → ℕ → ℕ → Outcome
+rowReply n m rows a room = says (replyAfter (first (rowChecks n m rows a room)) [])
+
+abbrev pub completeOf : ℕ → ℕ → List ℕ → Outcome
+completeOf n m rows = says (completeReply n m rows)
+
+abbrev pub autocorrelationOf : ℕ → ℕ → List ℕ → ℕ → Outcome
+autocorrelationOf n m rows i = says (autocorrelationReply n m rows i)
 
 abbrev pub spectrumOf : ℕ → List ℕ → List ℤ → Outcome
 spectrumOf n table old = holdsSigned (contentAfter (first (tableCallChecks n table (length old))) (spectrum n (at table)) old)
@@ -124,15 +132,15 @@ case10 = bentOf 4 (0 ∷ 1 ∷ 2 ∷ 3 ∷ []) (0 ∷ 0 ∷ 0 ∷ 0 ∷ []) sixt
 abbrev pub cases : List Case
 cases =
     -- 1
-    (nonlinearityOf 1 1 (0 ∷ 1 ∷ []) is says (figures (0 ∷ 1 ∷ 1 ∷ 0 ∷ [])))
+    (nonlinearityOf 1 1 (0 ∷ 1 ∷ []) 1 is says (figures (0 ∷ 1 ∷ 1 ∷ 0 ∷ [])))
     ∷ (distanceOf 1 1 (0 ∷ 1 ∷ []) 1 1 is says (figures (1 ∷ 1 ∷ 1 ∷ [])))
-    ∷ (degreeOf 1 1 (0 ∷ 1 ∷ []) is says (figures (1 ∷ 1 ∷ [])))
+    ∷ (degreeOf 1 1 (0 ∷ 1 ∷ []) 1 is says (figures (1 ∷ 1 ∷ [])))
     -- 2
-    ∷ (nonlinearityOf 1 1 (0 ∷ 0 ∷ []) is says (figures (0 ∷ 1 ∷ 0 ∷ 0 ∷ [])))
-    ∷ (degreeOf 1 1 (0 ∷ 0 ∷ []) is says (figures (0 ∷ 1 ∷ [])))
+    ∷ (nonlinearityOf 1 1 (0 ∷ 0 ∷ []) 1 is says (figures (0 ∷ 1 ∷ 0 ∷ 0 ∷ [])))
+    ∷ (degreeOf 1 1 (0 ∷ 0 ∷ []) 1 is says (figures (0 ∷ 1 ∷ [])))
     -- 3
     ∷ (spectrumOf 2 (0 ∷ 0 ∷ 0 ∷ 1 ∷ []) (pos 0 ∷ pos 0 ∷ pos 0 ∷ pos 0 ∷ []) is holdsSigned (pos 2 ∷ pos 2 ∷ pos 2 ∷ negsuc 1 ∷ []))
-    ∷ (nonlinearityOf 2 1 (0 ∷ 0 ∷ 0 ∷ 1 ∷ []) is says (figures (1 ∷ 1 ∷ 0 ∷ 0 ∷ [])))
+    ∷ (nonlinearityOf 2 1 (0 ∷ 0 ∷ 0 ∷ 1 ∷ []) 1 is says (figures (1 ∷ 1 ∷ 0 ∷ 0 ∷ [])))
     ∷ (distanceOf 2 1 (0 ∷ 0 ∷ 0 ∷ 1 ∷ []) 1 2 is says (figures (0 ∷ 1 ∷ 1 ∷ [])))
     -- 4
     ∷ (inverseOf 2 (pos 2 ∷ pos 2 ∷ pos 2 ∷ negsuc 1 ∷ []) (9 ∷ 9 ∷ 9 ∷ 9 ∷ []) is holds (0 ∷ 0 ∷ 0 ∷ 1 ∷ []))
@@ -142,17 +150,17 @@ cases =
     -- 6
     ∷ (inverseReply 1 (pos 0 ∷ pos 0 ∷ []) (9 ∷ 9 ∷ []) is says (refusal 8))
     -- 7
-    ∷ (nonlinearityOf 2 2 (0 ∷ 1 ∷ 2 ∷ 3 ∷ []) is says (figures (0 ∷ 1 ∷ 1 ∷ 0 ∷ [])))
+    ∷ (nonlinearityOf 2 2 (0 ∷ 1 ∷ 2 ∷ 3 ∷ []) 2 is says (figures (0 ∷ 1 ∷ 1 ∷ 0 ∷ [])))
     ∷ (cellOf 2 2 (0 ∷ 1 ∷ 2 ∷ 3 ∷ []) is says (figures (4 ∷ 1 ∷ 1 ∷ [])))
-    ∷ (autocorrelationOf 2 2 (0 ∷ 1 ∷ 2 ∷ 3 ∷ []) is says (figures (4 ∷ 1 ∷ 1 ∷ [])))
+    ∷ (autocorrelationOf 2 2 (0 ∷ 1 ∷ 2 ∷ 3 ∷ []) 2 is says (figures (4 ∷ 1 ∷ 1 ∷ [])))
     -- 8: the upper half
     ∷ (holds (drop 8 (columnOf 3 case8 1 1 sixteen)) is holds (0 ∷ 0 ∷ 1 ∷ 1 ∷ 0 ∷ 1 ∷ 0 ∷ 1 ∷ []))
     -- 9
     ∷ (holds case9 is holds (11 ∷ 1 ∷ 4 ∷ 0 ∷ 10 ∷ 13 ∷ 6 ∷ 15 ∷ 9 ∷ 3 ∷ 8 ∷ 12 ∷ 5 ∷ 2 ∷ 7 ∷ 14 ∷ []))
-    ∷ (nonlinearityOf 4 4 (11 ∷ 1 ∷ 4 ∷ 0 ∷ 10 ∷ 13 ∷ 6 ∷ 15 ∷ 9 ∷ 3 ∷ 8 ∷ 12 ∷ 5 ∷ 2 ∷ 7 ∷ 14 ∷ []) is says (figures (0 ∷ 7 ∷ 15 ∷ 0 ∷ [])))
+    ∷ (nonlinearityOf 4 4 (11 ∷ 1 ∷ 4 ∷ 0 ∷ 10 ∷ 13 ∷ 6 ∷ 15 ∷ 9 ∷ 3 ∷ 8 ∷ 12 ∷ 5 ∷ 2 ∷ 7 ∷ 14 ∷ []) 4 is says (figures (0 ∷ 7 ∷ 15 ∷ 0 ∷ [])))
     -- 10
     ∷ (holds case10 is holds (0 ∷ 0 ∷ 0 ∷ 0 ∷ 0 ∷ 1 ∷ 0 ∷ 1 ∷ 0 ∷ 0 ∷ 1 ∷ 1 ∷ 0 ∷ 1 ∷ 1 ∷ 0 ∷ []))
-    ∷ (nonlinearityOf 4 1 (0 ∷ 0 ∷ 0 ∷ 0 ∷ 0 ∷ 1 ∷ 0 ∷ 1 ∷ 0 ∷ 0 ∷ 1 ∷ 1 ∷ 0 ∷ 1 ∷ 1 ∷ 0 ∷ []) is says (figures (6 ∷ 1 ∷ 0 ∷ 0 ∷ [])))
+    ∷ (nonlinearityOf 4 1 (0 ∷ 0 ∷ 0 ∷ 0 ∷ 0 ∷ 1 ∷ 0 ∷ 1 ∷ 0 ∷ 0 ∷ 1 ∷ 1 ∷ 0 ∷ 1 ∷ 1 ∷ 0 ∷ []) 1 is says (figures (6 ∷ 1 ∷ 0 ∷ 0 ∷ [])))
     ∷ []
 
 -- a truth table of n inputs that is 0 everywhere, and the rows 0, 1, .., 2^n − 1
@@ -165,13 +173,38 @@ identity n = listBelow (2 ^ n) (λ x. x)
 -- each bound from both sides
 abbrev pub bounds : List Case
 bounds =
-    (nonlinearityOf 0 1 (0 ∷ []) is says (refusal 1))
-    ∷ (nonlinearityOf 9 17 [] is says (refusal 1))
-    ∷ (nonlinearityOf 8 17 [] is says (refusal 2))
-    ∷ (nonlinearityOf 8 16 [] is says (refusal 3))
-    ∷ (nonlinearityOf 1 3 (7 ∷ 7 ∷ []) is says (figures (0 ∷ 1 ∷ 0 ∷ 1 ∷ [])))
-    ∷ (nonlinearityOf 1 3 (7 ∷ 8 ∷ []) is says (refusal 4))
+    -- the widths, and which number comes first
+    (nonlinearityOf 0 1 (0 ∷ []) 1 is says (refusal 1))
+    ∷ (nonlinearityOf 9 33 [] 0 is says (refusal 1))
+    ∷ (nonlinearityOf 8 0 [] 0 is says (refusal 2))
+    ∷ (nonlinearityOf 8 33 [] 0 is says (refusal 2))
+    ∷ (nonlinearityOf 8 32 [] 0 is says (refusal 3))
+    ∷ (completeOf 1 17 (0 ∷ 131071 ∷ []) is says (figures (1 ∷ [])))
+    ∷ (completeOf 1 32 (0 ∷ 4294967295 ∷ []) is says (figures (1 ∷ [])))
+    ∷ (completeOf 1 33 (0 ∷ 4294967295 ∷ []) is says (refusal 2))
+    -- a row of the XOR table is given up to 16 outputs
+    ∷ (rowReply 1 16 (0 ∷ 65535 ∷ []) 1 65536 is says (figures []))
+    ∷ (rowReply 1 17 (0 ∷ 65535 ∷ []) 1 131072 is says (refusal 2))
+    -- the rows, and then the limit
+    ∷ (nonlinearityOf 1 3 (7 ∷ 7 ∷ []) 3 is says (figures (0 ∷ 1 ∷ 0 ∷ 1 ∷ [])))
+    ∷ (nonlinearityOf 1 3 (7 ∷ 8 ∷ []) 3 is says (refusal 4))
+    ∷ (nonlinearityOf 1 3 (7 ∷ 8 ∷ []) 0 is says (refusal 4))
+    ∷ (nonlinearityOf 1 3 (7 ∷ 7 ∷ []) 0 is says (refusal 6))
+    ∷ (nonlinearityOf 1 3 (7 ∷ 7 ∷ []) 1 is says (figures (0 ∷ 1 ∷ 0 ∷ 1 ∷ [])))
+    ∷ (nonlinearityOf 1 3 (7 ∷ 7 ∷ []) 4 is says (refusal 6))
+    ∷ (nonlinearityOf 1 32 (0 ∷ 4294967295 ∷ []) 33 is says (refusal 6))
+    ∷ (autocorrelationOf 1 3 (7 ∷ 7 ∷ []) 0 is says (refusal 6))
+    ∷ (autocorrelationOf 1 3 (7 ∷ 7 ∷ []) 3 is says (figures (2 ∷ 1 ∷ 1 ∷ [])))
+    ∷ (autocorrelationOf 1 3 (7 ∷ 7 ∷ []) 4 is says (refusal 6))
+    ∷ (degreeOf 1 3 (7 ∷ 7 ∷ []) 0 is says (refusal 6))
+    ∷ (degreeOf 1 3 (7 ∷ 7 ∷ []) 3 is says (figures (0 ∷ 1 ∷ [])))
+    ∷ (degreeOf 1 3 (7 ∷ 7 ∷ []) 4 is says (refusal 6))
     ∷ (distanceOf 1 1 (0 ∷ 1 ∷ []) 2 1 is says (refusal 6))
+    -- the combination of all three outputs of this box is affine: the limit 2 leaves it out
+    ∷ (nonlinearityOf 3 3 case9Rows 2 is says (figures (2 ∷ 1 ∷ 1 ∷ 0 ∷ [])))
+    ∷ (nonlinearityOf 3 3 case9Rows 3 is says (figures (0 ∷ 7 ∷ 7 ∷ 0 ∷ [])))
+    ∷ (degreeOf 3 3 case9Rows 2 is says (figures (2 ∷ 1 ∷ [])))
+    ∷ (degreeOf 3 3 case9Rows 3 is says (figures (1 ∷ 7 ∷ [])))
     -- enlarging a column: the width, the input, the constant, and the written array
     ∷ (columnReply 7 (zeros 7) 7 0 (zeros 8) is says (figures []))
     ∷ (columnReply 8 (zeros 8) 7 0 (zeros 9) is says (refusal 1))
@@ -190,5 +223,5 @@ bounds =
     ∷ []
 
 pub worked : T (right cases && right bounds)
-unfolding parity dot affine bit within ones sumBelow one-if countBelow xorBelow listFrom listBelow each every keep largestBelow distinct agreement walsh spectrum distance autocorrelation changes coefficient degree column component components sign transform signBit inverse isSpectrum best firstLeast firstLargest first tableCallChecks inverseLengths functionCheck inverseChecks pairsOf pairs nonlinearity difference cell cellsOf cells largestCell shifts atMost measured boxAutocorrelation imbalance dynamicDistance distanceChecks degrees boxDegree enlarged enlargedTable enlargedRows bentForm bentTable isPermutation columnChecks enlargeChecks bentChecks
+unfolding parity dot affine bit within ones sumBelow one-if countBelow xorBelow listFrom listBelow each every keep largestBelow distinct agreement walsh spectrum distance autocorrelation changes coefficient degree column component components sign transform signBit inverse isSpectrum best firstLeast firstLargest first limitChecks tableCallChecks inverseLengths functionCheck inverseChecks pairsOf pairs nonlinearity difference cell cellsOf cells largestCell rowChecks shifts atMost measured boxAutocorrelation imbalance dynamicDistance complete distanceChecks degrees boxDegree enlarged enlargedTable enlargedRows bentForm bentTable isPermutation columnChecks enlargeChecks bentChecks
 worked = tt

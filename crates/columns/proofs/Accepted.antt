@@ -16,7 +16,7 @@ pub record Accepts (n m : ℕ) (rows : List ℕ) (j w b room : ℕ) : Type 0 whe
   pub sound : Box n m rows
   pub j-low : 1 ≤ j
   pub j-high : j ≤ m
-  pub j-fits : j ≤ 16
+  pub j-fits : j ≤ 32
   pub w-below : w < 2 ^ n
   pub b-bit : b < 2
   pub room-is : room ≡ 2 ^ n

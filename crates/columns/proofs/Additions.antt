@@ -119,13 +119,12 @@ module _ (n m : ℕ) (rows : List ℕ) (box : Box n m rows) (a : Addition) (fits
       }
 
   -- ---- of the same nonlinearity: a component's distances move among its pairs
-  module _ (c v e : ℕ) (p : IsPair n m c v e) where
-    moved : IsPair n m c (bitXor v (a .mask * bit (a .column) c)) (bitXor e (a .constant * bit (a .column) c))
+  module _ (i c v e : ℕ) (p : IsPair n m i c v e) where
+    moved : IsPair n m i c (bitXor v (a .mask * bit (a .column) c)) (bitXor e (a .constant * bit (a .column) c))
     moved =
         let t = bit-lt (a .column) c in
         record {
-          c-low = p .c-low;
-          c-high = p .c-high;
+          mask = p .mask;
           w-high = xor-lt n v _ (p .w-high) (times-lt (2 ^ n) (a .mask) _ (fits .mask-high) t);
           b-high = xor-lt 1 e _ (p .b-high) (times-lt 2 (a .constant) _ (fits .constant-high) t);
         }
@@ -139,21 +138,21 @@ module _ (n m : ℕ) (rows : List ℕ) (box : Box n m rows) (a : Addition) (fits
         ∙ distance-shift n (component rows c) (a .mask * bit (a .column) c) (a .constant * bit (a .column) c) v e (λ x l. component-lt rows c x)
         (times-lt 2 (a .constant) _ (fits .constant-high) t) (p .b-high)
 
-  pub addition-keeps-nonlinearity : nonlinearity n m (rowsWith a rows) .figure ≡ nonlinearity n m rows .figure
-  addition-keeps-nonlinearity = le-antisymm below above
+  pub addition-keeps-nonlinearity : (i : ℕ) → 1 ≤ i → nonlinearity n m (rowsWith a rows) i .figure ≡ nonlinearity n m rows i .figure
+  addition-keeps-nonlinearity i i-low = le-antisymm below above
     where
-      above : nonlinearity n m rows .figure ≤ nonlinearity n m (rowsWith a rows) .figure
+      above : nonlinearity n m rows i .figure ≤ nonlinearity n m (rowsWith a rows) i .figure
       above =
-          let t = reached n m (rowsWith a rows) (box .m-low) in
-          le-trans (least n m rows (t .0) _ _ (moved (t .0) (t .1) (t .2) (t .3)))
-          (le-of-eq (sym (ap (λ (p : Candidate). p .figure) (t .4) ∙ distance-added (t .0) (t .1) (t .2) (t .3))))
+          let t = reached n m (rowsWith a rows) i (box .m-low) i-low in
+          le-trans (least n m rows i (t .0) _ _ (moved i (t .0) (t .1) (t .2) (t .3)))
+          (le-of-eq (sym (ap (λ (p : Candidate). p .figure) (t .4) ∙ distance-added i (t .0) (t .1) (t .2) (t .3))))
 
-      below : nonlinearity n m (rowsWith a rows) .figure ≤ nonlinearity n m rows .figure
+      below : nonlinearity n m (rowsWith a rows) i .figure ≤ nonlinearity n m rows i .figure
       below =
-          let t = reached n m rows (box .m-low) in
-          let p = moved (t .0) (t .1) (t .2) (t .3) in
-          le-trans (least n m (rowsWith a rows) (t .0) _ _ p)
-          (le-of-eq (distance-added (t .0) _ _ p ∙ ap₂ (distance n (component rows (t .0))) (xor-cancel (t .1) _) (xor-cancel (t .2) _)
+          let t = reached n m rows i (box .m-low) i-low in
+          let p = moved i (t .0) (t .1) (t .2) (t .3) in
+          le-trans (least n m (rowsWith a rows) i (t .0) _ _ p)
+          (le-of-eq (distance-added i (t .0) _ _ p ∙ ap₂ (distance n (component rows (t .0))) (xor-cancel (t .1) _) (xor-cancel (t .2) _)
           ∙ sym (ap (λ (p : Candidate). p .figure) (t .4))))
 
 -- ---- any addition, refused ones included: the standing rows are the new rows of an addition that fits, or the old ones
@@ -169,6 +168,6 @@ module _ (n m : ℕ) (rows : List ℕ) (box : Box n m rows) (a : Addition) where
   pub standing-keeps-box : Box n m (standing n m rows a)
   standing-keeps-box = standing-cases n m rows a (Box n m) (addition-keeps-box n m rows box a) box
 
-  pub standing-keeps-nonlinearity : nonlinearity n m (standing n m rows a) .figure ≡ nonlinearity n m rows .figure
-  standing-keeps-nonlinearity =
-      standing-cases n m rows a (λ l. nonlinearity n m l .figure ≡ nonlinearity n m rows .figure) (addition-keeps-nonlinearity n m rows box a) refl
+  pub standing-keeps-nonlinearity : (i : ℕ) → 1 ≤ i → nonlinearity n m (standing n m rows a) i .figure ≡ nonlinearity n m rows i .figure
+  standing-keeps-nonlinearity i i-low =
+      standing-cases n m rows a (λ l. nonlinearity n m l i .figure ≡ nonlinearity n m rows i .figure) (λ fits. addition-keeps-nonlinearity n m rows box a fits i i-low) refl

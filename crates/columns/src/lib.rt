@@ -10,17 +10,17 @@ ghost use Rattle.refusals.specs.Table.{first, replyAfter, contentAfter, written
 ghost use Rattle.columns.specs.Addition.{addedRow, addedRows, additionChecks};
 
 // The row at input x, with bit j XORed with w·x XOR b.
-fn added_row(j: u32, w: u32, b: u32, x: usize, row: u16) -> u16
-    requires { ⌜ (1 ≤ j) × (j ≤ 16) × (b < 2) × (x < 256) ⌝ }
+fn added_row(j: u32, w: u32, b: u32, x: usize, row: u32) -> u32
+    requires { ⌜ (1 ≤ j) × (j ≤ 32) × (b < 2) × (x < 256) ⌝ }
     ensures { λ r. ⌜ r ≡ addedRow j w b x row ⌝ }
 {
     let flip = boolean::dot(w, x as u32) ^ b;
-    row ^ ((flip as u16) << (j - 1))
+    row ^ (flip << (j - 1))
 }
 
 // The new rows.
-fn add_rows(rows: &[u16], j: u32, w: u32, b: u32, out: &mut [u16])
-    requires { ⌜ (1 ≤ j) × (j ≤ 16) × (b < 2) × (length (now rows) ≤ 256) × (length (now out) ≡ length (now rows)) ⌝ }
+fn add_rows(rows: &[u32], j: u32, w: u32, b: u32, out: &mut [u32])
+    requires { ⌜ (1 ≤ j) × (j ≤ 32) × (b < 2) × (length (now rows) ≤ 256) × (length (now out) ≡ length (now rows)) ⌝ }
     ensures { λ _. ⌜ now (out .exit) ≡ addedRows j w b (now (rows .entry)) ⌝ }
 {
     let mut x = 0;
@@ -31,7 +31,7 @@ fn add_rows(rows: &[u16], j: u32, w: u32, b: u32, out: &mut [u16])
 }
 
 // The checks of a column addition.
-fn check_addition(n: u32, m: u32, rows: &[u16], j: u32, w: u32, b: u32, room: usize) -> Checked
+fn check_addition(n: u32, m: u32, rows: &[u32], j: u32, w: u32, b: u32, room: usize) -> Checked
     ensures { λ r. ⌜ r ≡ first (additionChecks n m (now (rows .entry)) j w b room) ⌝ }
 {
     if let Checked::Refused(e) = refusals::check_box(n, m, rows) {
@@ -57,11 +57,11 @@ fn check_addition(n: u32, m: u32, rows: &[u16], j: u32, w: u32, b: u32, room: us
 pub fn add_to_column(
     n: u32,
     m: u32,
-    rows: &[u16],
+    rows: &[u32],
     j: u32,
     w: u32,
     b: u32,
-    out: &mut [u16],
+    out: &mut [u32],
 ) -> Written
     ensures reply { λ r. ⌜ written r ≡ replyAfter (first (additionChecks n m (now (rows .entry)) j w b (length (now (out .entry))))) [] ⌝ }
     ensures content { λ r. ⌜ now (out .exit) ≡ contentAfter (first (additionChecks n m (now (rows .entry)) j w b (length (now (out .entry))))) (addedRows j w b (now (rows .entry))) (now (out .entry)) ⌝ }

@@ -133,7 +133,7 @@ unfolding column bit
 table-column table x h = ap (λ (z : ℕ). z % 2) (div-one (at table x)) ∙ mod-eq-of-lt h
 
 -- 2^n rows of m bits are a box
-pub box-of : (n m : ℕ) (rows : List ℕ) → 1 ≤ n → n ≤ 8 → 1 ≤ m → m ≤ 16 → length rows ≡ 2 ^ n → ((x : ℕ) → x < 2 ^ n → at rows x < 2 ^ m) → Box n m rows
+pub box-of : (n m : ℕ) (rows : List ℕ) → 1 ≤ n → n ≤ 8 → 1 ≤ m → m ≤ 32 → length rows ≡ 2 ^ n → ((x : ℕ) → x < 2 ^ n → at rows x < 2 ^ m) → Box n m rows
 box-of n m rows nl nh ml mh size below = record {
   n-low = nl;
   n-high = nh;

@@ -200,21 +200,21 @@ module _ (h : ℕ) (table : List ℕ) (lo : 1 ≤ h) (bits : Boolean (h + h) (at
   }
 
   -- its nonlinearity is 2^(n − 1) − 2^(n / 2 − 1)
-  pub bent-nonlinearity : nonlinearity (h + h) 1 table .figure ≡ 2 ^ (h + h - 1) - 2 ^ (h - 1)
+  pub bent-nonlinearity : nonlinearity (h + h) 1 table 1 .figure ≡ 2 ^ (h + h - 1) - 2 ^ (h - 1)
   bent-nonlinearity =
-      let met = tight (h + h) 1 table (le-refl 1) .1
-      (λ c l m. let one : 1 ≡ c = omega arith in subst (λ (c : ℕ). Bent (h + h) (component table c)) one component-bent) in
-      let t = pow-square (h + h) (2 ^ (h + h) - 2 * nonlinearity (h + h) 1 table .figure) met in
+      let met = tight (h + h) 1 table 1 (le-refl 1) (le-refl 1) .1
+      (λ c w. let one : 1 ≡ c = omega (arith, w .low, w .high) in subst (λ (c : ℕ). Bent (h + h) (component table c)) one component-bent) in
+      let t = pow-square (h + h) (2 ^ (h + h) - 2 * nonlinearity (h + h) 1 table 1 .figure) met in
       let same : t .0 ≡ h = omega (arith, t .1) in
-      let left : 2 ^ (h + h) - 2 * nonlinearity (h + h) 1 table .figure ≡ 2 ^ h = t .2 ∙ ap (λ (i : ℕ). 2 ^ i) same in
+      let left : 2 ^ (h + h) - 2 * nonlinearity (h + h) 1 table 1 .figure ≡ 2 ^ h = t .2 ∙ ap (λ (i : ℕ). 2 ^ i) same in
       let whole : h + h ≡ suc (h + h - 1) = omega arith in
       let part : h ≡ suc (h - 1) = omega arith in
       let twice-whole : 2 ^ (h + h) ≡ 2 ^ (h + h - 1) + 2 ^ (h + h - 1) = ap (λ (i : ℕ). 2 ^ i) whole ∙ two-pow-succ (h + h - 1) in
       let twice-part : 2 ^ h ≡ 2 ^ (h - 1) + 2 ^ (h - 1) = ap (λ (i : ℕ). 2 ^ i) part ∙ two-pow-succ (h - 1) in
-      omega (arith, covering (h + h) 1 table (le-refl 1) .0)
+      omega (arith, covering (h + h) 1 table 1 (le-refl 1) (le-refl 1) .0)
 
 -- so of the form
 pub table-nonlinearity : (h : ℕ) (permutation table : List ℕ) → length permutation ≡ 2 ^ h → isPermutation (2 ^ h) permutation ≡ true → Boolean h (at table) → 1 ≤ h
-    → nonlinearity (h + h) 1 (bentTable (h + h) permutation table) .figure ≡ 2 ^ (h + h - 1) - 2 ^ (h - 1)
+    → nonlinearity (h + h) 1 (bentTable (h + h) permutation table) 1 .figure ≡ 2 ^ (h + h - 1) - 2 ^ (h - 1)
 table-nonlinearity h permutation table size p bits lo =
     bent-nonlinearity h (bentTable (h + h) permutation table) lo (table-boolean h permutation table size p bits) (table-bent h permutation table size p bits)

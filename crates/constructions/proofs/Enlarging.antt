@@ -57,12 +57,12 @@ module _ (n k x : ℕ) where
         halves true = h x
         halves false = xor-lt bits (f (bitXor (x - 2 ^ n) (2 ^ (k - 1)))) a (h (bitXor (x - 2 ^ n) (2 ^ (k - 1)))) ha
 
--- a row of the new box: the shift and the sum stay within 16 bits
+-- a row of the new box: the shift and the sum stay within 32 bits
 module _ (n row top : ℕ) (high : n ≤ 7) (bit : top < 2) where
-  pub shifted : top * 2 ^ n % 2 ^ 16 ≡ top * 2 ^ n
-  shifted = shl-exact 1 n 16 bit (omega arith)
+  pub shifted : top * 2 ^ n % 2 ^ 32 ≡ top * 2 ^ n
+  shifted = shl-exact 1 n 32 bit (omega arith)
 
-  pub row-fits : row < 2 ^ n → row + top * 2 ^ n % 2 ^ 16 < 2 ^ 16
+  pub row-fits : row < 2 ^ n → row + top * 2 ^ n % 2 ^ 32 < 2 ^ 32
   row-fits l =
       let small : 2 ^ n ≤ 2 ^ 7 = pow-mono high in
       let above : top * 2 ^ n < 2 ^ (1 + n) = shl-lt 1 n bit in

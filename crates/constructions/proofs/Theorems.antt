@@ -32,7 +32,7 @@ module _ (n : ℕ) (table : List ℕ) (k a room : ℕ) (accepted : first (column
   enlarges : EnlargesColumn n table k a
   enlarges = column-accepts n table k a room accepted .0
 
-  -- the enlarged column, as a box of one output, is accepted by the calls that measure it
+  -- the enlarged column, as a box of one output, passes the checks of a box, which the calls that measure it run first
   pub enlarged-table-accepted : first (boxChecks (suc n) 1 (enlargedTable n table k a)) ≡ Accepted
   enlarged-table-accepted =
       box-accepted (suc n) 1 (enlargedTable n table k a)
@@ -48,7 +48,7 @@ module _ (n : ℕ) (rows table : List ℕ) (k room : ℕ) (accepted : first (enl
   enlarges-box : EnlargesBox n rows table k
   enlarges-box = box-accepts n rows table k room accepted .0
 
-  -- the enlarged box is accepted by the calls that measure it
+  -- the enlarged box passes the checks of a box, which the calls that measure it run first
   pub enlarged-box-accepted : first (boxChecks (suc n) (suc n) (enlargedRows n rows table k)) ≡ Accepted
   enlarged-box-accepted =
       let t = box-and-table n rows table k room accepted in
@@ -91,7 +91,7 @@ module _ (n : ℕ) (permutation table : List ℕ) (room : ℕ) (accepted : first
       subst (λ (i : ℕ). Boolean i (at (bentTable i permutation table)))
       (makes .1) (table-boolean (n / 2) permutation table (makes .0 .permutation-size) (parts .permutes) bits)
 
-  -- the bent function, as a box of one output, is accepted by the calls that measure it
+  -- the bent function, as a box of one output, passes the checks of a box, which the calls that measure it run first
   pub bent-table-accepted : first (boxChecks n 1 (bentTable n permutation table)) ≡ Accepted
   unfolding bentTable
   bent-table-accepted =
@@ -113,10 +113,10 @@ module _ (n : ℕ) (permutation table : List ℕ) (room : ℕ) (accepted : first
       subst (λ (i : ℕ). Bent i (at (bentTable i permutation table)))
       (makes .1) (table-bent (n / 2) permutation table (makes .0 .permutation-size) (parts .permutes) bits)
 
-  -- so its nonlinearity is 2^(n − 1) − 2^(h − 1)
-  pub bent-table-nonlinearity : nonlinearity n 1 (bentTable n permutation table) .figure ≡ 2 ^ (n - 1) - 2 ^ (n / 2 - 1)
+  -- so its nonlinearity, whose one combination is within the limit 1, is 2^(n − 1) − 2^(h − 1)
+  pub bent-table-nonlinearity : nonlinearity n 1 (bentTable n permutation table) 1 .figure ≡ 2 ^ (n - 1) - 2 ^ (n / 2 - 1)
   bent-table-nonlinearity =
-      subst (λ (i : ℕ). nonlinearity i 1 (bentTable i permutation table) .figure ≡ 2 ^ (i - 1) - 2 ^ (n / 2 - 1))
+      subst (λ (i : ℕ). nonlinearity i 1 (bentTable i permutation table) 1 .figure ≡ 2 ^ (i - 1) - 2 ^ (n / 2 - 1))
       (makes .1) (table-nonlinearity (n / 2) permutation table (makes .0 .permutation-size) (parts .permutes) bits (omega (arith, parts .n-low)))
 
 -- ---- "with n odd no function is bent."

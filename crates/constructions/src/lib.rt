@@ -104,7 +104,7 @@ pub fn enlarge_column(n: u32, table: &[u8], k: u32, a: u32, out: &mut [u8]) -> W
 }
 
 // The part of an enlarged box's row that its old rows make: the constant is 0, so both halves are looked up alike.
-fn row_at(n: u32, rows: &[u16], k: u32, x: usize) -> u16
+fn row_at(n: u32, rows: &[u32], k: u32, x: usize) -> u32
     requires { ⌜ Enlarges n k × (length (now rows) ≡ 2 ^ n) × (x < 2 ^ suc n) ⌝ }
     ensures { λ r. ⌜ r ≡ enlarged n (at (now (rows .entry))) k 0 x ⌝ }
 {
@@ -112,17 +112,17 @@ fn row_at(n: u32, rows: &[u16], k: u32, x: usize) -> u16
 }
 
 // A row of the enlarged box: the old rows' part, and above it the new top bit, which the table makes with the constant 1.
-fn box_row(n: u32, rows: &[u16], table: &[u8], k: u32, x: usize) -> u16
+fn box_row(n: u32, rows: &[u32], table: &[u8], k: u32, x: usize) -> u32
     requires { ⌜ EnlargesBox n (now rows) (now table) k × (x < 2 ^ suc n) ⌝ }
     ensures { λ r. ⌜ r ≡ enlarged n (at (now (rows .entry))) k 0 x + enlarged n (at (now (table .entry))) k 1 x * 2 ^ n ⌝ }
 {
     let row = row_at(n, rows, k, x);
     let top = column_at(n, table, k, 1, x);
-    row + ((top as u16) << n)
+    row + ((top as u32) << n)
 }
 
 // The rows of the enlarged box, written to an array that is as long.
-fn write_box(n: u32, rows: &[u16], table: &[u8], k: u32, out: &mut [u16])
+fn write_box(n: u32, rows: &[u32], table: &[u8], k: u32, out: &mut [u32])
     requires { ⌜ EnlargesBox n (now rows) (now table) k × (length (now out) ≡ 2 ^ suc n) ⌝ }
     ensures { λ _. ⌜ now (out .exit) ≡ enlargedRows n (now (rows .entry)) (now (table .entry)) k ⌝ }
 {
@@ -134,7 +134,7 @@ fn write_box(n: u32, rows: &[u16], table: &[u8], k: u32, out: &mut [u16])
 }
 
 // The checks of enlarging a box.
-fn check_enlarge(n: u32, rows: &[u16], table: &[u8], k: u32, room: usize) -> Checked
+fn check_enlarge(n: u32, rows: &[u32], table: &[u8], k: u32, room: usize) -> Checked
     ensures { λ r. ⌜ r ≡ first (enlargeChecks n (now (rows .entry)) (now (table .entry)) k room) ⌝ }
 {
     if !can_grow(n) {
@@ -162,7 +162,7 @@ fn check_enlarge(n: u32, rows: &[u16], table: &[u8], k: u32, room: usize) -> Che
 }
 
 // A box of n + 1 inputs and outputs from a box of n and a truth table, which makes the new top bit.
-pub fn enlarge_box(n: u32, rows: &[u16], table: &[u8], k: u32, out: &mut [u16]) -> Written
+pub fn enlarge_box(n: u32, rows: &[u32], table: &[u8], k: u32, out: &mut [u32]) -> Written
     ensures reply { λ r. ⌜ written r ≡ replyAfter (first (enlargeChecks n (now (rows .entry)) (now (table .entry)) k (length (now (out .entry))))) [] ⌝ }
     ensures content { λ r. ⌜ now (out .exit) ≡ contentAfter (first (enlargeChecks n (now (rows .entry)) (now (table .entry)) k (length (now (out .entry))))) (enlargedRows n (now (rows .entry)) (now (table .entry)) k) (now (out .entry)) ⌝ }
 {

@@ -1,9 +1,11 @@
 pub mod Cells
+pub mod Occurrences
 pub mod Pairs
 pub mod RowBest
+pub mod Rises
+pub mod Slots
 pub mod Sweeps
 pub mod Tallies
-pub mod LargestCounts
 pub mod ListLoops
 pub mod ListMembers
 pub mod Theorems

@@ -7,42 +7,37 @@ use native.Mathlib.Omega.{arith}
 use borrow.Author.Tests.{eq-eqb, ne-eqb}
 use lib.Dec.{eqb}
 use lib.ListN.{length, take, length-append}
-use lib.Seq.{sets, length-take-le, getD-take}
+use lib.Seq.{sets}
 use Rattle.boolean.specs.Sums.{countBelow, one-if, listFrom, listBelow, each}
 use Rattle.boolean.specs.Functions.{at}
-use Rattle.boolean.proofs.Counts.{count-cong, count-le}
+use Rattle.boolean.proofs.Counts.{count-le}
 use Rattle.boolean.proofs.Lists.{each-from-one, each-from-zero, each-grows, each-counts}
 use Rattle.boolean.proofs.Stored.{Stored, stored-none, stored-room, stored-more}
-use Rattle.differential.specs.Calls.{Swept, differencesOf, occurrences, isListed, listedAt, listedRow, listed}
+use Rattle.differential.specs.Work.{Swept, differencesOf, occurrences, isListed, listedAt, listedRow, listed}
+use Rattle.differential.proofs.Occurrences.{occurs-part}
 use Rattle.differential.proofs.Sweeps.{Visited, visited-none, visited-next}
 use Rattle.differential.proofs.Tallies.{differences-ready}
 
 -- ---- one input
--- the values before x, as a part of the array
-before-x : (values : List ℕ) (x β : ℕ) → x ≤ length values → occurrences (take x values) β ≡ countBelow x (λ y. eqb (at values y) β)
-unfolding occurrences
-before-x values x β h =
-    ap (λ (k : ℕ). countBelow k (λ y. eqb (at (take x values) y) β)) (length-take-le x values h)
-    ∙ count-cong x _ _ (λ y l. ap (λ (v : ℕ). eqb v β) (getD-take x values y 0 l))
-
 module _ (largest : ℕ) (values : List ℕ) (x : ℕ) where
-  seen-test : {seen : ℕ} → x < length values → seen ≡ occurrences (take x values) (at values x) → countBelow x (λ y. eqb (at values y) (at values x)) ≡ seen
-  seen-test h e = sym (e ∙ before-x values x (at values x) (omega arith))
+  -- the values before x, as a part of the array
+  seen-test : {seen : ℕ} → x < length values → seen ≡ occurrences (take x values) (length (take x values)) (at values x) → occurrences values x (at values x) ≡ seen
+  seen-test h e = sym (e ∙ occurs-part values x (at values x) (omega arith))
 
   -- the two tests
-  pub listed-seen : {seen : ℕ} → x < length values → seen ≡ occurrences (take x values) (at values x) → (seen ≡ 0 → ⊥) → false ≡ isListed largest values x
+  pub listed-seen : {seen : ℕ} → x < length values → seen ≡ occurrences (take x values) (length (take x values)) (at values x) → (seen ≡ 0 → ⊥) → false ≡ isListed largest values x
   unfolding isListed
-  listed-seen {seen} h e n = sym (ap (λ (b : Bool). b && eqb (occurrences values (at values x)) largest) (ap (λ (k : ℕ). eqb k 0) (seen-test h e) ∙ ne-eqb seen 0 n))
+  listed-seen {seen} h e n = sym (ap (λ (b : Bool). b && eqb (occurrences values (length values) (at values x)) largest) (ap (λ (k : ℕ). eqb k 0) (seen-test h e) ∙ ne-eqb seen 0 n))
 
-  pub listed-new : {seen count : ℕ} → x < length values → seen ≡ occurrences (take x values) (at values x) → seen ≡ 0 → count ≡ occurrences values (at values x)
+  pub listed-new : {seen count : ℕ} → x < length values → seen ≡ occurrences (take x values) (length (take x values)) (at values x) → seen ≡ 0 → count ≡ occurrences values (length values) (at values x)
       → eqb count largest ≡ isListed largest values x
   unfolding isListed
   listed-new {seen} h e z q =
       ap (λ (k : ℕ). eqb k largest) q
-      ∙ sym (ap (λ (b : Bool). b && eqb (occurrences values (at values x)) largest) (ap (λ (k : ℕ). eqb k 0) (seen-test h e) ∙ eq-eqb seen 0 z))
+      ∙ sym (ap (λ (b : Bool). b && eqb (occurrences values (length values) (at values x)) largest) (ap (λ (k : ℕ). eqb k 0) (seen-test h e) ∙ eq-eqb seen 0 z))
 
   module _ (a : ℕ) where
-    pub at-listed : isListed largest values x ≡ true → listedAt largest a values x ≡ (a * 65536 + at values x) ∷ []
+    pub at-listed : isListed largest values x ≡ true → listedAt largest a values x ≡ (a * 4294967296 + at values x) ∷ []
     unfolding listedAt
     at-listed e = rw (listedAt, e)
 
@@ -54,7 +49,7 @@ module _ (largest : ℕ) (values : List ℕ) (x : ℕ) where
     unfolding listedAt one-if
     at-counted = go (isListed largest values x)
       where
-        go : (b : Bool) → length {A = ℕ} (elim b [ true ↦ (a * 65536 + at values x) ∷ [] | false ↦ [] ]) ≡ one-if b
+        go : (b : Bool) → length {A = ℕ} (elim b [ true ↦ (a * 4294967296 + at values x) ∷ [] | false ↦ [] ]) ≡ one-if b
         go true = refl
         go false = refl
 

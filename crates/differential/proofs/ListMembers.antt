@@ -1,6 +1,6 @@
 -- The listed cells are the cells that reach the largest count, each once, and so they are as many. Assumes nothing.
 use mathlib.Core.Path.{_≡_, refl, sym, ap, _∙_, subst}
-use mathlib.Core.Bool.{Bool, true, true≢false}
+use mathlib.Core.Bool.{Bool, true}
 use mathlib.Core.List.{List, _++_, map, List·Memᴰ, Memᴰ·cast, Memᴰ·map, Memᴰ·of-map}
 use Prim.Native.Nat.{ℕ, _+_, _-_, _*_, _^_, _<_, _≤_}
 use native.Mathlib.Decide.{decLt}
@@ -11,10 +11,9 @@ use lib.Dec.{eqb}
 use lib.ListN.{length, take, drop}
 use lib.Pow.{pow-pos, pow-mono}
 use lib.Seq.{sets, length-sets, sets-eq, take-at, drop-at, getD-take}
-use Rattle.boolean.specs.Sums.{countBelow, listFrom, listBelow, keep}
+use Rattle.boolean.specs.Sums.{listFrom, listBelow, keep}
 use Rattle.boolean.specs.Functions.{at}
 use Rattle.boolean.specs.Selection.{Candidate}
-use Rattle.boolean.proofs.Counted.{count-first, count-zero}
 use Rattle.boolean.proofs.Kept.{mem-keep, in-keep, ascending-keep}
 use Rattle.boolean.proofs.Members.{Distinct, mem-if, in-if, ascending-map, distinct-if, distinct-ascending, distinct-each, distinct-same, distinct-at}
 use Rattle.boolean.proofs.Every.{both, both-true}
@@ -27,9 +26,11 @@ use Rattle.refusals.specs.declared.Checked.{Checked}
 use Rattle.refusals.specs.declared.Checked.the-variants.{Accepted, Refused}
 use Rattle.refusals.proofs.Checks.{found-after, skip, stop, end, box-accepted}
 use Rattle.differential.specs.XorTable.{cells, largestCell, largestCells, coded, Holds}
-use Rattle.differential.specs.Calls.{listChecks, ListAfter, differencesOf, occurrences, isListed, listedAt, listedRow, listed}
+use Rattle.differential.specs.Calls.{listChecks, ListAfter}
+use Rattle.differential.specs.Work.{differencesOf, occurrences, isListed, listedAt, listedRow, listed}
 use Rattle.differential.specs.Statements.{IsCell, cellOf}
 use Rattle.differential.proofs.Cells.{in-cells, mem-cells, ascending-cells}
+use Rattle.differential.proofs.Occurrences.{occurs, occurs-at}
 use Rattle.differential.proofs.RowBest.{value-small, occurrences-cell}
 use Rattle.differential.proofs.Sweeps.{some-cell}
 
@@ -38,21 +39,21 @@ module _ (largest a : ℕ) (values : List ℕ) where
   -- what stands in the list at x
   pub record ListedAt (v x : ℕ) : Type 0 where
     pub inside : x < length values
-    pub code : v ≡ a * 65536 + at values x
-    pub count : occurrences values (at values x) ≡ largest
+    pub code : v ≡ a * 4294967296 + at values x
+    pub count : occurrences values (length values) (at values x) ≡ largest
     pub new : (y : ℕ) → y < x → at values y ≡ at values x → ⊥
 
   mem-at : (v x : ℕ) → x < length values → List·Memᴰ v (listedAt largest a values x) → ListedAt v x
   unfolding listedAt isListed
   mem-at v x l k =
-      let u = mem-if (isListed largest values x) (a * 65536 + at values x) v k in
-      let b = both (eqb (countBelow x (λ y. eqb (at values y) (at values x))) 0) (eqb (occurrences values (at values x)) largest) (u .0) in
-      let none : countBelow x (λ y. eqb (at values y) (at values x)) ≡ 0 = eqb-true _ 0 (b .0) in
+      let u = mem-if (isListed largest values x) (a * 4294967296 + at values x) v k in
+      let b = both (eqb (occurrences values x (at values x)) 0) (eqb (occurrences values (length values) (at values x)) largest) (u .0) in
+      let none : occurrences values x (at values x) ≡ 0 = eqb-true _ 0 (b .0) in
       record {
         inside = l;
         code = u .1;
         count = eqb-true _ largest (b .1);
-        new = λ y j e. true≢false (sym (eq-eqb (at values y) (at values x) e) ∙ count-zero x (λ y. eqb (at values y) (at values x)) none y j);
+        new = λ y j e. omega (arith, occurs values x y j, ap (occurrences values x) e);
       }
 
   place-inside : (x : ℕ) → List·Memᴰ x (listBelow (length values) (λ x. x)) → x < length values
@@ -65,17 +66,17 @@ module _ (largest a : ℕ) (values : List ℕ) where
       (t .0, mem-at v (t .0) (place-inside (t .0) (t .1)) (t .2))
 
   -- a β with the count is listed where it stands first
-  pub in-row : (β : ℕ) → 0 < largest → occurrences values β ≡ largest → List·Memᴰ (a * 65536 + β) (listedRow largest a values)
-  unfolding listedRow listedAt isListed occurrences
+  pub in-row : (β : ℕ) → 0 < largest → occurrences values (length values) β ≡ largest → List·Memᴰ (a * 4294967296 + β) (listedRow largest a values)
+  unfolding listedRow listedAt isListed
   in-row β h e =
-      let t = count-first (length values) (λ y. eqb (at values y) β) (omega arith) in
+      let t = occurs-at values (length values) β (omega arith) in
       let x = t .0 in
-      let q : at values x ≡ β = eqb-true (at values x) β (t .2) in
+      let q : at values x ≡ β = t .2 in
       let test : isListed largest values x ≡ true = both-true _ _
-      (eq-eqb _ 0 (ap (λ (γ : ℕ). countBelow x (λ y. eqb (at values y) γ)) q ∙ t .3))
-      (eq-eqb _ largest (ap (occurrences values) q ∙ e)) in
+      (eq-eqb _ 0 (ap (occurrences values x) q ∙ t .3))
+      (eq-eqb _ largest (ap (occurrences values (length values)) q ∙ e)) in
       in-each (listBelow (length values) (λ x. x)) (λ x. listedAt largest a values x) x _ (in-listBelow (length values) (λ x. x) x (t .1))
-      (Memᴰ·cast (ap (λ (γ : ℕ). a * 65536 + γ) (sym q)) (in-if (isListed largest values x) (a * 65536 + at values x) test))
+      (Memᴰ·cast (ap (λ (γ : ℕ). a * 4294967296 + γ) (sym q)) (in-if (isListed largest values x) (a * 4294967296 + at values x) test))
 
   -- an entry is listed at one place
   same-place : (v x y : ℕ) → ListedAt v x → ListedAt v y → x ≡ y
@@ -94,7 +95,7 @@ module _ (largest a : ℕ) (values : List ℕ) where
   distinct-row =
       distinct-each (listBelow (length values) (λ x. x)) (λ x. listedAt largest a values x)
       (distinct-ascending (λ x. x) (listBelow (length values) (λ x. x)) (ascending-listBelow (λ x. x) (length values) (λ x. x) (λ i j l k. l)))
-      (λ x k. distinct-if (isListed largest values x) (a * 65536 + at values x))
+      (λ x k. distinct-if (isListed largest values x) (a * 4294967296 + at values x))
       (λ x y v k j p q. same-place v x y (mem-at v x (place-inside x k) p) (mem-at v y (place-inside y j) q))
 
 -- ---- all rows of a box
@@ -136,12 +137,12 @@ module _ {n m : ℕ} {rows : List ℕ} (b : Box n m rows) where
       let u = mem-cells n m rows (t .0) (s .0) in
       let a = u .0 in
       let β = u .1 in
-      let count : occurrences (differencesOf rows a) β ≡ largest = occurrences-cell b a β ∙ sym (ap (λ (c : Candidate). c .figure) (u .3)) ∙ eqb-true _ largest (s .1) in
+      let count : occurrences (differencesOf rows a) (length (differencesOf rows a)) β ≡ largest = occurrences-cell b a β ∙ sym (ap (λ (c : Candidate). c .figure) (u .3)) ∙ eqb-true _ largest (s .1) in
       in-each (listFrom 1 (2 ^ n - 1) (λ a. a)) rowOf a v (in-listFrom 1 (2 ^ n - 1) (λ a. a) a (u .2 .a-low) (omega (arith, u .2 .a-high)))
       (Memᴰ·cast (sym (t .2) ∙ ap coded (u .3)) (in-row largest a (differencesOf rows a) β largest-positive count))
 
   -- neither list repeats an entry
-  small : 2 ^ m ≤ 65536
+  small : 2 ^ m ≤ 4294967296
   small = pow-mono (b .m-high)
 
   distinct-listed : Distinct (listed largest rows (2 ^ n))
@@ -159,7 +160,7 @@ module _ {n m : ℕ} {rows : List ℕ} (b : Box n m rows) where
   unfolding largestCells
   distinct-wanted =
       distinct-ascending (λ v. v) (map coded (keep reaches (cells n m rows)))
-      (ascending-map coded (λ v. v) (keep reaches (cells n m rows)) (ascending-keep reaches coded (cells n m rows) (ascending-cells n m rows 65536 small)))
+      (ascending-map coded (λ v. v) (keep reaches (cells n m rows)) (ascending-keep reaches coded (cells n m rows) (ascending-cells n m rows 4294967296 small)))
 
   -- so they are as many
   pub same-number : length (listed largest rows (2 ^ n)) ≡ length (largestCells n m rows)

@@ -20,7 +20,7 @@ use Rattle.boolean.proofs.Xor.{xor-cancel}
 use Rattle.refusals.specs.Table.{Box}
 use Rattle.boolean.proofs.Shifts.{count-shift}
 use Rattle.differential.specs.XorTable.{difference, cell}
-use Rattle.differential.specs.Calls.{HighestBit, lowerInput, pairsOf, Paired, occurrences}
+use Rattle.differential.specs.Work.{HighestBit, lowerInput, pairsOf, Paired, occurrences}
 
 -- the test is the same at the two inputs of each pair
 abbrev SameInPairs : (k a : ℕ) (p : ℕ → Bool) → Type 0
@@ -112,7 +112,7 @@ module _ {n m : ℕ} {rows : List ℕ} (b : Box n m rows) {a : ℕ} {pairs : Lis
       rw (pair-is y l) (xor-lt m (at rows x) (at rows (bitXor x a)) (b .below x) (b .below (bitXor x a)))
 
   -- a cell's count is twice its count among the pairs
-  pub cell-twice : a < 2 ^ n → (β : ℕ) → cell n rows a β ≡ 2 * occurrences pairs β
+  pub cell-twice : a < 2 ^ n → (β : ℕ) → cell n rows a β ≡ 2 * occurrences pairs (length pairs) β
   unfolding cell occurrences
   cell-twice l β =
       let e : n ≡ suc (n - 1) = omega (arith, b .n-low) in

@@ -1,12 +1,12 @@
 -- One row: what its differences count, and that the largest count among its pairs, with the smallest β, is its first largest cell.
 -- Assumes nothing.
-use mathlib.Core.Path.{_≡_, refl, sym, ap, _∙_}
+use mathlib.Core.Path.{_≡_, sym, ap, _∙_}
 use mathlib.Core.Bool.{true}
 use mathlib.Core.Logic.{inl, inr}
 use mathlib.Core.List.{List, [], _∷_, List·Memᴰ}
 use Prim.Native.Nat.{ℕ, _*_, _^_, _<_, _≤_}
 use native.Mathlib.Omega.{arith}
-use borrow.Author.Tests.{lt-ltb, le-ltb, eq-eqb, eqb-true}
+use borrow.Author.Tests.{lt-ltb, le-ltb}
 use lib.Bits.{bitXor, xor-lt}
 use lib.Dec.{eqb}
 use lib.ListN.{length}
@@ -14,24 +14,15 @@ use Rattle.boolean.specs.Sums.{countBelow}
 use Rattle.boolean.specs.Functions.{at}
 use Rattle.boolean.specs.Selection.{Candidate, best, higher}
 use Rattle.boolean.proofs.Counts.{count-cong}
-use Rattle.boolean.proofs.Counted.{count-some, count-first}
 use Rattle.boolean.proofs.Lists.{length-listBelow, getD-listBelow}
 use Rattle.boolean.proofs.Selection.{best-stays, best-is, ranked-first}
 use Rattle.refusals.specs.Table.{Box}
 use Rattle.differential.specs.XorTable.{difference, cell, cellsOf}
-use Rattle.differential.specs.Calls.{differencesOf, occurrences, Paired, RowLargest, AfterRow}
-use Rattle.differential.proofs.Pairs.{pair-small, cell-twice}
+use Rattle.differential.specs.Work.{differencesOf, occurrences, Paired, RowLargest, AfterRow}
 use Rattle.differential.specs.Statements.{rank, cellOf}
+use Rattle.differential.proofs.Occurrences.{occurs-at}
+use Rattle.differential.proofs.Pairs.{pair-small, cell-twice}
 use Rattle.differential.proofs.Cells.{in-cellsOf, mem-cellsOf, ascending-cellsOf}
-
--- ---- how often a value stands among others
-pub occurs : (values : List ℕ) (x : ℕ) → x < length values → 0 < occurrences values (at values x)
-unfolding occurrences
-occurs values x l = count-some (length values) (λ y. eqb (at values y) (at values x)) x l (eq-eqb (at values x) (at values x) refl)
-
-pub occurs-at : (values : List ℕ) (β : ℕ) → 0 < occurrences values β → (x : ℕ) × (x < length values) × (at values x ≡ β)
-unfolding occurrences
-occurs-at values β h = let t = count-first (length values) (λ y. eqb (at values y) β) h in (t .0, t .1, eqb-true (at values (t .0)) β (t .2))
 
 -- ---- the row of a
 module _ {n m : ℕ} {rows : List ℕ} (b : Box n m rows) (a : ℕ) where
@@ -46,7 +37,7 @@ module _ {n m : ℕ} {rows : List ℕ} (b : Box n m rows) (a : ℕ) where
   unfolding differencesOf
   value-is x l = getD-listBelow (length rows) (difference rows a) x 0 (omega (arith, b .size))
 
-  pub occurrences-cell : (β : ℕ) → occurrences values β ≡ cell n rows a β
+  pub occurrences-cell : (β : ℕ) → occurrences values (length values) β ≡ cell n rows a β
   unfolding occurrences cell
   occurrences-cell β =
       ap (λ (k : ℕ). countBelow k (λ x. eqb (at values x) β)) values-length
@@ -59,7 +50,7 @@ module _ {n m : ℕ} {rows : List ℕ} (b : Box n m rows) (a : ℕ) where
 -- ---- the first largest cell of the row, from the differences of its pairs
 module _ {n m : ℕ} {rows : List ℕ} (b : Box n m rows) {a : ℕ} (l : a < 2 ^ n) {pairs : List ℕ} (p : Paired rows a pairs) where
   -- what bounds twice each count bounds every cell of the row
-  cells-at-most : (k : ℕ) → ((β : ℕ) → 2 * occurrences pairs β ≤ k) → (c : Candidate) → List·Memᴰ c (cellsOf n m rows a) → c .figure ≤ k
+  cells-at-most : (k : ℕ) → ((β : ℕ) → 2 * occurrences pairs (length pairs) β ≤ k) → (c : Candidate) → List·Memᴰ c (cellsOf n m rows a) → c .figure ≤ k
   cells-at-most k h c i =
       let s = mem-cellsOf n m rows a c i in
       omega (arith, h (s .0), cell-twice b p l (s .0), ap (λ (c : Candidate). c .figure) (s .2))
@@ -67,21 +58,21 @@ module _ {n m : ℕ} {rows : List ℕ} (b : Box n m rows) {a : ℕ} (l : a < 2 ^
   module _ {found r : Candidate} (t : RowLargest a pairs found r) where
     largest-is : r ≡ cellOf n rows a (t .β)
     largest-is =
-        t .is ∙ ap (λ (k : ℕ). record { figure = k; witness = a ∷ t .β ∷ [] }) (ap (λ (k : ℕ). 2 * k) (sym (t .smallest .reached)) ∙ sym (cell-twice b p l (t .β)))
+        t .is ∙ ap (λ (k : ℕ). record { figure = k; witness = a ∷ t .β ∷ [] }) (ap (λ (k : ℕ). 2 * k) (sym (t .of-row .reached)) ∙ sym (cell-twice b p l (t .β)))
 
     largest-member : List·Memᴰ r (cellsOf n m rows a)
     largest-member =
-        let s = occurs-at pairs (t .β) (omega (arith, t .above, t .smallest .reached)) in
+        let s = occurs-at pairs (length pairs) (t .β) (omega (arith, t .above, t .of-row .reached)) in
         rw largest-is (in-cellsOf n m rows a (t .β) (omega (arith, pair-small b p (s .0) (s .1), s .2)))
 
     largest-most : (c : Candidate) → List·Memᴰ c (cellsOf n m rows a) → c .figure ≤ r .figure
-    largest-most c i = rw (t .is) (cells-at-most (2 * t .largest) (λ β. omega (arith, t .most .most β)) c i)
+    largest-most c i = rw (t .is) (cells-at-most (2 * t .largest) (λ β. omega (arith, t .of-row .most β)) c i)
 
     largest-first : (c : Candidate) → List·Memᴰ c (cellsOf n m rows a) → rank (2 ^ m) c < rank (2 ^ m) r → c .figure < r .figure
     largest-first c i h =
         let s = mem-cellsOf n m rows a c i in
         let earlier : s .0 < t .β = omega (arith, ap (rank (2 ^ m)) (s .2), ap (rank (2 ^ m)) (t .is)) in
-        omega (arith, t .smallest .first (s .0) earlier, cell-twice b p l (s .0), ap (λ (c : Candidate). c .figure) (s .2), ap (λ (c : Candidate). c .figure) (t .is))
+        omega (arith, t .of-row .smallest (s .0) earlier, cell-twice b p l (s .0), ap (λ (c : Candidate). c .figure) (s .2), ap (λ (c : Candidate). c .figure) (t .is))
 
   -- so the step that the code does is the selection over the whole row
   pub row-best : {found r : Candidate} → AfterRow a pairs found r → r ≡ best higher found (cellsOf n m rows a)

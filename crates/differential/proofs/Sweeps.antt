@@ -15,11 +15,12 @@ use Rattle.boolean.proofs.Lists.{each-from-one}
 use Rattle.boolean.proofs.Selection.{best-append, firstLargest-above}
 use Rattle.refusals.specs.Table.{Box}
 use Rattle.differential.specs.XorTable.{cellsOf, cells, largestCell}
-use Rattle.differential.specs.Calls.{Swept, Inside, differencesOf, Paired, AfterRow}
+use Rattle.differential.specs.Work.{Swept, Inside, differencesOf, Paired, AfterRow}
 use Rattle.differential.specs.Statements.{IsCell, cellOf}
 use Rattle.differential.proofs.Cells.{in-cells}
-use Rattle.differential.proofs.RowBest.{values-length, value-small, occurrences-cell, occurs, row-best}
-use Rattle.differential.proofs.Pairs.{pairs-length, pair-small}
+use Rattle.differential.proofs.Occurrences.{occurs}
+use Rattle.differential.proofs.RowBest.{values-length, value-small, occurrences-cell, row-best}
+use Rattle.differential.proofs.Pairs.{pairs-length}
 
 -- XOR with an input difference leads from inputs to inputs
 pub box-inside : {n m : ℕ} {rows : List ℕ} → Box n m rows → {a : ℕ} → a < 2 ^ n → Inside (length rows) a
@@ -65,7 +66,7 @@ some-cell {n} {m} {rows} b =
     let inside : 0 < length (differencesOf rows 1) = omega (arith, values-length b 1, pow-pos n) in
     let β = at (differencesOf rows 1) 0 in
     let cell : IsCell n m 1 β = record { a-low = le-refl 1; a-high = pow-lt (b .n-low); β-high = value-small b 1 0 inside } in
-    (cellOf n rows 1 β, in-cells n m rows 1 β cell, rw (← occurrences-cell b 1 β) (occurs (differencesOf rows 1) 0 inside))
+    (cellOf n rows 1 β, in-cells n m rows 1 β cell, rw (← occurrences-cell b 1 β) (occurs (differencesOf rows 1) (length (differencesOf rows 1)) 0 inside))
 
 pub record Sweeping (n m : ℕ) (rows : List ℕ) (start found : Candidate) (pairs : List ℕ) (a : ℕ) : Type 0 where
   pub box : Box n m rows
@@ -76,7 +77,7 @@ pub record Sweeping (n m : ℕ) (rows : List ℕ) (start found : Candidate) (pai
   pub so-far : found ≡ best higher start (cellsBelow n m rows a)
 
 module _ {n m : ℕ} {rows : List ℕ} (b : Box n m rows) where
-  -- there are half as many pairs as inputs, and their differences can be counted
+  -- there are half as many pairs as inputs
   two-halves : length rows ≡ 2 * 2 ^ (n - 1)
   two-halves =
       let e : n ≡ suc (n - 1) = omega (arith, b .n-low) in
@@ -88,8 +89,8 @@ module _ {n m : ℕ} {rows : List ℕ} (b : Box n m rows) where
   pub half-room : (array : List ℕ) → length rows / 2 ≤ length array → length rows ≡ 2 * length (take (length rows / 2) array)
   half-room array h = omega (arith, two-halves, length-take-le (length rows / 2) array h)
 
-  pub pairs-ready : {a : ℕ} {pairs : List ℕ} → Paired rows a pairs → (length pairs ≤ 256) × ((x : ℕ) → x < length pairs → at pairs x < 2 ^ m)
-  pairs-ready p = (omega (arith, pairs-room p, b .small), pair-small b p)
+  pub pairs-few : {a : ℕ} {pairs : List ℕ} → Paired rows a pairs → length pairs ≤ 128
+  pairs-few p = omega (arith, pairs-room p, b .small)
 
   pub sweep-starts : {start : Candidate} {pairs : List ℕ} → length rows ≡ 2 * length pairs → Sweeping n m rows start start pairs 1
   unfolding each listFrom best

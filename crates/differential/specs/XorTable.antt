@@ -39,9 +39,9 @@ unfoldable pub largestCell : ℕ → ℕ → List ℕ → Candidate
 unfolding firstLargest cells
 largestCell n m rows = firstLargest (cells n m rows)
 
--- a cell in the list of cells: a × 65,536 + β
+-- a cell in the list of cells: a × 2^32 + β
 abbrev pub coded : Candidate → ℕ
-coded c = getD (c .witness) 0 0 * 65536 + getD (c .witness) 1 0
+coded c = getD (c .witness) 0 0 * 4294967296 + getD (c .witness) 1 0
 
 -- the cells that reach the largest count
 unfoldable pub largestCells : ℕ → ℕ → List ℕ → List ℕ

@@ -8,10 +8,12 @@ ghost use Prim.Native.Nat.{_+_, _-_, _*_, _^_, _≤_, _<_};
 ghost use lib.ListN.{length};
 ghost use lib.Seq.{sets};
 ghost use Rattle.boolean.specs.Sums.{countBelow, listBelow};
+ghost use Rattle.boolean.specs.Functions.{at};
 ghost use Rattle.refusals.specs.Table.{first, replyAfter, contentAfter, written, Box};
 ghost use Rattle.differential.specs.XorTable.{xorRow, largestCells};
 ghost use Rattle.differential.specs.XorTable as spec;
-ghost use Rattle.differential.specs.Calls.{rowChecks, listChecks, largestReply, xorReply, listReply, ListAfter, candidate, Swept, Inside, Countable, differencesOf, occurrences, HighestBit, Paired, LargestCount, SmallestWith, AfterRow, isListed, listedAt, listedRow, listed};
+ghost use Rattle.differential.specs.Calls.{rowChecks, listChecks, largestReply, xorReply, listReply, ListAfter};
+ghost use Rattle.differential.specs.Work.{candidate, Swept, Inside, Countable, differencesOf, occurrences, HighestBit, Paired, standing, Running, Slots, AfterRow, isListed, listedAt, listedRow, listed};
 
 // The best cell so far.
 pub struct FoundCell {
@@ -33,7 +35,7 @@ pub enum CellList {
 }
 
 // The output differences under the input difference a, one for each input.
-fn write_differences(rows: &[u16], a: u32, differences: &mut [u16])
+fn write_differences(rows: &[u32], a: u32, differences: &mut [u32])
     requires { ⌜ Inside (length (now rows)) a × (length (now differences) ≡ length (now rows)) ⌝ }
     ensures { λ _. ⌜ now (differences .exit) ≡ differencesOf (now (rows .entry)) a ⌝ }
 {
@@ -45,10 +47,10 @@ fn write_differences(rows: &[u16], a: u32, differences: &mut [u16])
     }
 }
 
-// How many of the differences are beta.
-fn count_equal(differences: &[u16], beta: u16) -> u32
+// How many of the differences are beta. It looks at all of them, so that several are compared at a time.
+fn count_equal(differences: &[u32], beta: u32) -> u32
     requires { ⌜ length (now differences) ≤ 256 ⌝ }
-    ensures { λ r. ⌜ r ≡ occurrences (now (differences .entry)) beta ⌝ }
+    ensures { λ r. ⌜ r ≡ occurrences (now (differences .entry)) (length (now (differences .entry))) beta ⌝ }
 {
     let mut count: u32 = 0;
     let mut x = 0;
@@ -61,11 +63,11 @@ fn count_equal(differences: &[u16], beta: u16) -> u32
     count
 }
 
-// The checks of one row.
-fn check_row(n: u32, m: u32, rows: &[u16], a: u32, room: usize) -> Checked
+// The checks of one row, which is given for at most 16 outputs.
+fn check_row(n: u32, m: u32, rows: &[u32], a: u32, room: usize) -> Checked
     ensures { λ r. ⌜ r ≡ first (rowChecks n m (now (rows .entry)) a room) ⌝ }
 {
-    if let Checked::Refused(e) = refusals::check_box(n, m, rows) {
+    if let Checked::Refused(e) = refusals::check_box_up_to(16, n, m, rows) {
         return Checked::Refused(e);
     }
     let inputs = boolean::power_of_two(n) as u32;
@@ -89,40 +91,22 @@ fn clear(counts: &mut [u16])
     }
 }
 
-// From counts of 0, one is added to the count of each difference. The largest count is returned.
-fn count_differences(differences: &[u16], counts: &mut [u16]) -> u16
+// From counts of 0, one is added to the count of each difference.
+fn count_differences(differences: &[u32], counts: &mut [u16])
     requires { ⌜ Countable (now differences) (length (now counts)) × (now counts ≡ listBelow (length (now counts)) (λ β. 0)) ⌝ }
-    ensures { λ r. ⌜ (now (counts .exit) ≡ listBelow (length (now (counts .entry))) (λ β. occurrences (now (differences .entry)) β)) × LargestCount (now (differences .entry)) r ⌝ }
+    ensures { λ _. ⌜ now (counts .exit) ≡ listBelow (length (now (counts .entry))) (λ β. occurrences (now (differences .entry)) (length (now (differences .entry))) β) ⌝ }
 {
-    let mut largest: u16 = 0;
     let mut x = 0;
     while x < differences.len() {
         let beta = differences[x] as usize;
         let count = counts[beta] + 1;
         counts[beta] = count;
-        if largest < count {
-            largest = count;
-        }
-        x += 1;
-    }
-    largest
-}
-
-// The way back: the count of each difference is set to 0, and no other is looked at.
-fn forget_differences(differences: &[u16], counts: &mut [u16])
-    requires { ⌜ Countable (now differences) (length (now counts)) × (now counts ≡ listBelow (length (now counts)) (λ β. occurrences (now differences) β)) ⌝ }
-    ensures { λ _. ⌜ now (counts .exit) ≡ listBelow (length (now (counts .entry))) (λ β. 0) ⌝ }
-{
-    let mut x = 0;
-    while x < differences.len() {
-        let counted = differences[x] as usize;
-        counts[counted] = 0;
         x += 1;
     }
 }
 
 // The row of a, with an array for the differences lent.
-fn write_row(n: u32, m: u32, rows: &[u16], a: u32, differences: &mut [u16], counts: &mut [u16])
+fn write_row(n: u32, m: u32, rows: &[u32], a: u32, differences: &mut [u32], counts: &mut [u16])
     requires { ⌜ Swept n m (now rows) (now differences) × (a < 2 ^ n) × (length (now counts) ≡ 2 ^ m) ⌝ }
     ensures { λ _. ⌜ (now (counts .exit) ≡ xorRow n m (now (rows .entry)) a) × (now (differences .exit) ≡ differencesOf (now (rows .entry)) a) ⌝ }
 {
@@ -132,14 +116,14 @@ fn write_row(n: u32, m: u32, rows: &[u16], a: u32, differences: &mut [u16], coun
 }
 
 // One row of the XOR table: the count for each output difference under the input difference a.
-pub fn xor_row(n: u32, m: u32, rows: &[u16], a: u32, counts: &mut [u16]) -> Written
+pub fn xor_row(n: u32, m: u32, rows: &[u32], a: u32, counts: &mut [u16]) -> Written
     ensures reply { λ r. ⌜ written r ≡ replyAfter (first (rowChecks n m (now (rows .entry)) a (length (now (counts .entry))))) [] ⌝ }
     ensures content { λ r. ⌜ now (counts .exit) ≡ contentAfter (first (rowChecks n m (now (rows .entry)) a (length (now (counts .entry))))) (xorRow n m (now (rows .entry)) a) (now (counts .entry)) ⌝ }
 {
     if let Checked::Refused(e) = check_row(n, m, rows, a, counts.len()) {
         return Written::Declined(e);
     }
-    let mut differences = [0u16; 256];
+    let mut differences = [0u32; 256];
     let size = rows.len();
     write_row(n, m, rows, a, &mut differences[..size], counts);
     Written::Done
@@ -158,7 +142,7 @@ fn highest_bit(a: u32) -> u32
 }
 
 // The output differences under a, one for each pair of inputs x and x XOR a: the two inputs of a pair have the same.
-fn write_pairs(rows: &[u16], a: u32, pairs: &mut [u16])
+fn write_pairs(rows: &[u32], a: u32, pairs: &mut [u32])
     requires { ⌜ Inside (length (now rows)) a × (0 < a) × (length (now rows) ≡ 2 * length (now pairs)) ⌝ }
     ensures { λ _. ⌜ Paired (now (rows .entry)) a (now (pairs .exit)) ⌝ }
 {
@@ -172,53 +156,76 @@ fn write_pairs(rows: &[u16], a: u32, pairs: &mut [u16])
     }
 }
 
-// The smallest of the differences that are counted as often as the largest count says.
-fn smallest_with(differences: &[u16], counts: &[u16], largest: u16) -> u32
-    requires { ⌜ Countable (now differences) (length (now counts)) × (now counts ≡ listBelow (length (now counts)) (λ β. occurrences (now differences) β)) × LargestCount (now differences) largest × (0 < largest) ⌝ }
-    ensures { λ r. ⌜ SmallestWith (now (differences .entry)) largest r ⌝ }
+// The counts of a row stand in 4,096 slots, since 32 outputs have too many differences for a count each. A slot holds the standing of one difference, its
+// count * 2^32 + (2^32 - 1 - beta), so that the larger standing counts more, or as many for a smaller difference. Every difference takes its slot, with a
+// count of 0, so that the last of those that share a slot has it.
+fn claim_slots(differences: &[u32], slots: &mut [u64])
+    requires { ⌜ length (now slots) ≡ 4096 ⌝ }
+    ensures { λ _. ⌜ Slots (now (differences .entry)) 0 (now (slots .exit)) ⌝ }
 {
-    let mut smallest = counts.len();
     let mut x = 0;
     while x < differences.len() {
-        let beta = differences[x] as usize;
-        if beta < smallest {
-            if counts[beta] == largest {
-                smallest = beta;
-            }
-        }
+        let beta = differences[x];
+        let slot = (beta % 4096) as usize;
+        slots[slot] = 4294967295 - beta as u64;
         x += 1;
     }
-    smallest as u32
 }
 
-// The best cell so far, or the largest of the row of a where that counts more: only then its beta is looked for. A pair stands for two inputs.
-fn better_cell(a: u32, pairs: &[u16], counts: &[u16], largest: u16, found: FoundCell) -> FoundCell
-    requires { ⌜ Countable (now pairs) (length (now counts)) × (now counts ≡ listBelow (length (now counts)) (λ β. occurrences (now pairs) β)) × LargestCount (now pairs) largest ⌝ }
-    ensures { λ r. ⌜ AfterRow a (now (pairs .entry)) (candidate found) (candidate r) ⌝ }
+// The standing of the difference at y after its count has risen: by one in its slot, or, where another difference has the slot, from those before it
+// that are the same.
+fn risen(differences: &[u32], y: usize, slots: &mut [u64]) -> u64
+    requires { ⌜ (y < length (now differences)) × (length (now differences) ≤ 128) × Slots (now differences) y (now slots) ⌝ }
+    ensures { λ r. ⌜ (r ≡ standing (occurrences (now (differences .entry)) (y + 1) (at (now (differences .entry)) y)) (at (now (differences .entry)) y)) × Slots (now (differences .entry)) (y + 1) (now (slots .exit)) ⌝ }
 {
-    let count = 2 * (largest as u32);
+    let beta = differences[y];
+    let last = 4294967295 - beta as u64;
+    let slot = (beta % 4096) as usize;
+    let standing = slots[slot] + 4294967296;
+    if standing % 4294967296 == last {
+        slots[slot] = standing;
+        return standing;
+    }
+    let before = count_equal(&differences[..y], beta) as u64;
+    (before + 1) * 4294967296 + last
+}
+
+// The largest count of the differences and the smallest difference that has it, as one standing, brought up to date as each count rises.
+fn largest_risen(differences: &[u32], slots: &mut [u64]) -> u64
+    requires { ⌜ (length (now differences) ≤ 128) × (length (now slots) ≡ 4096) ⌝ }
+    ensures { λ r. ⌜ Running (now (differences .entry)) (length (now (differences .entry))) r × (length (now (slots .exit)) ≡ 4096) ⌝ }
+{
+    claim_slots(differences, slots);
+    let mut best: u64 = 4294967295;
+    let mut y = 0;
+    while y < differences.len() {
+        let standing = risen(differences, y, slots);
+        if best < standing {
+            best = standing;
+        }
+        y += 1;
+    }
+    best
+}
+
+// The best cell so far, or the largest of the row of a where that counts more. A pair stands for two inputs.
+fn after_row(a: u32, pairs: &[u32], slots: &mut [u64], found: FoundCell) -> FoundCell
+    requires { ⌜ (length (now pairs) ≤ 128) × (length (now slots) ≡ 4096) ⌝ }
+    ensures { λ r. ⌜ AfterRow a (now (pairs .entry)) (candidate found) (candidate r) × (length (now (slots .exit)) ≡ 4096) ⌝ }
+{
+    let best = largest_risen(pairs, slots);
+    let count = 2 * ((best / 4294967296) as u32);
     if count <= found.count {
         return found;
     }
-    let beta = smallest_with(pairs, counts, largest);
+    let beta = (4294967295 - best % 4294967296) as u32;
     FoundCell { count, a, beta }
 }
 
-// The same from counts of 0, which are 0 again afterwards, so that the next row needs no other counts.
-fn after_row(a: u32, pairs: &[u16], counts: &mut [u16], found: FoundCell) -> FoundCell
-    requires { ⌜ Countable (now pairs) (length (now counts)) × (now counts ≡ listBelow (length (now counts)) (λ β. 0)) ⌝ }
-    ensures { λ r. ⌜ AfterRow a (now (pairs .entry)) (candidate found) (candidate r) × (now (counts .exit) ≡ now (counts .entry)) ⌝ }
-{
-    let largest = count_differences(pairs, counts);
-    let better = better_cell(a, pairs, counts, largest, found);
-    forget_differences(pairs, counts);
-    better
-}
-
 // Every row in turn, from 1 to 2^n − 1. It starts from a count that every row exceeds.
-fn sweep_cells(n: u32, m: u32, rows: &[u16], pairs: &mut [u16], counts: &mut [u16]) -> FoundCell
-    requires { ⌜ Box n m (now rows) × (length (now rows) ≡ 2 * length (now pairs)) × (now counts ≡ listBelow (2 ^ m) (λ β. 0)) ⌝ }
-    ensures { λ r. ⌜ (candidate r ≡ spec.largestCell n m (now (rows .entry))) × Paired (now (rows .entry)) (2 ^ n - 1) (now (pairs .exit)) × (now (counts .exit) ≡ listBelow (2 ^ m) (λ β. 0)) ⌝ }
+fn sweep_cells(n: u32, m: u32, rows: &[u32], pairs: &mut [u32], slots: &mut [u64]) -> FoundCell
+    requires { ⌜ Box n m (now rows) × (length (now rows) ≡ 2 * length (now pairs)) × (length (now slots) ≡ 4096) ⌝ }
+    ensures { λ r. ⌜ (candidate r ≡ spec.largestCell n m (now (rows .entry))) × Paired (now (rows .entry)) (2 ^ n - 1) (now (pairs .exit)) × (length (now (slots .exit)) ≡ 4096) ⌝ }
 {
     let inputs = boolean::power_of_two(n) as u32;
     let mut found = FoundCell {
@@ -229,26 +236,25 @@ fn sweep_cells(n: u32, m: u32, rows: &[u16], pairs: &mut [u16], counts: &mut [u1
     let mut a: u32 = 1;
     while a < inputs {
         write_pairs(rows, a, pairs);
-        found = after_row(a, pairs, counts, found);
+        found = after_row(a, pairs, slots, found);
         a += 1;
     }
     found
 }
 
 // The largest cell of a box that was checked. The arrays to work in are made once for all rows.
-fn find_largest(n: u32, m: u32, rows: &[u16]) -> FoundCell
+fn find_largest(n: u32, m: u32, rows: &[u32]) -> FoundCell
     requires { ⌜ Box n m (now rows) ⌝ }
     ensures { λ r. ⌜ candidate r ≡ spec.largestCell n m (now (rows .entry)) ⌝ }
 {
-    let mut pairs = [0u16; 128];
-    let mut counts = [0u16; 65536];
+    let mut pairs = [0u32; 128];
+    let mut slots = [0u64; 4096];
     let half = rows.len() / 2;
-    let outputs = boolean::power_of_two(m);
-    sweep_cells(n, m, rows, &mut pairs[..half], &mut counts[..outputs])
+    sweep_cells(n, m, rows, &mut pairs[..half], &mut slots)
 }
 
 // The largest cell of a box, in ascending a, then beta.
-pub fn largest_cell(n: u32, m: u32, rows: &[u16]) -> LargestCell
+pub fn largest_cell(n: u32, m: u32, rows: &[u32]) -> LargestCell
     ensures { λ r. ⌜ largestReply r ≡ xorReply n m (now (rows .entry)) ⌝ }
 {
     if let Checked::Refused(e) = refusals::check_box(n, m, rows) {
@@ -263,7 +269,7 @@ pub fn largest_cell(n: u32, m: u32, rows: &[u16]) -> LargestCell
 }
 
 // Whether the cell of the difference at x is listed at x: no input before has the same difference, and as many have it as in the largest cell.
-fn is_listed(differences: &[u16], x: usize, largest: u32) -> bool
+fn is_listed(differences: &[u32], x: usize, largest: u32) -> bool
     requires { ⌜ (x < length (now differences)) × (length (now differences) ≤ 256) ⌝ }
     ensures { λ r. ⌜ r ≡ isListed largest (now (differences .entry)) x ⌝ }
 {
@@ -275,7 +281,7 @@ fn is_listed(differences: &[u16], x: usize, largest: u32) -> bool
 }
 
 // How many cells of one row are listed.
-fn count_in_row(differences: &[u16], largest: u32) -> usize
+fn count_in_row(differences: &[u32], largest: u32) -> usize
     requires { ⌜ length (now differences) ≤ 256 ⌝ }
     ensures { λ r. ⌜ r ≡ countBelow (length (now (differences .entry))) (λ x. isListed largest (now (differences .entry)) x) ⌝ }
 {
@@ -291,7 +297,7 @@ fn count_in_row(differences: &[u16], largest: u32) -> usize
 }
 
 // How many cells of all rows are listed.
-fn count_cells(n: u32, m: u32, rows: &[u16], differences: &mut [u16], largest: u32) -> usize
+fn count_cells(n: u32, m: u32, rows: &[u32], differences: &mut [u32], largest: u32) -> usize
     requires { ⌜ Swept n m (now rows) (now differences) ⌝ }
     ensures { λ r. ⌜ (r ≡ length (listed largest (now (rows .entry)) (2 ^ n))) × (r ≤ 65536) × (now (differences .exit) ≡ differencesOf (now (rows .entry)) (2 ^ n - 1)) ⌝ }
 {
@@ -309,10 +315,10 @@ fn count_cells(n: u32, m: u32, rows: &[u16], differences: &mut [u16], largest: u
 // The cell of the difference at x is written to the list's entry `next`, where it is listed. The entry after it is returned.
 fn list_cell(
     a: u32,
-    differences: &[u16],
+    differences: &[u32],
     x: usize,
     largest: u32,
-    list: &mut [u32],
+    list: &mut [u64],
     next: usize,
 ) -> usize
     requires { ⌜ (x < length (now differences)) × (length (now differences) ≤ 256) × (a < 256) × (next + length (listedAt largest a (now differences) x) ≤ length (now list)) ⌝ }
@@ -321,12 +327,12 @@ fn list_cell(
     if !is_listed(differences, x, largest) {
         return next;
     }
-    list[next] = a * 65536 + differences[x] as u32;
+    list[next] = (a as u64) * 4294967296 + differences[x] as u64;
     next + 1
 }
 
 // The listed cells of one row are written to the list from the entry `start` on. The entry after them is returned.
-fn list_row(a: u32, differences: &[u16], largest: u32, list: &mut [u32], start: usize) -> usize
+fn list_row(a: u32, differences: &[u32], largest: u32, list: &mut [u64], start: usize) -> usize
     requires { ⌜ (length (now differences) ≤ 256) × (a < 256) × (start + length (listedRow largest a (now differences)) ≤ length (now list)) ⌝ }
     ensures { λ r. ⌜ (r ≡ start + length (listedRow largest a (now (differences .entry)))) × (now (list .exit) ≡ sets (now (list .entry)) start (listedRow largest a (now (differences .entry)))) ⌝ }
 {
@@ -340,7 +346,7 @@ fn list_row(a: u32, differences: &[u16], largest: u32, list: &mut [u32], start: 
 }
 
 // The listed cells of all rows are written to the list's first entries.
-fn list_cells(n: u32, m: u32, rows: &[u16], differences: &mut [u16], largest: u32, list: &mut [u32])
+fn list_cells(n: u32, m: u32, rows: &[u32], differences: &mut [u32], largest: u32, list: &mut [u64])
     requires { ⌜ Swept n m (now rows) (now differences) × (length (listed largest (now rows) (2 ^ n)) ≤ length (now list)) ⌝ }
     ensures { λ _. ⌜ (now (list .exit) ≡ sets (now (list .entry)) 0 (listed largest (now (rows .entry)) (2 ^ n))) × (now (differences .exit) ≡ differencesOf (now (rows .entry)) (2 ^ n - 1)) ⌝ }
 {
@@ -355,7 +361,7 @@ fn list_cells(n: u32, m: u32, rows: &[u16], differences: &mut [u16], largest: u3
 }
 
 // The largest count is found, then the cells that reach it are counted, and only a list that has room for all of them is written to.
-fn list_with(n: u32, m: u32, rows: &[u16], differences: &mut [u16], list: &mut [u32]) -> CellList
+fn list_with(n: u32, m: u32, rows: &[u32], differences: &mut [u32], list: &mut [u64]) -> CellList
     requires { ⌜ Swept n m (now rows) (now differences) ⌝ }
     ensures reply { λ r. ⌜ listReply r ≡ replyAfter (first (listChecks n m (now (rows .entry)) (length (now (list .entry))))) (length (largestCells n m (now (rows .entry))) ∷ []) ⌝ }
     ensures content { λ r. ⌜ ListAfter (first (listChecks n m (now (rows .entry)) (length (now (list .entry))))) (largestCells n m (now (rows .entry))) (now (list .entry)) (now (list .exit)) ⌝ }
@@ -373,15 +379,15 @@ fn list_with(n: u32, m: u32, rows: &[u16], differences: &mut [u16], list: &mut [
     }
 }
 
-// All cells that reach the largest count, each as a * 65536 + beta, with their number. They are counted before the list is written to.
-pub fn largest_cells(n: u32, m: u32, rows: &[u16], list: &mut [u32]) -> CellList
+// All cells that reach the largest count, each as a * 2^32 + beta, with their number. They are counted before the list is written to.
+pub fn largest_cells(n: u32, m: u32, rows: &[u32], list: &mut [u64]) -> CellList
     ensures reply { λ r. ⌜ listReply r ≡ replyAfter (first (listChecks n m (now (rows .entry)) (length (now (list .entry))))) (length (largestCells n m (now (rows .entry))) ∷ []) ⌝ }
     ensures content { λ r. ⌜ ListAfter (first (listChecks n m (now (rows .entry)) (length (now (list .entry))))) (largestCells n m (now (rows .entry))) (now (list .entry)) (now (list .exit)) ⌝ }
 {
     if let Checked::Refused(e) = refusals::check_box(n, m, rows) {
         return CellList::Unlisted(e);
     }
-    let mut differences = [0u16; 256];
+    let mut differences = [0u32; 256];
     let size = rows.len();
     list_with(n, m, rows, &mut differences[..size], list)
 }

@@ -3,5 +3,3 @@ pub mod Theorems
 pub mod Components
 pub mod Magnitudes
 pub mod Nearest
-pub mod Runs
-pub mod Stepped

@@ -1,26 +1,28 @@
 -- The best pair of a component from its spectrum, and of the components one after the other.
 use mathlib.Core.Path.{_≡_, refl, sym, ap, ap₂, _∙_, subst}
 use mathlib.Core.Bool.{true}
-use mathlib.Core.List.{List, [], _∷_, _++_, append-nil, List·Memᴰ, List·Memᴰ·head}
-use Prim.Native.Nat.{ℕ, suc, _+_, _*_, _-_, _/_, _^_, _<_, _≤_}
-use native.Mathlib.Nat.{le-refl, add-sub-cancel}
+use mathlib.Core.List.{List, [], _∷_, List·Memᴰ, List·Memᴰ·head}
+use Prim.Native.Nat.{ℕ, _+_, _*_, _-_, _/_, _^_, _<_, _≤_}
 use native.Mathlib.Omega.{arith}
 use native.Mathlib.Decide.{decLt}
 use borrow.Author.Tests.{lt-ltb, le-ltb}
 use lib.Pow.{pow-pos}
 use lib.IntN.{ℤ, pos, negsuc, natAbs}
 use lib.ListN.{length}
-use Rattle.boolean.specs.Sums.{listFrom, listBelow, each}
-use Rattle.boolean.specs.Functions.{valueAt, component, components, distance, walsh, spectrum, signBit}
+use Rattle.boolean.specs.Sums.{listBelow, each}
+use Rattle.boolean.specs.Functions.{valueAt, component, distance, walsh, spectrum, signBit}
 use Rattle.boolean.specs.Selection.{Candidate, best, lower, firstLeast}
 use Rattle.boolean.proofs.Counts.{count-le}
 use Rattle.boolean.proofs.Digits.{component-lt}
 use Rattle.boolean.proofs.Distances.{walsh-pos, walsh-negsuc, distance-walsh}
 use Rattle.boolean.proofs.Dots.{bit-cases}
-use Rattle.boolean.proofs.Lists.{length-listBelow, getD-listBelow, listFrom-more, each-append}
-use Rattle.boolean.proofs.Selection.{best-stays, best-is, best-append, firstLeast-from, ranked-first}
+use Rattle.boolean.proofs.Lists.{length-listBelow, getD-listBelow}
+use Rattle.boolean.proofs.Selection.{best-stays, best-is, firstLeast-from, ranked-first}
 use Rattle.boolean.proofs.Walsh.{walsh-le}
 use Rattle.refusals.specs.Table.{Box}
+use Rattle.masks.specs.Masks.{Next, Raised}
+use Rattle.masks.proofs.Walk.{masksBelow, best-starts, best-next, best-ends}
+use Rattle.masks.proofs.Boxes.{Stepwise, stepwise-starts, stepwise-next}
 use Rattle.linear.specs.Nonlinearity.{pair, pairsOf, pairs, nonlinearity}
 use Rattle.linear.specs.Calls.{Largest, FirstPlace, Swept}
 use Rattle.linear.specs.Statements.{pairRank}
@@ -131,71 +133,46 @@ distance-le : (n : ℕ) (f : ℕ → ℕ) (w b : ℕ) → distance n f w b ≤ 2
 unfolding distance
 distance-le n f w b = count-le (2 ^ n) _
 
--- the pairs of the components below c
-abbrev pub pairsBelow : ℕ → List ℕ → ℕ → List Candidate
-pairsBelow n rows c = each (listFrom 1 (c - 1) (λ c. c)) (pairsOf n rows)
-
-pairs-none : (n : ℕ) (rows : List ℕ) (b : Candidate) → b ≡ best lower b (pairsBelow n rows 1)
-unfolding each listFrom best
-pairs-none n rows b = refl
-
-pairs-next : (n : ℕ) (rows : List ℕ) (c : ℕ) → 1 ≤ c → pairsBelow n rows (c + 1) ≡ pairsBelow n rows c ++ pairsOf n rows c
-unfolding each
-pairs-next n rows c h =
-    let more : c + 1 - 1 ≡ suc (c - 1) = omega arith in
-    let last : 1 + (c - 1) ≡ c = omega arith in
-    ap (λ (k : ℕ). each (listFrom 1 k (λ c. c)) (pairsOf n rows)) more
-    ∙ ap (λ (l : List ℕ). each l (pairsOf n rows)) (listFrom-more 1 (c - 1) (λ c. c))
-    ∙ each-append (listFrom 1 (c - 1) (λ c. c)) ((1 + (c - 1)) ∷ []) (pairsOf n rows)
-    ∙ ap (λ (l : List Candidate). pairsBelow n rows c ++ l) (append-nil (pairsOf n rows (1 + (c - 1))) ∙ ap (pairsOf n rows) last)
-
 -- from a count that no pair has, all of them give the first that is nearest
-best-pairs : (n m : ℕ) (rows : List ℕ) (start : Candidate) → 1 ≤ m → 2 ^ n < start .figure → best lower start (pairsBelow n rows (2 ^ m)) ≡ nonlinearity n m rows
-unfolding nonlinearity pairs components
-best-pairs n m rows start m-low h =
-    let t = pairs-nonempty n m rows m-low in
-    let s = mem-pairs n m rows (t .0) (subst (λ (l : List Candidate). List·Memᴰ (t .0) l) (sym (t .2)) (List·Memᴰ·head refl)) in
+best-pairs : (n m : ℕ) (rows : List ℕ) (i : ℕ) (start : Candidate) → 1 ≤ m → 1 ≤ i → 2 ^ n < start .figure → best lower start (pairs n m rows i) ≡ nonlinearity n m rows i
+unfolding nonlinearity
+best-pairs n m rows i start m-low i-low h =
+    let t = pairs-nonempty n m rows i m-low i-low in
+    let s = mem-pairs n m rows i (t .0) (subst (λ (l : List Candidate). List·Memᴰ (t .0) l) (sym (t .2)) (List·Memᴰ·head refl)) in
     let low : t .0 .figure < start .figure = omega (arith, ap (λ (p : Candidate). p .figure) (s .4), distance-le n (component rows (s .0)) (s .1) (s .2)) in
     ap (best lower start) (t .2) ∙ firstLeast-from start (t .0) (t .1) low ∙ ap firstLeast (sym (t .2))
 
--- the loop's invariant: the best pair of the components below c, and the two arrays as long as before
-pub record Sweeping (n m : ℕ) (rows : List ℕ) (start found : Candidate) (table : List ℕ) (values : List ℤ) (c : ℕ) : Type 0 where
+-- the loop's invariant: the best pair of the components before c, and the two arrays as long as before
+pub record Sweeping (n m : ℕ) (rows : List ℕ) (i : ℕ) (start found : Candidate) (table : List ℕ) (values : List ℤ) (last c : ℕ) : Type 0 where
   pub arrays : Swept n m rows table values
-  pub c-low : 1 ≤ c
-  pub c-high : c ≤ 2 ^ m
-  pub table-is : table ≡ listBelow (length rows) (λ x. component rows (c - 1) x)
-  pub so-far : found ≡ best lower start (pairsBelow n rows c)
+  pub stepwise : Stepwise m i rows last c table
+  pub so-far : found ≡ best lower start (each (masksBelow i c) (pairsOf n rows))
 
-module _ {n m : ℕ} {rows : List ℕ} {start : Candidate} where
-  pub sweep-starts : {table : List ℕ} {values : List ℤ} → Box n m rows → length values ≡ 2 ^ n → table ≡ listBelow (length rows) (λ x. component rows 0 x)
-      → Sweeping n m rows start start table values 1
-  sweep-starts b room h = record {
+module _ {n m : ℕ} {rows : List ℕ} {i : ℕ} {start : Candidate} where
+  pub sweep-starts : {table : List ℕ} {values : List ℤ} → Box n m rows → 1 ≤ i → length values ≡ 2 ^ n → table ≡ listBelow (length rows) (λ x. component rows 0 x)
+      → Sweeping n m rows i start start table values 0 1
+  sweep-starts b limit room h = record {
     arrays = record { box = b; table-size = ap length h ∙ length-listBelow (length rows) (component rows 0) ∙ b .size; out-size = room };
-    c-low = le-refl 1;
-    c-high = pow-pos m;
-    table-is = h;
-    so-far = pairs-none n rows start;
+    stepwise = stepwise-starts limit h;
+    so-far = best-starts lower (pairsOf n rows) start i;
   }
 
-  module _ {found : Candidate} {table : List ℕ} {values : List ℤ} {c : ℕ} (t : Sweeping n m rows start found table values c) where
-    pub sweep-next : {new : Candidate} {table′ : List ℕ} {values′ : List ℤ}
-        → c < 2 ^ m → table′ ≡ listBelow (2 ^ n) (λ x. component rows c x) → values′ ≡ spectrum n (component rows c)
-        → new ≡ best lower found (pairsOf n rows c) → Sweeping n m rows start new table′ values′ (c + 1)
-    sweep-next l p q e = record {
+  module _ {found : Candidate} {table : List ℕ} {values : List ℤ} {last c : ℕ} (t : Sweeping n m rows i start found table values last c) where
+    pub sweep-next : {new : Candidate} {table′ : List ℕ} {values′ : List ℤ} {next : ℕ}
+        → c < 2 ^ m → Next i c next → Raised c next → table′ ≡ listBelow (2 ^ n) (λ x. component rows c x) → values′ ≡ spectrum n (component rows c)
+        → new ≡ best lower found (pairsOf n rows c) → Sweeping n m rows i start new table′ values′ c next
+    sweep-next l after raised p q e = record {
       arrays = record {
         box = t .arrays .box;
         table-size = ap length p ∙ length-listBelow (2 ^ n) (component rows c);
         out-size = values-length n rows c q;
       };
-      c-low = omega arith;
-      c-high = omega arith;
-      table-is = p ∙ ap₂ (λ (k d : ℕ). listBelow k (λ x. component rows d x)) (sym (t .arrays .box .size)) (sym (add-sub-cancel c 1));
-      so-far =
-          e ∙ ap (λ (b : Candidate). best lower b (pairsOf n rows c)) (t .so-far) ∙ sym (best-append lower start (pairsBelow n rows c) (pairsOf n rows c))
-          ∙ ap (best lower start) (sym (pairs-next n rows c (t .c-low)));
+      stepwise = stepwise-next (t .stepwise) l after raised (p ∙ ap (λ (k : ℕ). listBelow k (λ x. component rows c x)) (sym (t .arrays .box .size)));
+      so-far = best-next (t .stepwise .walk) lower (pairsOf n rows) start after (t .so-far) e;
     }
 
-    pub sweep-ends : 2 ^ m ≤ c → 2 ^ n < start .figure → found ≡ nonlinearity n m rows
+    pub sweep-ends : 2 ^ m ≤ c → 2 ^ n < start .figure → found ≡ nonlinearity n m rows i
+    unfolding pairs
     sweep-ends h l =
-        let all : c ≡ 2 ^ m = omega (arith, t .c-high) in
-        t .so-far ∙ ap (λ (k : ℕ). best lower start (pairsBelow n rows k)) all ∙ best-pairs n m rows start (t .arrays .box .m-low) l
+        best-ends (t .stepwise .walk) lower (pairsOf n rows) start h (t .so-far)
+        ∙ best-pairs n m rows i start (t .arrays .box .m-low) (t .stepwise .walk .limit) l

@@ -5,19 +5,20 @@ use mathlib.Core.List.{List, [], _∷_, List·Memᴰ, List·Memᴰ·head, List·
 use Prim.Native.Nat.{ℕ, suc, _+_, _*_, _-_, _^_, _<_, _≤_}
 use native.Mathlib.Nat.{zero-lt-suc, le-refl, mul-le-mul-right, suc-mul}
 use native.Mathlib.Omega.{arith}
-use lib.Pow.{pow-pos, pow-lt}
+use lib.Pow.{pow-pos}
 use Rattle.boolean.specs.Sums.{listBelow}
 use Rattle.boolean.specs.Functions.{components}
 use Rattle.boolean.specs.Selection.{Candidate, Ascending}
 use Rattle.boolean.proofs.Dots.{bit-cases}
 use Rattle.boolean.proofs.Selection.{of-cons}
-use Rattle.boolean.proofs.Lists.{mem-listFrom, in-listFrom, mem-listBelow, in-listBelow, mem-each, in-each, ascending-listFrom, ascending-listBelow, ascending-blocks}
+use Rattle.boolean.proofs.Lists.{mem-listBelow, in-listBelow, mem-each, in-each, ascending-listBelow, ascending-blocks}
+use Rattle.boolean.proofs.Components.{in-components, mem-components, ascending-components, first-mask}
 use Rattle.linear.specs.Nonlinearity.{pair, pairsOf, pairs}
 use Rattle.linear.specs.Statements.{IsPair, Before, pairRank}
 
 -- a box with an output has a pair
-pub first-pair : (n m : ℕ) → 1 ≤ m → IsPair n m 1 0 0
-first-pair n m h = record { c-low = le-refl 1; c-high = pow-lt h; w-high = pow-pos n; b-high = zero-lt-suc 1 }
+pub first-pair : (n m i : ℕ) → 1 ≤ m → 1 ≤ i → IsPair n m i 1 0 0
+first-pair n m i h l = record { mask = first-mask m i h l; w-high = pow-pos n; b-high = zero-lt-suc 1 }
 
 -- a pair before another has a lower number
 pub before-rank : (n c′ w′ b′ c w b : ℕ) → w′ < 2 ^ n → b′ < 2 → Before c′ w′ b′ c w b
@@ -63,39 +64,32 @@ module _ (n : ℕ) (rows : List ℕ) (c : ℕ) where
       inside : (w : ℕ) (p : Candidate) → Of w p → (c * (2 * 2 ^ n) + w * 2 ≤ pairRank n p) × (pairRank n p < c * (2 * 2 ^ n) + suc w * 2)
       inside w p t = omega (arith, ap (pairRank n) (t .2), t .1)
 
--- ---- all pairs
-module _ (n m : ℕ) (rows : List ℕ) where
-  pub in-pairs : (c w b : ℕ) → IsPair n m c w b → List·Memᴰ (pair n rows c w b) (pairs n m rows)
-  unfolding pairs components
+-- ---- all pairs within the limit
+module _ (n m : ℕ) (rows : List ℕ) (i : ℕ) where
+  pub in-pairs : (c w b : ℕ) → IsPair n m i c w b → List·Memᴰ (pair n rows c w b) (pairs n m rows i)
+  unfolding pairs
   in-pairs c w b h =
-      in-each (components m) (pairsOf n rows) c (pair n rows c w b) (in-listFrom 1 (2 ^ m - 1) (λ c. c) c (h .c-low) (omega arith))
-      (in-pairsOf n rows c w b (h .w-high) (h .b-high))
+      in-each (components m i) (pairsOf n rows) c (pair n rows c w b) (in-components m i c (h .mask)) (in-pairsOf n rows c w b (h .w-high) (h .b-high))
 
-  pub mem-pairs : (p : Candidate) → List·Memᴰ p (pairs n m rows) → (c w b : ℕ) × IsPair n m c w b × (p ≡ pair n rows c w b)
-  unfolding pairs components
+  pub mem-pairs : (p : Candidate) → List·Memᴰ p (pairs n m rows i) → (c w b : ℕ) × IsPair n m i c w b × (p ≡ pair n rows c w b)
+  unfolding pairs
   mem-pairs p k =
-      let t = mem-each (components m) (pairsOf n rows) p k in
-      let s = mem-listFrom 1 (2 ^ m - 1) (λ c. c) (t .0) (t .1) in
-      let u = mem-pairsOf n rows (t .0) p (t .2) in (
-        t .0,
-        u .0,
-        u .1,
-        record { c-low = omega (arith, s .1, s .3); c-high = omega (arith, s .2, s .3, pow-pos m); w-high = u .2; b-high = u .3 },
-        u .4,
-      )
+      let t = mem-each (components m i) (pairsOf n rows) p k in
+      let u = mem-pairsOf n rows (t .0) p (t .2) in
+      (t .0, u .0, u .1, record { mask = mem-components m i (t .0) (t .1); w-high = u .2; b-high = u .3 }, u .4)
 
-  pub ascending-pairs : Ascending (pairRank n) (pairs n m rows)
-  unfolding pairs components
+  pub ascending-pairs : Ascending (pairRank n) (pairs n m rows i)
+  unfolding pairs
   ascending-pairs =
-      ascending-blocks 0 (2 * 2 ^ n) (λ c. c) (pairRank n) (components m) (pairsOf n rows)
-      (ascending-listFrom (λ c. c) 1 (2 ^ m - 1) (λ c. c) (λ a b l k h. k)) (λ c k. ascending-pairsOf n rows c) (λ c k p j. inside c p (mem-pairsOf n rows c p j))
+      ascending-blocks 0 (2 * 2 ^ n) (λ c. c) (pairRank n) (components m i) (pairsOf n rows)
+      (ascending-components m i) (λ c k. ascending-pairsOf n rows c) (λ c k p j. inside c p (mem-pairsOf n rows c p j))
     where
       inside : (c : ℕ) (p : Candidate) → (w b : ℕ) × (w < 2 ^ n) × (b < 2) × (p ≡ pair n rows c w b)
           → (0 + c * (2 * 2 ^ n) ≤ pairRank n p) × (pairRank n p < 0 + suc c * (2 * 2 ^ n))
       inside c p t = omega (arith, ap (pairRank n) (t .4), t .2, t .3, suc-mul c (2 * 2 ^ n))
 
-  pub pairs-nonempty : 1 ≤ m → (p : Candidate) × (ps : List Candidate) × (pairs n m rows ≡ p ∷ ps)
-  pairs-nonempty h = go (pairs n m rows) (in-pairs 1 0 0 (first-pair n m h))
+  pub pairs-nonempty : 1 ≤ m → 1 ≤ i → (p : Candidate) × (ps : List Candidate) × (pairs n m rows i ≡ p ∷ ps)
+  pairs-nonempty h l = go (pairs n m rows i) (in-pairs 1 0 0 (first-pair n m i h l))
     where
       go : (l : List Candidate) → List·Memᴰ (pair n rows 1 0 0) l → (p : Candidate) × (ps : List Candidate) × (l ≡ p ∷ ps)
       go [] k = absurd (List·Memᴰ·not-nil k)

@@ -8,7 +8,7 @@ use native.Mathlib.Nat.{le-trans, le-of-eq, zero-lt-suc, le-refl, mul-le-mul}
 use native.Mathlib.Omega.{arith}
 use lib.IntN.{natAbs}
 use Rattle.boolean.specs.Sums.{each}
-use Rattle.boolean.specs.Functions.{Bent, component, components, distance, walsh, square}
+use Rattle.boolean.specs.Functions.{Bent, Within, component, components, distance, walsh, square}
 use Rattle.boolean.specs.Selection.{Candidate, lower, firstBest, firstLeast, SameMembers, ranked, First}
 use Rattle.boolean.proofs.Digits.{component-lt}
 use Rattle.boolean.proofs.Dots.{bit-cases}
@@ -21,43 +21,43 @@ use Rattle.linear.specs.Nonlinearity.{pair, pairsOf, pairs, nonlinearity
 use Rattle.linear.specs.Statements.{IsPair, Before, pairRank}
 use Rattle.linear.proofs.Pairs.{before-rank, first-pair, in-pairs, mem-pairs, ascending-pairs, pairs-nonempty}
 
-module _ (n m : ℕ) (rows : List ℕ) where
+module _ (n m : ℕ) (rows : List ℕ) (i : ℕ) where
   -- every pair differs at d inputs or more
-  pub least : (c w b : ℕ) → IsPair n m c w b → nonlinearity n m rows .figure ≤ distance n (component rows c) w b
+  pub least : (c w b : ℕ) → IsPair n m i c w b → nonlinearity n m rows i .figure ≤ distance n (component rows c) w b
   unfolding nonlinearity
-  least c w b h = firstLeast-le (pairs n m rows) (pair n rows c w b) (in-pairs n m rows c w b h)
+  least c w b h = firstLeast-le (pairs n m rows i) (pair n rows c w b) (in-pairs n m rows i c w b h)
 
   -- "Combinations may be visited in any order without effect on any answer." Over any list with the members of `pairs`, in any order and some of
   -- them more than once, the pair that differs at the fewest inputs, and of those the one of the lowest rank, is the nonlinearity with its witness.
-  pub nonlinearity-any-order : (visited : List Candidate) → SameMembers visited (pairs n m rows)
-      → firstBest (ranked lower (pairRank n)) visited ≡ nonlinearity n m rows
+  pub nonlinearity-any-order : (visited : List Candidate) → SameMembers visited (pairs n m rows i)
+      → firstBest (ranked lower (pairRank n)) visited ≡ nonlinearity n m rows i
   unfolding nonlinearity
-  nonlinearity-any-order visited = firstLeast-any-order (pairRank n) (pairs n m rows) visited (ascending-pairs n m rows)
+  nonlinearity-any-order visited = firstLeast-any-order (pairRank n) (pairs n m rows i) visited (ascending-pairs n m rows i)
 
   -- so where the components are visited in any order, each with its pairs
-  pub nonlinearity-any-component-order : (order : List ℕ) → SameMembers order (components m)
-      → firstBest (ranked lower (pairRank n)) (each order (pairsOf n rows)) ≡ nonlinearity n m rows
+  pub nonlinearity-any-component-order : (order : List ℕ) → SameMembers order (components m i)
+      → firstBest (ranked lower (pairRank n)) (each order (pairsOf n rows)) ≡ nonlinearity n m rows i
   unfolding pairs
   nonlinearity-any-component-order order same =
-      nonlinearity-any-order (each order (pairsOf n rows)) (each-same order (components m) (pairsOf n rows) same)
+      nonlinearity-any-order (each order (pairsOf n rows)) (each-same order (components m i) (pairsOf n rows) same)
 
-  module _ (m-low : 1 ≤ m) where
+  module _ (m-low : 1 ≤ m) (i-low : 1 ≤ i) where
     -- a pair differs at exactly d
-    pub reached : (c w b : ℕ) × IsPair n m c w b × (nonlinearity n m rows ≡ pair n rows c w b)
+    pub reached : (c w b : ℕ) × IsPair n m i c w b × (nonlinearity n m rows i ≡ pair n rows c w b)
     unfolding nonlinearity
     reached =
-        let t = pairs-nonempty n m rows m-low in
-        mem-pairs n m rows (nonlinearity n m rows) (subst (λ (l : List Candidate). List·Memᴰ (firstLeast l) l) (sym (t .2)) (firstLeast-mem (t .0) (t .1)))
+        let t = pairs-nonempty n m rows i m-low i-low in
+        mem-pairs n m rows i (nonlinearity n m rows i) (subst (λ (l : List Candidate). List·Memᴰ (firstLeast l) l) (sym (t .2)) (firstLeast-mem (t .0) (t .1)))
 
     -- and each pair before it at more
-    pub first : (c w b : ℕ) → nonlinearity n m rows ≡ pair n rows c w b
-        → (c′ w′ b′ : ℕ) → IsPair n m c′ w′ b′ → Before c′ w′ b′ c w b → nonlinearity n m rows .figure < distance n (component rows c′) w′ b′
+    pub first : (c w b : ℕ) → nonlinearity n m rows i ≡ pair n rows c w b
+        → (c′ w′ b′ : ℕ) → IsPair n m i c′ w′ b′ → Before c′ w′ b′ c w b → nonlinearity n m rows i .figure < distance n (component rows c′) w′ b′
     unfolding nonlinearity
     first c w b e c′ w′ b′ h l =
-        let t = pairs-nonempty n m rows m-low in
-        first-ranked (pairRank n) (λ r p. r .figure < p .figure) (ascending-pairs n m rows)
+        let t = pairs-nonempty n m rows i m-low i-low in
+        first-ranked (pairRank n) (λ r p. r .figure < p .figure) (ascending-pairs n m rows i)
         (subst (λ (l : List Candidate). First (λ r p. r .figure < p .figure) (firstLeast l) l) (sym (t .2)) (firstLeast-first (t .0) (t .1)))
-        (pair n rows c′ w′ b′) (in-pairs n m rows c′ w′ b′ h)
+        (pair n rows c′ w′ b′) (in-pairs n m rows i c′ w′ b′ h)
         (omega (arith, ap (pairRank n) e, before-rank n c′ w′ b′ c w b (h .w-high) (h .b-high) l))
 
     -- ---- the covering bound
@@ -65,42 +65,42 @@ module _ (n m : ℕ) (rows : List ℕ) where
     boolean c x l = component-lt rows c x
 
     -- what d leaves of 2^n is at least each spectrum value
-    spectrum-within : (c w : ℕ) → 1 ≤ c → c < 2 ^ m → w < 2 ^ n → 2 * nonlinearity n m rows .figure + natAbs (walsh n (component rows c) w) ≤ 2 ^ n
-    spectrum-within c w lo hi l =
-        let p = least c w 0 (record { c-low = lo; c-high = hi; w-high = l; b-high = zero-lt-suc 1 }) in
-        let q = least c w 1 (record { c-low = lo; c-high = hi; w-high = l; b-high = le-refl 2 }) in
+    spectrum-within : (c w : ℕ) → Within i (2 ^ m) c → w < 2 ^ n → 2 * nonlinearity n m rows i .figure + natAbs (walsh n (component rows c) w) ≤ 2 ^ n
+    spectrum-within c w mask l =
+        let p = least c w 0 (record { mask = mask; w-high = l; b-high = zero-lt-suc 1 }) in
+        let q = least c w 1 (record { mask = mask; w-high = l; b-high = le-refl 2 }) in
         omega (arith, distance-walsh n (component rows c) w (boolean c))
 
     -- and the value at the witness
-    spectrum-reached : (c w b : ℕ) → IsPair n m c w b → nonlinearity n m rows ≡ pair n rows c w b
-        → natAbs (walsh n (component rows c) w) ≡ 2 ^ n - 2 * nonlinearity n m rows .figure
+    spectrum-reached : (c w b : ℕ) → IsPair n m i c w b → nonlinearity n m rows i ≡ pair n rows c w b
+        → natAbs (walsh n (component rows c) w) ≡ 2 ^ n - 2 * nonlinearity n m rows i .figure
     spectrum-reached c w b h e =
         let near = distance-walsh n (component rows c) w (boolean c) in
-        let within = spectrum-within c w (h .c-low) (h .c-high) (h .w-high) in
-        bit-cases (λ b. nonlinearity n m rows .figure ≡ distance n (component rows c) w b → natAbs (walsh n (component rows c) w) ≡ 2 ^ n - 2 * nonlinearity n m rows .figure)
+        let within = spectrum-within c w (h .mask) (h .w-high) in
+        bit-cases (λ b. nonlinearity n m rows i .figure ≡ distance n (component rows c) w b → natAbs (walsh n (component rows c) w) ≡ 2 ^ n - 2 * nonlinearity n m rows i .figure)
         (λ q. omega arith) (λ q. omega arith) b (h .b-high) (ap (λ (p : Candidate). p .figure) e)
 
-    squares-within : (c w : ℕ) → 1 ≤ c → c < 2 ^ m → w < 2 ^ n
-        → square (walsh n (component rows c) w) ≤ (2 ^ n - 2 * nonlinearity n m rows .figure) * (2 ^ n - 2 * nonlinearity n m rows .figure)
+    squares-within : (c w : ℕ) → Within i (2 ^ m) c → w < 2 ^ n
+        → square (walsh n (component rows c) w) ≤ (2 ^ n - 2 * nonlinearity n m rows i .figure) * (2 ^ n - 2 * nonlinearity n m rows i .figure)
     unfolding square
-    squares-within c w lo hi l =
-        let k : natAbs (walsh n (component rows c) w) ≤ 2 ^ n - 2 * nonlinearity n m rows .figure = omega (arith, spectrum-within c w lo hi l) in
+    squares-within c w mask l =
+        let k : natAbs (walsh n (component rows c) w) ≤ 2 ^ n - 2 * nonlinearity n m rows i .figure = omega (arith, spectrum-within c w mask l) in
         mul-le-mul k k
 
-    pub covering : (2 * nonlinearity n m rows .figure ≤ 2 ^ n) × (2 ^ n ≤ (2 ^ n - 2 * nonlinearity n m rows .figure) * (2 ^ n - 2 * nonlinearity n m rows .figure))
+    pub covering : (2 * nonlinearity n m rows i .figure ≤ 2 ^ n) × (2 ^ n ≤ (2 ^ n - 2 * nonlinearity n m rows i .figure) * (2 ^ n - 2 * nonlinearity n m rows i .figure))
     covering =
-        let p = first-pair n m m-low in
+        let p = first-pair n m i m-low i-low in
         let t = some-walsh-large n (component rows 1) (boolean 1) in
-        (omega (arith, spectrum-within 1 0 (p .c-low) (p .c-high) (p .w-high)), le-trans (t .2) (squares-within 1 (t .0) (p .c-low) (p .c-high) (t .1)))
+        (omega (arith, spectrum-within 1 0 (p .mask) (p .w-high)), le-trans (t .2) (squares-within 1 (t .0) (p .mask) (t .1)))
 
     -- it is met exactly where every component is bent
-    pub tight : (2 ^ n - 2 * nonlinearity n m rows .figure) * (2 ^ n - 2 * nonlinearity n m rows .figure) ≡ 2 ^ n
-        ↔ ((c : ℕ) → 1 ≤ c → c < 2 ^ m → Bent n (component rows c))
+    pub tight : (2 ^ n - 2 * nonlinearity n m rows i .figure) * (2 ^ n - 2 * nonlinearity n m rows i .figure) ≡ 2 ^ n
+        ↔ ((c : ℕ) → Within i (2 ^ m) c → Bent n (component rows c))
     unfolding square
     tight = (
-      λ e c lo hi. bent-of-squares n (component rows c) (boolean c) (λ w l. le-trans (squares-within c w lo hi l) (le-of-eq e)),
+      λ e c mask. bent-of-squares n (component rows c) (boolean c) (λ w l. le-trans (squares-within c w mask l) (le-of-eq e)),
       λ bent.
           let t = reached in
-          let s : natAbs (walsh n (component rows (t .0)) (t .1)) ≡ 2 ^ n - 2 * nonlinearity n m rows .figure = spectrum-reached (t .0) (t .1) (t .2) (t .3) (t .4) in
-          sym (ap₂ (λ (i j : ℕ). i * j) s s) ∙ bent-squares n (component rows (t .0)) (bent (t .0) (t .3 .c-low) (t .3 .c-high)) (t .1) (t .3 .w-high),
+          let s : natAbs (walsh n (component rows (t .0)) (t .1)) ≡ 2 ^ n - 2 * nonlinearity n m rows i .figure = spectrum-reached (t .0) (t .1) (t .2) (t .3) (t .4) in
+          sym (ap₂ (λ (i j : ℕ). i * j) s s) ∙ bent-squares n (component rows (t .0)) (bent (t .0) (t .3 .mask)) (t .1) (t .3 .w-high),
     )

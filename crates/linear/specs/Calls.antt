@@ -1,12 +1,11 @@
 -- The calls on components: checks, answers, and what the functions behind them ask.
-use Prim.Native.Nat.{ℕ, _+_, _-_, _*_, _/_, _%_, _^_, _≤_, _<_}
+use Prim.Native.Nat.{ℕ, _-_, _^_, _≤_, _<_}
 use mathlib.Core.Path.{_≡_}
 use mathlib.Core.List.{List, [], _∷_, _++_}
 use lib.Dec.{eqb}
 use lib.IntN.{ℤ, natAbs}
 use lib.ListN.{length}
-use Rattle.boolean.specs.Sums.{listBelow}
-use Rattle.boolean.specs.Functions.{valueAt, component}
+use Rattle.boolean.specs.Functions.{valueAt}
 use Rattle.boolean.specs.Selection.{Candidate}
 use Rattle.refusals.specs.Table.{Check, _unless_, inRange, boxChecks, Reply, figures, refusal, number, Box}
 use Rattle.refusals.specs.declared.Refusal.the-variants.{Parameter, WrittenLength}
@@ -38,25 +37,6 @@ pub record Swept (n m : ℕ) (rows table : List ℕ) (out : List ℤ) : Type 0 w
   pub box : Box n m rows
   pub table-size : length table ≡ 2 ^ n
   pub out-size : length out ≡ 2 ^ n
-
--- a mask of k + 1 ones, from the lowest bit on
-abbrev pub run : ℕ → ℕ
-run k = 2 * 2 ^ k - 1
-
--- The step tables: the masks c − 1 and c differ in a run of ones, and table k is the component of the run of k + 1 ones. Its value at x is entry
--- k · 2^n + x.
-unfoldable pub stepTables : ℕ → List ℕ → List ℕ
-stepTables m rows = listBelow (m * length rows) (λ i. component rows (run (i / length rows)) (i % length rows))
-
--- the step tables, and the truth table of component c − 1
-pub record Stepping (m : ℕ) (rows steps : List ℕ) (c : ℕ) (table : List ℕ) : Type 0 where
-  pub m-high : m ≤ 16
-  pub few : length rows ≤ 256
-  pub some : 0 < length rows
-  pub c-low : 1 ≤ c
-  pub c-high : c < 2 ^ m
-  pub steps-are : steps ≡ stepTables m rows
-  pub table-is : table ≡ listBelow (length rows) (λ x. component rows (c - 1) x)
 
 -- the largest magnitude of some values
 pub record Largest (values : List ℤ) (largest : ℕ) : Type 0 where

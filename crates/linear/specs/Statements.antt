@@ -1,14 +1,13 @@
 -- What the theorems beside the contracts say; no contract needs it.
-use Prim.Native.Nat.{ℕ, _+_, _*_, _^_, _<_, _≤_}
+use Prim.Native.Nat.{ℕ, _+_, _*_, _^_, _<_}
 use mathlib.Core.Path.{_≡_}
 use mathlib.Core.Logic.{_⊎_}
-use Rattle.boolean.specs.Functions.{at}
+use Rattle.boolean.specs.Functions.{at, Within}
 use Rattle.boolean.specs.Selection.{Candidate}
 
--- component c and the affine function (w, b) are a pair of a box of n inputs and m outputs
-pub record IsPair (n m c w b : ℕ) : Type 0 where
-  pub c-low : 1 ≤ c
-  pub c-high : c < 2 ^ m
+-- component c and the affine function (w, b) are a pair of a box of n inputs and m outputs, within the limit i
+pub record IsPair (n m i c w b : ℕ) : Type 0 where
+  pub mask : Within i (2 ^ m) c
   pub w-high : w < 2 ^ n
   pub b-high : b < 2
 

@@ -4,18 +4,17 @@ use refusals::Refusal;
 use refusals::Written;
 ghost use mathlib.Core.Path.{_≡_};
 ghost use mathlib.Core.List.{[]};
-ghost use Prim.Native.Nat.{_+_, _*_, _^_, _≤_, _<_};
-ghost use lib.Bits.{bitXor};
+ghost use Prim.Native.Nat.{_*_, _^_, _≤_, _<_};
 ghost use lib.ListN.{length};
-ghost use Rattle.boolean.specs.Bits.{dot};
 ghost use Rattle.boolean.specs.Sums.{listBelow};
-ghost use Rattle.boolean.specs.Functions.{at, component, spectrum};
+ghost use Rattle.boolean.specs.Functions.{component, spectrum};
 ghost use Rattle.boolean.specs.Selection.{best, lower};
 ghost use Rattle.refusals.specs.Table.{first, replyAfter, contentAfter, written, Box};
 ghost use Rattle.walsh.specs.Work.{Spectra};
+ghost use Rattle.masks.specs.Steps.{Stepping};
 ghost use Rattle.linear.specs.Nonlinearity.{pairsOf, nonlinearityReply};
 ghost use Rattle.linear.specs.Nonlinearity as spec;
-ghost use Rattle.linear.specs.Calls.{componentChecks, stepTables, Stepping, leastPair, candidate, Swept, Largest, FirstPlace};
+ghost use Rattle.linear.specs.Calls.{componentChecks, leastPair, candidate, Swept, Largest, FirstPlace};
 
 // The best pair so far.
 pub struct Found {
@@ -31,69 +30,12 @@ pub enum LeastPair {
     Declined(Refusal),
 }
 
-// The value of component c at a row.
-fn component_at(row: u16, c: u32) -> u8
-    ensures { λ r. ⌜ r ≡ dot row c ⌝ }
-{
-    boolean::dot(row as u32, c) as u8
-}
-
-// The truth table of component c.
-pub fn write_component(rows: &[u16], c: u32, table: &mut [u8])
-    requires { ⌜ length (now table) ≡ length (now rows) ⌝ }
-    ensures { λ _. ⌜ now (table .exit) ≡ listBelow (length (now (rows .entry))) (λ x. component (now (rows .entry)) c x) ⌝ }
-{
-    let mut x = 0;
-    while x < rows.len() {
-        table[x] = component_at(rows[x], c);
-        x += 1;
-    }
-}
-
-// The step tables of a box, one after the other: the masks c − 1 and c differ in a run of ones from the lowest on, and step table k is the
-// component of the run of k + 1 ones.
-pub fn write_steps(m: u32, rows: &[u16], steps: &mut [u8])
-    requires { ⌜ (m ≤ 16) × (0 < length (now rows)) × (length (now rows) ≤ 256) × (length (now steps) ≡ m * length (now rows)) ⌝ }
-    ensures { λ _. ⌜ now (steps .exit) ≡ stepTables m (now (rows .entry)) ⌝ }
-{
-    let size = rows.len();
-    let mut i = 0;
-    while i < steps.len() {
-        let run = 2 * boolean::power_of_two((i / size) as u32) - 1;
-        steps[i] = component_at(rows[i % size], run as u32);
-        i += 1;
-    }
-}
-
-// Adds one truth table to another.
-fn add_table(other: &[u8], table: &mut [u8])
-    requires { ⌜ length (now table) ≡ length (now other) ⌝ }
-    ensures { λ _. ⌜ now (table .exit) ≡ listBelow (length (now (other .entry))) (λ x. bitXor (at (now (table .entry)) x) (at (now (other .entry)) x)) ⌝ }
-{
-    let mut x = 0;
-    while x < other.len() {
-        table[x] = table[x] ^ other[x];
-        x += 1;
-    }
-}
-
-// From the truth table of component c − 1 to that of component c. It is quicker than to count the ones of every row anew.
-pub fn next_component(m: u32, rows: &[u16], steps: &[u8], c: u32, table: &mut [u8])
-    requires { ⌜ Stepping m (now rows) (now steps) c (now table) ⌝ }
-    ensures { λ _. ⌜ now (table .exit) ≡ listBelow (length (now (rows .entry))) (λ x. component (now (rows .entry)) c x) ⌝ }
-{
-    let size = rows.len();
-    let start = u32::trailing_zeros(c) as usize * size;
-    let end = start + size;
-    add_table(&steps[start..end], table);
-}
-
 // The spectrum of component c, with the fixed table and an array for the truth table lent.
 fn component_spectrum(
     fixed: &[i32; 2048],
     n: u32,
     m: u32,
-    rows: &[u16],
+    rows: &[u32],
     c: u32,
     table: &mut [u8],
     out: &mut [i32],
@@ -101,37 +43,38 @@ fn component_spectrum(
     requires { ⌜ Swept n m (now rows) (now table) (now out) × Spectra (now fixed) ⌝ }
     ensures { λ _. ⌜ (now (out .exit) ≡ spectrum n (component (now (rows .entry)) c)) × (now (table .exit) ≡ listBelow (2 ^ n) (λ x. component (now (rows .entry)) c x)) ⌝ }
 {
-    write_component(rows, c, table);
+    masks::write_component(rows, c, table);
     walsh::descend(fixed, n, table, out);
 }
 
-// The spectrum of component c, from the truth table of component c − 1.
+// The spectrum of component c, from the truth table of component `last`, the mask before it.
 fn next_spectrum(
     fixed: &[i32; 2048],
     n: u32,
     m: u32,
-    rows: &[u16],
+    rows: &[u32],
     steps: &[u8],
-    c: u32,
+    last: u64,
+    c: u64,
     table: &mut [u8],
     out: &mut [i32],
 )
-    requires { ⌜ Swept n m (now rows) (now table) (now out) × Spectra (now fixed) × Stepping m (now rows) (now steps) c (now table) ⌝ }
+    requires { ⌜ Swept n m (now rows) (now table) (now out) × Spectra (now fixed) × Stepping m (now rows) (now steps) last c (now table) ⌝ }
     ensures { λ _. ⌜ (now (out .exit) ≡ spectrum n (component (now (rows .entry)) c)) × (now (table .exit) ≡ listBelow (2 ^ n) (λ x. component (now (rows .entry)) c x)) ⌝ }
 {
-    next_component(m, rows, steps, c, table);
+    masks::next_component(m, rows, steps, last, c, table);
     walsh::descend(fixed, n, table, out);
 }
 
 // The checks of the component's spectrum.
-fn check_component(n: u32, m: u32, rows: &[u16], c: u32, room: usize) -> Checked
+fn check_component(n: u32, m: u32, rows: &[u32], c: u32, room: usize) -> Checked
     ensures { λ r. ⌜ r ≡ first (componentChecks n m (now (rows .entry)) c room) ⌝ }
 {
     if let Checked::Refused(e) = refusals::check_box(n, m, rows) {
         return Checked::Refused(e);
     }
-    let masks = boolean::power_of_two(m) as u32;
-    if !refusals::in_range(1, masks - 1, c) {
+    let masks = boolean::power_of_two(m) - 1;
+    if !refusals::in_range(1, masks as u32, c) {
         return Checked::Refused(Refusal::Parameter);
     }
     if room != boolean::power_of_two(n) {
@@ -141,7 +84,7 @@ fn check_component(n: u32, m: u32, rows: &[u16], c: u32, room: usize) -> Checked
 }
 
 // The spectrum of component c of a box.
-pub fn spectrum_of_component(n: u32, m: u32, rows: &[u16], c: u32, out: &mut [i32]) -> Written
+pub fn spectrum_of_component(n: u32, m: u32, rows: &[u32], c: u32, out: &mut [i32]) -> Written
     ensures reply { λ r. ⌜ written r ≡ replyAfter (first (componentChecks n m (now (rows .entry)) c (length (now (out .entry))))) [] ⌝ }
     ensures content { λ r. ⌜ now (out .exit) ≡ contentAfter (first (componentChecks n m (now (rows .entry)) c (length (now (out .entry))))) (spectrum n (component (now (rows .entry)) c)) (now (out .entry)) ⌝ }
 {
@@ -186,7 +129,7 @@ fn first_place(values: &[i32], size: u32) -> usize
 
 // The best pair so far, with those of component c, whose spectrum is given. The largest magnitude has the fewest differing inputs, and
 // its sign decides b.
-fn with_spectrum(found: Found, n: u32, m: u32, rows: &[u16], c: u32, values: &[i32]) -> Found
+fn with_spectrum(found: Found, n: u32, m: u32, rows: &[u32], c: u32, values: &[i32]) -> Found
     requires { ⌜ Box n m (now rows) × (now values ≡ spectrum n (component (now rows) c)) ⌝ }
     ensures { λ r. ⌜ candidate r ≡ best lower (candidate found) (pairsOf n (now (rows .entry)) c) ⌝ }
 {
@@ -206,46 +149,49 @@ fn with_spectrum(found: Found, n: u32, m: u32, rows: &[u16], c: u32, values: &[i
     }
 }
 
-// Every component in turn, from 1 to 2^m − 1, each from the one before. It starts from a count that no pair has.
+// Every component within the limit in turn, each from the one before, from the component 0 on. It starts from a count that no pair has.
 fn sweep(
     fixed: &[i32; 2048],
     n: u32,
     m: u32,
-    rows: &[u16],
+    rows: &[u32],
+    i: u32,
     steps: &mut [u8],
     table: &mut [u8],
     values: &mut [i32],
 ) -> Found
-    requires { ⌜ Swept n m (now rows) (now table) (now values) × Spectra (now fixed) × (length (now steps) ≡ m * length (now rows)) ⌝ }
-    ensures { λ r. ⌜ candidate r ≡ spec.nonlinearity n m (now (rows .entry)) ⌝ }
+    requires { ⌜ Swept n m (now rows) (now table) (now values) × Spectra (now fixed) × (length (now steps) ≡ m * length (now rows)) × (1 ≤ i) ⌝ }
+    ensures { λ r. ⌜ candidate r ≡ spec.nonlinearity n m (now (rows .entry)) i ⌝ }
 {
-    write_steps(m, rows, steps);
-    write_component(rows, 0, table);
-    let masks = boolean::power_of_two(m) as u32;
+    masks::write_steps(m, rows, steps);
+    masks::write_component(rows, 0, table);
+    let masks = boolean::power_of_two(m) as u64;
     let mut found = Found {
         count: rows.len() as u32 + 1,
         c: 0,
         w: 0,
         b: 0,
     };
-    let mut c: u32 = 1;
+    let mut last: u64 = 0;
+    let mut c: u64 = 1;
     while c < masks {
-        next_spectrum(fixed, n, m, rows, steps, c, table, values);
-        found = with_spectrum(found, n, m, rows, c, values);
-        c += 1;
+        next_spectrum(fixed, n, m, rows, steps, last, c, table, values);
+        found = with_spectrum(found, n, m, rows, c as u32, values);
+        last = c;
+        c = masks::next_mask(i, c);
     }
     found
 }
 
-// The nonlinearity of a box, with the first pair that reaches it.
-pub fn nonlinearity(n: u32, m: u32, rows: &[u16]) -> LeastPair
-    ensures { λ r. ⌜ leastPair r ≡ nonlinearityReply n m (now (rows .entry)) ⌝ }
+// The nonlinearity of a box over its combinations of at most i outputs, with the first pair that reaches it.
+pub fn nonlinearity(n: u32, m: u32, rows: &[u32], i: u32) -> LeastPair
+    ensures { λ r. ⌜ leastPair r ≡ nonlinearityReply n m (now (rows .entry)) i ⌝ }
 {
-    if let Checked::Refused(e) = refusals::check_box(n, m, rows) {
+    if let Checked::Refused(e) = refusals::check_limited(n, m, rows, i) {
         return LeastPair::Declined(e);
     }
     let fixed = walsh::spectra();
-    let mut steps = [0u8; 4096];
+    let mut steps = [0u8; 8192];
     let mut table = [0u8; 256];
     let mut values = [0i32; 256];
     let size = rows.len();
@@ -255,6 +201,7 @@ pub fn nonlinearity(n: u32, m: u32, rows: &[u16]) -> LeastPair
         n,
         m,
         rows,
+        i,
         &mut steps[..total],
         &mut table[..size],
         &mut values[..size],

@@ -1,32 +1,17 @@
-// Reads boxes from standard input, each as n and m in a byte and its rows in two, low byte first, and writes the figures of each; then its
-// nonlinearity after one column addition, after a second, and after a third that is refused and leaves the rows standing.
+// Reads box files from standard input, one after the other, and writes the figures of each box over all combinations; then its nonlinearity after
+// one column addition, after a second, and after a third that is refused and leaves the rows standing.
 use algebraic::DegreeFound;
 use avalanche::LargestChange;
+use boxfile::BoxFile;
 use differential::LargestCell;
 use libc::STDOUT_FILENO;
 use linear::LeastPair;
 use refusals::Verdict;
 use refusals::Written;
-ghost use Prim.Native.Nat.{_*_, _≤_};
-ghost use lib.ListN.{length};
+ghost use Prim.Native.Nat.{_≤_};
 
-// A row from its two bytes.
-fn row_of(low: u8, high: u8) -> u16 {
-    low as u16 + 256 * (high as u16)
-}
-
-fn read_rows(bytes: &[u8], rows: &mut [u16])
-    requires { ⌜ 2 * length (now rows) ≤ length (now bytes) ⌝ }
-{
-    let mut x = 0;
-    while x < rows.len() {
-        rows[x] = row_of(bytes[2 * x], bytes[2 * x + 1]);
-        x += 1;
-    }
-}
-
-fn show_nonlinearity(n: u32, m: u32, rows: &[u16]) {
-    let answer = linear::nonlinearity(n, m, rows);
+fn show_nonlinearity(n: u32, m: u32, rows: &[u32]) {
+    let answer = linear::nonlinearity(n, m, rows, m);
     let LeastPair::Reached { count, c, w, b } = answer else {
         if let LeastPair::Declined(e) = answer {
             lines::write_refused(e);
@@ -41,7 +26,7 @@ fn show_nonlinearity(n: u32, m: u32, rows: &[u16]) {
     lines::end_line();
 }
 
-fn show_largest_cell(n: u32, m: u32, rows: &[u16]) {
+fn show_largest_cell(n: u32, m: u32, rows: &[u32]) {
     let answer = differential::largest_cell(n, m, rows);
     let LargestCell::Reached { count, a, beta } = answer else {
         return;
@@ -63,9 +48,9 @@ fn show_change(answer: LargestChange) {
     lines::end_line();
 }
 
-fn show_changes(n: u32, m: u32, rows: &[u16]) {
+fn show_changes(n: u32, m: u32, rows: &[u32]) {
     io::write_all(STDOUT_FILENO, b"autocorrelation");
-    show_change(avalanche::autocorrelation(n, m, rows));
+    show_change(avalanche::autocorrelation(n, m, rows, m));
     io::write_all(STDOUT_FILENO, b"sac");
     show_change(avalanche::dynamic_distance(n, m, rows, 1, 1));
     io::write_all(STDOUT_FILENO, b"bic");
@@ -81,8 +66,8 @@ fn show_verdict(answer: Verdict) {
     lines::end_line();
 }
 
-fn show_degree(n: u32, m: u32, rows: &[u16]) {
-    let answer = algebraic::degree(n, m, rows);
+fn show_degree(n: u32, m: u32, rows: &[u32]) {
+    let answer = algebraic::degree(n, m, rows, m);
     let DegreeFound::Reached { degree, c } = answer else {
         return;
     };
@@ -97,8 +82,8 @@ fn show_degree(n: u32, m: u32, rows: &[u16]) {
 }
 
 // The nonlinearity of the rows that stand after an addition to column m + 1, which no box has.
-fn show_refused(n: u32, m: u32, rows: &[u16]) {
-    let mut new = [0u16; 256];
+fn show_refused(n: u32, m: u32, rows: &[u32]) {
+    let mut new = [0u32; 256];
     let size = lines::smaller(rows.len(), 256);
     let answer = columns::add_to_column(n, m, rows, m % 65536 + 1, 0, 0, &mut new[..size]);
     if let Written::Declined(e) = answer {
@@ -107,14 +92,14 @@ fn show_refused(n: u32, m: u32, rows: &[u16]) {
     }
 }
 
-fn show_and_refuse(n: u32, m: u32, rows: &[u16]) {
+fn show_and_refuse(n: u32, m: u32, rows: &[u32]) {
     show_nonlinearity(n, m, rows);
     show_refused(n, m, rows);
 }
 
 // After inputs 1 and 3 are added to column m.
-fn show_second(n: u32, m: u32, rows: &[u16]) {
-    let mut new = [0u16; 256];
+fn show_second(n: u32, m: u32, rows: &[u32]) {
+    let mut new = [0u32; 256];
     let size = lines::smaller(rows.len(), 256);
     let answer = columns::add_to_column(n, m, rows, m, 5, 0, &mut new[..size]);
     let Written::Done = answer else {
@@ -123,14 +108,14 @@ fn show_second(n: u32, m: u32, rows: &[u16]) {
     show_and_refuse(n, m, &new[..size]);
 }
 
-fn show_and_add(n: u32, m: u32, rows: &[u16]) {
+fn show_and_add(n: u32, m: u32, rows: &[u32]) {
     show_nonlinearity(n, m, rows);
     show_second(n, m, rows);
 }
 
 // After input 1 and the constant 1 are added to column 1.
-fn show_first(n: u32, m: u32, rows: &[u16]) {
-    let mut new = [0u16; 256];
+fn show_first(n: u32, m: u32, rows: &[u32]) {
+    let mut new = [0u32; 256];
     let size = lines::smaller(rows.len(), 256);
     let answer = columns::add_to_column(n, m, rows, 1, 1, 1, &mut new[..size]);
     let Written::Done = answer else {
@@ -139,7 +124,7 @@ fn show_first(n: u32, m: u32, rows: &[u16]) {
     show_and_add(n, m, &new[..size]);
 }
 
-fn show_box(n: u32, m: u32, rows: &[u16]) {
+fn show_box(n: u32, m: u32, rows: &[u32]) {
     io::write_all(STDOUT_FILENO, b"box");
     lines::write_number(n);
     lines::write_number(m);
@@ -151,33 +136,35 @@ fn show_box(n: u32, m: u32, rows: &[u16]) {
     show_first(n, m, rows);
 }
 
-// The rows of one box.
-fn show_rows(n: u8, m: u8, bytes: &[u8]) {
-    let mut rows = [0u16; 256];
-    let size = lines::smaller(bytes.len() / 2, 256);
-    read_rows(bytes, &mut rows[..size]);
-    show_box(n as u32, m as u32, &rows[..size]);
+// One box file, of a box of so many rows.
+fn show_file(file: &[u8], size: usize)
+    requires { ⌜ size ≤ 256 ⌝ }
+{
+    let mut rows = [0u32; 256];
+    match boxfile::read_box(file, &mut rows[..size]) {
+        BoxFile::Read { n, m } => show_box(n, m, &rows[..size]),
+        BoxFile::Declined(e) => lines::write_refused(e),
+    }
 }
 
-// How many bytes the rows of a box with this width take; a width that no box has takes none.
-fn bytes_of(n: u8) -> usize
-    ensures { λ r. ⌜ r ≤ 512 ⌝ }
+// How many rows a box of this width has; a width that no box has gives none.
+fn rows_of(n: u8) -> usize
+    ensures { λ r. ⌜ r ≤ 256 ⌝ }
 {
     if 8 < n {
         0
     } else {
-        2 * boolean::power_of_two(n as u32)
+        boolean::power_of_two(n as u32)
     }
 }
 
 fn show_boxes(bytes: &[u8]) {
     let mut from = 0;
     while from + 2 <= bytes.len() {
-        let n = bytes[from];
-        let m = bytes[from + 1];
+        let size = rows_of(bytes[from]);
         let start = from + 2;
-        let end = start + lines::smaller(bytes_of(n), bytes.len() - start);
-        show_rows(n, m, &bytes[start..end]);
+        let end = start + lines::smaller(4 * size, bytes.len() - start);
+        show_file(&bytes[from..end], size);
         from = end;
     }
 }

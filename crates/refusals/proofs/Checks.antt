@@ -4,13 +4,14 @@ use Prim.Native.Nat.{ℕ, _^_, _≤_}
 use mathlib.Core.Path.{_≡_, refl, sym, _∙_}
 use mathlib.Core.Bool.{Bool, true, false, not}
 use mathlib.Core.List.{List, [], _∷_, _++_}
-use native.Mathlib.Nat.{le-trans, le-of-eq, zero-lt-suc}
+use native.Mathlib.Nat.{le-refl, le-trans, le-of-eq, zero-lt-suc}
 use borrow.Author.Tests.{not-true, not-false, eqb-true, eq-eqb, ne-eqb}
 use lib.Dec.{eqb}
 use lib.ListN.{length}
 use lib.Pow.{pow-pos, pow-mono}
-use Rattle.refusals.specs.Table.{Check, _unless_, first, boxChecks, tableChecks, Box, Table, figures, refusal, number, replyAfter, contentAfter}
+use Rattle.refusals.specs.Table.{Check, _unless_, first, inRange, boxChecksUpTo, boxChecks, limitChecks, tableChecks, Box, Table, figures, refusal, number, replyAfter, contentAfter}
 use Rattle.refusals.specs.declared.Refusal.{Refusal}
+use Rattle.refusals.specs.declared.Refusal.the-variants.{Parameter}
 use Rattle.refusals.specs.declared.Checked.{Checked}
 use Rattle.refusals.specs.declared.Checked.the-variants.{Accepted, Refused}
 use Rattle.refusals.proofs.Bounds.{range-low, range-high, range-true, below-at, below-true}
@@ -95,30 +96,53 @@ accepted [] p = sym (found end)
 accepted ((e unless ok) ∷ cs) p = first-passed e ok cs (p .0) ∙ accepted cs (p .1)
 
 -- What an accepted table that begins with the lines of a box, or of a truth table, says; and back.
-pub box : (n m : ℕ) (rows : List ℕ) (more : List Check) → first (boxChecks n m rows ++ more) ≡ Accepted → Box n m rows
-box n m rows more h =
-    let p = passed (boxChecks n m rows) (accepted-before (boxChecks n m rows) more h) in
+pub box-up-to : (most n m : ℕ) (rows : List ℕ) (more : List Check) → most ≤ 32 → first (boxChecksUpTo most n m rows ++ more) ≡ Accepted → Box n m rows
+box-up-to most n m rows more few h =
+    let p = passed (boxChecksUpTo most n m rows) (accepted-before (boxChecksUpTo most n m rows) more h) in
     let n-high : n ≤ 8 = range-high 1 8 n (p .0) in
     let size : length rows ≡ 2 ^ n = eqb-true (length rows) (2 ^ n) (p .1 .1 .0) in
     record {
       n-low = range-low 1 8 n (p .0);
       n-high = n-high;
-      m-low = range-low 1 16 m (p .1 .0);
-      m-high = range-high 1 16 m (p .1 .0);
+      m-low = range-low 1 most m (p .1 .0);
+      m-high = le-trans (range-high 1 most m (p .1 .0)) few;
       size = size;
       small = le-trans (le-of-eq size) (pow-mono n-high);
       below = below-at (2 ^ m) rows (pow-pos m) (p .1 .1 .1 .0);
     }
+
+pub box : (n m : ℕ) (rows : List ℕ) (more : List Check) → first (boxChecks n m rows ++ more) ≡ Accepted → Box n m rows
+box n m rows more h = box-up-to 32 n m rows more (le-refl 32) h
+
+-- and where fewer outputs are taken, there are no more than that
+pub few-outputs : (most n m : ℕ) (rows : List ℕ) (more : List Check) → first (boxChecksUpTo most n m rows ++ more) ≡ Accepted → m ≤ most
+few-outputs most n m rows more h = range-high 1 most m (passed (boxChecksUpTo most n m rows) (accepted-before (boxChecksUpTo most n m rows) more h) .1 .0)
+
+-- the limit of an accepted call on combinations
+pub record Limited (n m : ℕ) (rows : List ℕ) (i : ℕ) : Type 0 where
+  pub box : Box n m rows
+  pub i-low : 1 ≤ i
+  pub i-high : i ≤ m
+
+pub limited : (n m : ℕ) (rows : List ℕ) (i : ℕ) → first (limitChecks n m rows i) ≡ Accepted → Limited n m rows i
+unfolding limitChecks
+limited n m rows i h =
+    let p = passed ((Parameter unless inRange 1 m i) ∷ []) (accepted-after (boxChecks n m rows) ((Parameter unless inRange 1 m i) ∷ []) h) in
+    record { box = box n m rows _ h; i-low = range-low 1 m i (p .0); i-high = range-high 1 m i (p .0) }
 
 pub box-accepted : (n m : ℕ) (rows : List ℕ) → Box n m rows → first (boxChecks n m rows) ≡ Accepted
 box-accepted n m rows b =
     accepted (boxChecks n m rows) (
       range-true 1 8 n (b .n-low) (b .n-high),
       (
-        range-true 1 16 m (b .m-low) (b .m-high),
+        range-true 1 32 m (b .m-low) (b .m-high),
         (eq-eqb (length rows) (2 ^ n) (b .size), (below-true (2 ^ m) rows (λ x l. b .below x), tt)),
       ),
     )
+
+pub limit-accepted : (n m : ℕ) (rows : List ℕ) (i : ℕ) → Limited n m rows i → first (limitChecks n m rows i) ≡ Accepted
+unfolding limitChecks
+limit-accepted n m rows i l = sym (found-after _ (box-accepted n m rows (l .box)) (skip (range-true 1 m i (l .i-low) (l .i-high)) end))
 
 pub table : (n : ℕ) (values : List ℕ) (more : List Check) → first (tableChecks n values ++ more) ≡ Accepted → Table n values
 table n values more h =

@@ -31,7 +31,7 @@ last-passed true true false d t h = let e : found (Refused ReadLength) ≡ found
 last-passed true false c d t h = let e : found (Refused OutputWidth) ≡ found (Refused Value) = ap found h in omega arith
 last-passed false b c d t h = let e : found (Refused InputWidth) ≡ found (Refused Value) = ap found h in omega arith
 
--- "at m = 16 no row can give 4": a row is a number of 16 bits
-pub sixteen-outputs : (n : ℕ) (rows : List ℕ) → ((x : ℕ) → x < length rows → at rows x < 2 ^ 16) → first (boxChecks n 16 rows) ≡ Refused Value → ⊥
-sixteen-outputs n rows small h =
-    last-passed (inRange 1 8 n) (inRange 1 16 16) (eqb (length rows) (2 ^ n)) (allBelow (2 ^ 16) rows) (below-true (2 ^ 16) rows small) h
+-- At m = 32 no row can give 4: a row is a number of 32 bits.
+pub thirty-two-outputs : (n : ℕ) (rows : List ℕ) → ((x : ℕ) → x < length rows → at rows x < 2 ^ 32) → first (boxChecks n 32 rows) ≡ Refused Value → ⊥
+thirty-two-outputs n rows small h =
+    last-passed (inRange 1 8 n) (inRange 1 32 32) (eqb (length rows) (2 ^ n)) (allBelow (2 ^ 32) rows) (below-true (2 ^ 32) rows small) h

@@ -47,14 +47,22 @@ inRange lo hi a = leb lo a && leb a hi
 abbrev pub allBelow : ℕ → List ℕ → Bool
 allBelow limit xs = every (λ x. ltb x limit) xs
 
--- the checks of a box: n inputs, m outputs, 2^n rows below 2^m
-abbrev pub boxChecks : ℕ → ℕ → List ℕ → List Check
-boxChecks n m rows =
+-- the checks of a box where at most so many outputs are taken: n inputs, m outputs, 2^n rows below 2^m
+abbrev pub boxChecksUpTo : ℕ → ℕ → ℕ → List ℕ → List Check
+boxChecksUpTo most n m rows =
     (InputWidth unless inRange 1 8 n)
-    ∷ (OutputWidth unless inRange 1 16 m)
+    ∷ (OutputWidth unless inRange 1 most m)
     ∷ (ReadLength unless eqb (length rows) (2 ^ n))
     ∷ (Value unless allBelow (2 ^ m) rows)
     ∷ []
+
+-- the checks of a box: a call takes up to 32 outputs, unless it says otherwise
+abbrev pub boxChecks : ℕ → ℕ → List ℕ → List Check
+boxChecks n m rows = boxChecksUpTo 32 n m rows
+
+-- the checks of a call on the combinations of at most i outputs: the box's, then i
+unfoldable pub limitChecks : ℕ → ℕ → List ℕ → ℕ → List Check
+limitChecks n m rows i = boxChecks n m rows ++ ((Parameter unless inRange 1 m i) ∷ [])
 
 -- the checks of a truth table: n inputs, 2^n values of 0 or 1
 abbrev pub tableChecks : ℕ → List ℕ → List Check
@@ -106,7 +114,7 @@ pub record Box (n m : ℕ) (rows : List ℕ) : Type 0 where
   pub n-low : 1 ≤ n
   pub n-high : n ≤ 8
   pub m-low : 1 ≤ m
-  pub m-high : m ≤ 16
+  pub m-high : m ≤ 32
   pub size : length rows ≡ 2 ^ n
   pub small : length rows ≤ 256
   pub below : (x : ℕ) → at rows x < 2 ^ m

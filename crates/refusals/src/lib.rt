@@ -1,6 +1,7 @@
 // The numbered refusals, the checks that many calls share, and the answer of a call that only writes.
 ghost use mathlib.Core.Path.{_≡_};
-ghost use Rattle.refusals.specs.Table.{number, first, inRange, allBelow, boxChecks, tableChecks, tableCallChecks};
+ghost use Prim.Native.Nat.{_≤_};
+ghost use Rattle.refusals.specs.Table.{number, first, inRange, allBelow, boxChecksUpTo, boxChecks, limitChecks, tableChecks, tableCallChecks};
 
 pub enum Refusal {
     InputWidth,
@@ -63,7 +64,7 @@ pub fn in_range(lo: u32, hi: u32, a: u32) -> bool
 }
 
 // Whether every row is below the limit.
-pub fn rows_below(rows: &[u16], limit: usize) -> bool
+pub fn rows_below(rows: &[u32], limit: usize) -> bool
     ensures { λ r. ⌜ r ≡ allBelow limit (now (rows .entry)) ⌝ }
 {
     let mut i = 0;
@@ -90,14 +91,15 @@ pub fn values_below(table: &[u8], limit: usize) -> bool
     true
 }
 
-// The checks 1 to 4 of a box.
-pub fn check_box(n: u32, m: u32, rows: &[u16]) -> Checked
-    ensures { λ r. ⌜ r ≡ first (boxChecks n m (now (rows .entry))) ⌝ }
+// The checks 1 to 4 of a box where at most so many outputs are taken.
+pub fn check_box_up_to(most: u32, n: u32, m: u32, rows: &[u32]) -> Checked
+    requires { ⌜ most ≤ 32 ⌝ }
+    ensures { λ r. ⌜ r ≡ first (boxChecksUpTo most n m (now (rows .entry))) ⌝ }
 {
     if !in_range(1, 8, n) {
         return Checked::Refused(Refusal::InputWidth);
     }
-    if !in_range(1, 16, m) {
+    if !in_range(1, most, m) {
         return Checked::Refused(Refusal::OutputWidth);
     }
     if rows.len() != boolean::power_of_two(n) {
@@ -105,6 +107,26 @@ pub fn check_box(n: u32, m: u32, rows: &[u16]) -> Checked
     }
     if !rows_below(rows, boolean::power_of_two(m)) {
         return Checked::Refused(Refusal::Value);
+    }
+    Checked::Accepted
+}
+
+// The checks 1 to 4 of a box.
+pub fn check_box(n: u32, m: u32, rows: &[u32]) -> Checked
+    ensures { λ r. ⌜ r ≡ first (boxChecks n m (now (rows .entry))) ⌝ }
+{
+    check_box_up_to(32, n, m, rows)
+}
+
+// The checks 1 to 4 of a box, and 6 for the limit on its combinations.
+pub fn check_limited(n: u32, m: u32, rows: &[u32], i: u32) -> Checked
+    ensures { λ r. ⌜ r ≡ first (limitChecks n m (now (rows .entry)) i) ⌝ }
+{
+    if let Checked::Refused(e) = check_box(n, m, rows) {
+        return Checked::Refused(e);
+    }
+    if !in_range(1, m, i) {
+        return Checked::Refused(Refusal::Parameter);
     }
     Checked::Accepted
 }

@@ -150,7 +150,7 @@ pub extern "C" fn satmegwo_inverse_spectrum(n: u32, values: &[i32], table: &mut 
 pub extern "C" fn satmegwo_component_spectrum(
     n: u32,
     m: u32,
-    rows: &[u16],
+    rows: &[u32],
     c: u32,
     out: &mut [i32],
 ) -> u32
@@ -160,13 +160,19 @@ pub extern "C" fn satmegwo_component_spectrum(
     status_of(linear::spectrum_of_component(n, m, rows, c, out))
 }
 
-// The nonlinearity of a box, with c, w and b.
+// The nonlinearity of a box over its combinations of at most i outputs, with c, w and b.
 #[no_mangle]
-pub extern "C" fn satmegwo_nonlinearity(n: u32, m: u32, rows: &[u16], figures: &mut [u32]) -> u32
-    ensures number { λ r. ⌜ r ≡ status (lent (nonlinearityReply n m (now (rows .entry))) (length (now (figures .entry)))) ⌝ }
-    ensures content { λ r. ⌜ now (figures .exit) ≡ figuresAfter (lent (nonlinearityReply n m (now (rows .entry))) (length (now (figures .entry)))) (now (figures .entry)) ⌝ }
+pub extern "C" fn satmegwo_nonlinearity(
+    n: u32,
+    m: u32,
+    rows: &[u32],
+    i: u32,
+    figures: &mut [u32],
+) -> u32
+    ensures number { λ r. ⌜ r ≡ status (lent (nonlinearityReply n m (now (rows .entry)) i) (length (now (figures .entry)))) ⌝ }
+    ensures content { λ r. ⌜ now (figures .exit) ≡ figuresAfter (lent (nonlinearityReply n m (now (rows .entry)) i) (length (now (figures .entry)))) (now (figures .entry)) ⌝ }
 {
-    give_pair(linear::nonlinearity(n, m, rows), figures)
+    give_pair(linear::nonlinearity(n, m, rows, i), figures)
 }
 
 // Adds the affine function (w, b) to column j.
@@ -174,11 +180,11 @@ pub extern "C" fn satmegwo_nonlinearity(n: u32, m: u32, rows: &[u16], figures: &
 pub extern "C" fn satmegwo_add_to_column(
     n: u32,
     m: u32,
-    rows: &[u16],
+    rows: &[u32],
     j: u32,
     w: u32,
     b: u32,
-    out: &mut [u16],
+    out: &mut [u32],
 ) -> u32
     ensures number { λ r. ⌜ r ≡ status (replyAfter (first (additionChecks n m (now (rows .entry)) j w b (length (now (out .entry))))) []) ⌝ }
     ensures content { λ r. ⌜ now (out .exit) ≡ contentAfter (first (additionChecks n m (now (rows .entry)) j w b (length (now (out .entry))))) (addedRows j w b (now (rows .entry))) (now (out .entry)) ⌝ }
@@ -186,9 +192,9 @@ pub extern "C" fn satmegwo_add_to_column(
     status_of(columns::add_to_column(n, m, rows, j, w, b, out))
 }
 
-// One row of the XOR table.
+// One row of the XOR table of a box of at most 16 outputs.
 #[no_mangle]
-pub extern "C" fn satmegwo_xor_row(n: u32, m: u32, rows: &[u16], a: u32, counts: &mut [u16]) -> u32
+pub extern "C" fn satmegwo_xor_row(n: u32, m: u32, rows: &[u32], a: u32, counts: &mut [u16]) -> u32
     ensures number { λ r. ⌜ r ≡ status (replyAfter (first (rowChecks n m (now (rows .entry)) a (length (now (counts .entry))))) []) ⌝ }
     ensures content { λ r. ⌜ now (counts .exit) ≡ contentAfter (first (rowChecks n m (now (rows .entry)) a (length (now (counts .entry))))) (xorRow n m (now (rows .entry)) a) (now (counts .entry)) ⌝ }
 {
@@ -197,7 +203,7 @@ pub extern "C" fn satmegwo_xor_row(n: u32, m: u32, rows: &[u16], a: u32, counts:
 
 // The largest cell of the XOR table, with a and beta.
 #[no_mangle]
-pub extern "C" fn satmegwo_largest_cell(n: u32, m: u32, rows: &[u16], figures: &mut [u32]) -> u32
+pub extern "C" fn satmegwo_largest_cell(n: u32, m: u32, rows: &[u32], figures: &mut [u32]) -> u32
     ensures number { λ r. ⌜ r ≡ status (lent (xorReply n m (now (rows .entry))) (length (now (figures .entry)))) ⌝ }
     ensures content { λ r. ⌜ now (figures .exit) ≡ figuresAfter (lent (xorReply n m (now (rows .entry))) (length (now (figures .entry)))) (now (figures .entry)) ⌝ }
 {
@@ -209,8 +215,8 @@ pub extern "C" fn satmegwo_largest_cell(n: u32, m: u32, rows: &[u16], figures: &
 pub extern "C" fn satmegwo_largest_cells(
     n: u32,
     m: u32,
-    rows: &[u16],
-    list: &mut [u32],
+    rows: &[u32],
+    list: &mut [u64],
     figures: &mut [u32],
 ) -> u32
     ensures number { λ r. ⌜ r ≡ status (replyAfter (first (cellsChecks n m (now (rows .entry)) (length (now (figures .entry))) (length (now (list .entry))))) (length (largestCells n m (now (rows .entry))) ∷ [])) ⌝ }
@@ -226,13 +232,19 @@ pub extern "C" fn satmegwo_largest_cells(
     }
 }
 
-// The largest |r(s)|, with c and s.
+// The largest |r(s)| over the combinations of at most i outputs, with c and s.
 #[no_mangle]
-pub extern "C" fn satmegwo_autocorrelation(n: u32, m: u32, rows: &[u16], figures: &mut [u32]) -> u32
-    ensures number { λ r. ⌜ r ≡ status (lent (autocorrelationReply n m (now (rows .entry))) (length (now (figures .entry)))) ⌝ }
-    ensures content { λ r. ⌜ now (figures .exit) ≡ figuresAfter (lent (autocorrelationReply n m (now (rows .entry))) (length (now (figures .entry)))) (now (figures .entry)) ⌝ }
+pub extern "C" fn satmegwo_autocorrelation(
+    n: u32,
+    m: u32,
+    rows: &[u32],
+    i: u32,
+    figures: &mut [u32],
+) -> u32
+    ensures number { λ r. ⌜ r ≡ status (lent (autocorrelationReply n m (now (rows .entry)) i) (length (now (figures .entry)))) ⌝ }
+    ensures content { λ r. ⌜ now (figures .exit) ≡ figuresAfter (lent (autocorrelationReply n m (now (rows .entry)) i) (length (now (figures .entry)))) (now (figures .entry)) ⌝ }
 {
-    give_change(avalanche::autocorrelation(n, m, rows), figures)
+    give_change(avalanche::autocorrelation(n, m, rows, i), figures)
 }
 
 // The dynamic distance of order (i, j), doubled, with c and d.
@@ -240,7 +252,7 @@ pub extern "C" fn satmegwo_autocorrelation(n: u32, m: u32, rows: &[u16], figures
 pub extern "C" fn satmegwo_dynamic_distance(
     n: u32,
     m: u32,
-    rows: &[u16],
+    rows: &[u32],
     i: u32,
     j: u32,
     figures: &mut [u32],
@@ -260,18 +272,18 @@ pub extern "C" fn satmegwo_normal_form(n: u32, table: &[u8], out: &mut [u8]) -> 
     status_of(algebraic::normal_form(n, table, out))
 }
 
-// The degree of a box.
+// The least degree of the combinations of at most i outputs, with c.
 #[no_mangle]
-pub extern "C" fn satmegwo_degree(n: u32, m: u32, rows: &[u16], figures: &mut [u32]) -> u32
-    ensures number { λ r. ⌜ r ≡ status (lent (boxDegreeReply n m (now (rows .entry))) (length (now (figures .entry)))) ⌝ }
-    ensures content { λ r. ⌜ now (figures .exit) ≡ figuresAfter (lent (boxDegreeReply n m (now (rows .entry))) (length (now (figures .entry)))) (now (figures .entry)) ⌝ }
+pub extern "C" fn satmegwo_degree(n: u32, m: u32, rows: &[u32], i: u32, figures: &mut [u32]) -> u32
+    ensures number { λ r. ⌜ r ≡ status (lent (boxDegreeReply n m (now (rows .entry)) i) (length (now (figures .entry)))) ⌝ }
+    ensures content { λ r. ⌜ now (figures .exit) ≡ figuresAfter (lent (boxDegreeReply n m (now (rows .entry)) i) (length (now (figures .entry)))) (now (figures .entry)) ⌝ }
 {
-    give_degree(algebraic::degree(n, m, rows), figures)
+    give_degree(algebraic::degree(n, m, rows, i), figures)
 }
 
 // Whether every input bit changes every column.
 #[no_mangle]
-pub extern "C" fn satmegwo_complete(n: u32, m: u32, rows: &[u16], figures: &mut [u32]) -> u32
+pub extern "C" fn satmegwo_complete(n: u32, m: u32, rows: &[u32], figures: &mut [u32]) -> u32
     ensures number { λ r. ⌜ r ≡ status (lent (completeReply n m (now (rows .entry))) (length (now (figures .entry)))) ⌝ }
     ensures content { λ r. ⌜ now (figures .exit) ≡ figuresAfter (lent (completeReply n m (now (rows .entry))) (length (now (figures .entry)))) (now (figures .entry)) ⌝ }
 {
@@ -280,7 +292,7 @@ pub extern "C" fn satmegwo_complete(n: u32, m: u32, rows: &[u16], figures: &mut 
 
 // Whether n = m and no two rows are equal.
 #[no_mangle]
-pub extern "C" fn satmegwo_bijective(n: u32, m: u32, rows: &[u16], figures: &mut [u32]) -> u32
+pub extern "C" fn satmegwo_bijective(n: u32, m: u32, rows: &[u32], figures: &mut [u32]) -> u32
     ensures number { λ r. ⌜ r ≡ status (lent (bijectiveReply n m (now (rows .entry))) (length (now (figures .entry)))) ⌝ }
     ensures content { λ r. ⌜ now (figures .exit) ≡ figuresAfter (lent (bijectiveReply n m (now (rows .entry))) (length (now (figures .entry)))) (now (figures .entry)) ⌝ }
 {
@@ -306,10 +318,10 @@ pub extern "C" fn satmegwo_enlarge_column(
 #[no_mangle]
 pub extern "C" fn satmegwo_enlarge_box(
     n: u32,
-    rows: &[u16],
+    rows: &[u32],
     table: &[u8],
     k: u32,
-    out: &mut [u16],
+    out: &mut [u32],
 ) -> u32
     ensures number { λ r. ⌜ r ≡ status (replyAfter (first (enlargeChecks n (now (rows .entry)) (now (table .entry)) k (length (now (out .entry))))) []) ⌝ }
     ensures content { λ r. ⌜ now (out .exit) ≡ contentAfter (first (enlargeChecks n (now (rows .entry)) (now (table .entry)) k (length (now (out .entry))))) (enlargedRows n (now (rows .entry)) (now (table .entry)) k) (now (out .entry)) ⌝ }
@@ -333,7 +345,7 @@ pub extern "C" fn satmegwo_bent_function(
 
 // Reads a box file: the rows go to one array, n and m to another. Neither is written to unless both can be.
 #[no_mangle]
-pub extern "C" fn satmegwo_read_box(file: &[u8], rows: &mut [u16], figures: &mut [u32]) -> u32
+pub extern "C" fn satmegwo_read_box(file: &[u8], rows: &mut [u32], figures: &mut [u32]) -> u32
     ensures number { λ r. ⌜ r ≡ status (replyAfter (first (readBoxChecks (now (file .entry)) (length (now (rows .entry))) (length (now (figures .entry))))) (at (now (file .entry)) 0 ∷ at (now (file .entry)) 1 ∷ [])) ⌝ }
     ensures content { λ r. ⌜ now (figures .exit) ≡ contentAfter (first (readBoxChecks (now (file .entry)) (length (now (rows .entry))) (length (now (figures .entry))))) (at (now (file .entry)) 0 ∷ at (now (file .entry)) 1 ∷ []) (now (figures .entry)) ⌝ }
     ensures rows { λ r. ⌜ now (rows .exit) ≡ contentAfter (first (readBoxChecks (now (file .entry)) (length (now (rows .entry))) (length (now (figures .entry))))) (rowsOf (now (file .entry)) (at (now (file .entry)) 0)) (now (rows .entry)) ⌝ }

@@ -7,7 +7,7 @@ use borrow.Author.Tests.{eq-eqb, ne-eqb}
 use Rattle.boolean.specs.Sums.{each}
 use Rattle.refusals.specs.Table.{Reply, figures, refusal}
 use Rattle.texts.specs.Text.{bytes, spaced, line}
-use Rattle.sheet.specs.Sheet.{numbers, decided, prints, stops, outcome, yesOrNo, bicLine}
+use Rattle.sheet.specs.Sheet.{numbers, limited, decided, prints, stops, outcome, yesOrNo, bicLine}
 use Rattle.avalanche.specs.Calls.{distanceReply}
 
 -- a line without figures is its word and the line's end
@@ -39,6 +39,16 @@ module _ (word : String) {reply : Reply} where
   pub decided-no : reply ≡ figures (0 ∷ []) → outcome (decided word reply) ≡ prints (bytes word ++ bytes " no\n")
   unfolding outcome yesOrNo
   decided-no h = rw h (ap prints (line-of-word (bytes word ++ bytes " no") ∙ append-assoc (bytes word) (bytes " no") (bytes "\n")))
+
+-- a figure that was asked for within i, where i is the limit of the line
+module _ (word : String) (ask : ℕ → Reply) {i limit : ℕ} (same : i ≡ limit) where
+  pub limited-refused : {k : ℕ} → ask i ≡ refusal k → outcome (limited word (ask limit) limit) ≡ stops
+  unfolding outcome
+  limited-refused h = rw (← same, h)
+
+  pub limited-shown : {given : List ℕ} → ask i ≡ figures given → outcome (limited word (ask limit) limit) ≡ prints (line (bytes word) (given ++ (i ∷ [])))
+  unfolding outcome
+  limited-shown h = rw (← same, h, ← same)
 
 -- the sixth line: with m = 1 there is no figure, and else it shows one
 module _ (n m : ℕ) (rows : List ℕ) where

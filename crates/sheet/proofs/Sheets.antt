@@ -48,7 +48,7 @@ module _ (file : List ℕ) where
 
   -- the text that the sheet stands in from its start on
   abbrev pub Sheet : ℕ → List ℕ → List ℕ → Type 0
-  Sheet r old new = (r ≡ length (sheetText file)) × (r ≤ 299) × (new ≡ sets old 0 (sheetText file))
+  Sheet r old new = (r ≡ length (sheetText file)) × (r ≤ 332) × (new ≡ sets old 0 (sheetText file))
 
   pub wrote-refused : (old : List ℕ) {k r : ℕ} {new : List ℕ} → fileReply file ≡ refusal k → r ≡ 0 + length (line (bytes "refused") (k ∷ []))
       → new ≡ sets old 0 (line (bytes "refused") (k ∷ [])) → Sheet r old new
@@ -58,7 +58,7 @@ module _ (file : List ℕ) where
 
   pub wrote-box : (old : List ℕ) {n m : ℕ} {rows : List ℕ} {next r : ℕ} {middle new : List ℕ} → fileReply file ≡ figures (n ∷ m ∷ []) → rows ≡ rowsOf file (at file 0)
       → next ≡ 0 + length (line (bytes "box") (n ∷ m ∷ [])) → middle ≡ sets old 0 (line (bytes "box") (n ∷ m ∷ []))
-      → Printed (sheetLines n m rows) 273 next middle r new → Sheet r old new
+      → Printed (sheetLines n m rows) 306 next middle r new → Sheet r old new
   wrote-box old {n} {m} {rows} h rows-are p q t =
       let widths = read-accepted h .1 in
       let n-is : n ≡ at file 0 = ap (λ (l : List ℕ). getD l 0 0) widths in

@@ -1,12 +1,12 @@
 -- What can be relied on of the sheets. Assumes nothing.
-use Prim.Native.Nat.{ℕ, _+_, _*_, _^_, _≤_}
+use Prim.Native.Nat.{ℕ, _+_, _*_, _^_, _≤_, _<_}
 use mathlib.Core.Path.{_≡_, refl, sym, ap, ap₂, _∙_}
 use mathlib.Core.Bool.{Bool, true, false, cond}
 use mathlib.Core.List.{List, [], _∷_, _++_, List·Memᴰ, List·Memᴰ·not-nil}
 use native.Mathlib.Nat.{le-refl}
 use native.Mathlib.Omega.{arith}
-use borrow.Author.Tests.{eqb-false, eq-eqb, ne-eqb, le-leb}
-use lib.Dec.{eqb, leb}
+use borrow.Author.Tests.{eqb-false, eq-eqb, ne-eqb, le-leb, leb-false}
+use lib.Dec.{eqb, leb, lit≤}
 use lib.ListN.{length, take}
 use lib.Pow.{pow-mono}
 use lib.Seq.{getD-take, length-take-le}
@@ -14,43 +14,45 @@ use Rattle.boolean.specs.Sums.{each}
 use Rattle.boolean.specs.Functions.{at}
 use Rattle.boolean.specs.Selection.{shown}
 use Rattle.boolean.proofs.Selection.{of-cons}
-use Rattle.refusals.specs.Table.{first, inRange, boxChecks, figures, refusal, asFigure}
+use Rattle.refusals.specs.Table.{first, inRange, boxChecks, limitChecks, Box, figures, refusal, asFigure}
 use Rattle.refusals.specs.declared.Checked.the-variants.{Accepted}
-use Rattle.refusals.proofs.Bounds.{range-low, range-high, range-true}
-use Rattle.refusals.proofs.Checks.{passed, accepted, found, found-after, skip, stop, end, reply-refused, reply-accepted}
-use Rattle.linear.specs.Nonlinearity.{nonlinearity}
+use Rattle.refusals.proofs.Bounds.{range-high, range-true}
+use Rattle.refusals.proofs.Checks.{passed, accepted, found, found-after, skip, stop, end, box, box-accepted, limit-accepted, reply-refused, reply-accepted}
+use Rattle.linear.specs.Nonlinearity.{nonlinearity, nonlinearityReply}
 use Rattle.differential.specs.XorTable.{largestCell}
 use Rattle.avalanche.specs.Avalanche.{boxAutocorrelation, dynamicDistance, complete}
-use Rattle.avalanche.specs.Calls.{distanceChecks}
+use Rattle.avalanche.specs.Calls.{distanceChecks, autocorrelationReply}
 use Rattle.algebraic.specs.Algebraic.{boxDegree, bijective}
+use Rattle.algebraic.specs.Calls.{boxDegreeReply}
 use Rattle.boxfile.specs.File.{rowsOf, readChecks, fileChecks}
 use Rattle.boxfile.proofs.FileRows.{length-rows}
 use Rattle.texts.specs.Text.{bytes, line}
-use Rattle.sheet.specs.Sheet.{Line, prints, stops, outcome, yesOrNo, untilRefused, bicLine, sheetLines, fileReply, sheetText}
-use Rattle.sheet.proofs.Outcomes.{numbers-shown, decided-shown}
+use Rattle.sheet.specs.Sheet.{Line, prints, stops, outcome, yesOrNo, untilRefused, sheetLimit, bicLine, sheetLines, fileReply, sheetText}
+use Rattle.sheet.proofs.Outcomes.{numbers-shown, limited-shown, decided-shown}
 use Rattle.sheet.proofs.Printing.{until-prints}
 use Rattle.sheet.proofs.Sheets.{read-accepted, sheet-refused, sheet-read}
 
 -- ---- a file that is accepted
 
--- what the checks of an accepted file say of its box
-record Accepted-box (n m : ℕ) (rows : List ℕ) : Type 0 where
-  n-low : 1 ≤ n
-  m-low : 1 ≤ m
-  box : first (boxChecks n m rows) ≡ Accepted
-
-box-of-file : (file : List ℕ) {shows : List ℕ} → fileReply file ≡ figures shows → Accepted-box (at file 0) (at file 1) (rowsOf file (at file 0))
+-- the box of an accepted file is accepted
+box-of-file : (file : List ℕ) {shows : List ℕ} → fileReply file ≡ figures shows → Box (at file 0) (at file 1) (rowsOf file (at file 0))
 unfolding fileChecks readChecks
 box-of-file file h =
     let n = at file 0 in
     let m = at file 1 in
     let rows = rowsOf file n in
     let p = passed (fileChecks file (2 ^ n)) (read-accepted file h .0) in
-    record {
-      n-low = range-low 1 8 n (p .1 .0);
-      m-low = range-low 1 16 m (p .1 .1 .0);
-      box = accepted (boxChecks n m rows) (p .1 .0, (p .1 .1 .0, (eq-eqb (length rows) (2 ^ n) (length-rows file n), (p .1 .1 .1 .1 .0, tt))));
-    }
+    let rows-many = eq-eqb (length rows) (2 ^ n) (length-rows file n) in
+    box n m rows [] (accepted (boxChecks n m rows) (p .1 .0, (p .1 .1 .0, (rows-many, (p .1 .1 .1 .1 .0, tt)))))
+
+-- the limit of the sheet is one that a box of m outputs has
+limit-inside : (m : ℕ) → 1 ≤ m → (1 ≤ sheetLimit m) × (sheetLimit m ≤ m)
+unfolding sheetLimit
+limit-inside m low = by (leb m 16) refl
+  where
+    by : (few : Bool) → leb m 16 ≡ few → (1 ≤ sheetLimit m) × (sheetLimit m ≤ m)
+    by true e = rw e (low, le-refl m)
+    by false e = let many : 16 < m = leb-false m 16 e in rw e (lit≤ tt, omega arith)
 
 -- lines of which each is printed, with their texts
 data Print : List Line → List (List ℕ) → Type 0 where
@@ -69,22 +71,30 @@ print-each (more h t) l i = of-cons (λ (k : Line). outcome k ≡ stops → ⊥)
 -- the texts of a box's lines after the first, where no figure is refused
 abbrev pub textsOf : ℕ → ℕ → List ℕ → List (List ℕ)
 textsOf n m rows =
-    line (bytes "nonlinearity") (shown (nonlinearity n m rows))
+    line (bytes "nonlinearity") (shown (nonlinearity n m rows (sheetLimit m)) ++ (sheetLimit m ∷ []))
     ∷ line (bytes "xor") (shown (largestCell n m rows))
-    ∷ line (bytes "autocorrelation") (shown (boxAutocorrelation n m rows))
+    ∷ line (bytes "autocorrelation") (shown (boxAutocorrelation n m rows (sheetLimit m)) ++ (sheetLimit m ∷ []))
     ∷ line (bytes "sac") (shown (dynamicDistance n m rows 1 1))
     ∷ cond (eqb m 1) (line (bytes "bic none") []) (line (bytes "bic") (shown (dynamicDistance n m rows 2 1)))
-    ∷ line (bytes "degree") (shown (boxDegree n m rows))
+    ∷ line (bytes "degree") (shown (boxDegree n m rows (sheetLimit m)) ++ (sheetLimit m ∷ []))
     ∷ line (bytes "complete" ++ yesOrNo (asFigure (complete n m rows))) []
     ∷ line (bytes "bijective" ++ yesOrNo (asFigure (bijective n m rows))) []
     ∷ []
 
-module _ (n m : ℕ) (rows : List ℕ) (b : Accepted-box n m rows) where
+module _ (n m : ℕ) (rows : List ℕ) (b : Box n m rows) where
+  all-accepted : first (boxChecks n m rows) ≡ Accepted
+  all-accepted = box-accepted n m rows b
+
+  within-accepted : first (limitChecks n m rows (sheetLimit m)) ≡ Accepted
+  within-accepted =
+      let inside = limit-inside m (b .m-low) in
+      limit-accepted n m rows (sheetLimit m) (record { box = b; i-low = inside .0; i-high = inside .1 })
+
   -- an order (i, j) that a box of m outputs has is accepted
   order-accepted : (i j : ℕ) → 1 ≤ i → i ≤ m → 1 ≤ j → j ≤ n → first (distanceChecks n m rows i j) ≡ Accepted
   unfolding distanceChecks
   order-accepted i j i-low i-high j-low j-high =
-      sym (found-after (boxChecks n m rows) (b .box) (skip (range-true 1 m i i-low i-high) (skip (range-true 1 n j j-low j-high) end)))
+      sym (found-after (boxChecks n m rows) all-accepted (skip (range-true 1 m i i-low i-high) (skip (range-true 1 n j j-low j-high) end)))
 
   abbrev bicText : List ℕ
   bicText = cond (eqb m 1) (line (bytes "bic none") []) (line (bytes "bic") (shown (dynamicDistance n m rows 2 1)))
@@ -102,14 +112,14 @@ module _ (n m : ℕ) (rows : List ℕ) (b : Accepted-box n m rows) where
   lines-printed : Print (sheetLines n m rows) (textsOf n m rows)
   unfolding sheetLines
   lines-printed =
-      more (numbers-shown "nonlinearity" (sym (reply-accepted (b .box) _)))
-      (more (numbers-shown "xor" (sym (reply-accepted (b .box) _)))
-      (more (numbers-shown "autocorrelation" (sym (reply-accepted (b .box) _)))
+      more (limited-shown "nonlinearity" (nonlinearityReply n m rows) refl (sym (reply-accepted within-accepted _)))
+      (more (numbers-shown "xor" (sym (reply-accepted all-accepted _)))
+      (more (limited-shown "autocorrelation" (autocorrelationReply n m rows) refl (sym (reply-accepted within-accepted _)))
       (more (numbers-shown "sac" (sym (reply-accepted (order-accepted 1 1 (le-refl 1) (b .m-low) (le-refl 1) (b .n-low)) _)))
       (more bic-printed
-      (more (numbers-shown "degree" (sym (reply-accepted (b .box) _)))
-      (more (decided-shown "complete" (sym (reply-accepted (b .box) _)))
-      (more (decided-shown "bijective" (sym (reply-accepted (b .box) _)))
+      (more (limited-shown "degree" (boxDegreeReply n m rows) refl (sym (reply-accepted within-accepted _)))
+      (more (decided-shown "complete" (sym (reply-accepted all-accepted _)))
+      (more (decided-shown "bijective" (sym (reply-accepted all-accepted _)))
       none)))))))
 
 -- After an accepted file no figure is refused: of the lines of its sheet none stops it.
@@ -130,24 +140,24 @@ nine-lines file h =
 
 -- the number of a file that is longer than that of any box: what n and m say, and else 10
 abbrev pub longNumber : ℕ → ℕ → ℕ
-longNumber n m = cond (inRange 1 8 n) (cond (inRange 1 16 m) 10 2) 1
+longNumber n m = cond (inRange 1 8 n) (cond (inRange 1 32 m) 10 2) 1
 
--- no box has a file of 515 bytes or more
-too-long : (file : List ℕ) → 515 ≤ length file → inRange 1 8 (at file 0) ≡ true → eqb (length file) (2 + 2 * 2 ^ at file 0) ≡ false
+-- no box has a file of 1,027 bytes or more
+too-long : (file : List ℕ) → 1027 ≤ length file → inRange 1 8 (at file 0) ≡ true → eqb (length file) (2 + 4 * 2 ^ at file 0) ≡ false
 too-long file long h =
     let high : at file 0 ≤ 8 = range-high 1 8 (at file 0) h in
     let most : 2 ^ at file 0 ≤ 256 = pow-mono high in
-    ne-eqb (length file) (2 + 2 * 2 ^ at file 0) (λ e. omega arith)
+    ne-eqb (length file) (2 + 4 * 2 ^ at file 0) (λ e. omega arith)
 
--- A file of 515 bytes or more is refused, and by its first two bytes alone.
-pub long-file-refused : (file : List ℕ) → 515 ≤ length file → fileReply file ≡ refusal (longNumber (at file 0) (at file 1))
+-- A file of 1,027 bytes or more is refused, and by its first two bytes alone.
+pub long-file-refused : (file : List ℕ) → 1027 ≤ length file → fileReply file ≡ refusal (longNumber (at file 0) (at file 1))
 unfolding fileReply fileChecks readChecks
-long-file-refused file long = by (inRange 1 8 (at file 0)) (inRange 1 16 (at file 1)) refl refl
+long-file-refused file long = by (inRange 1 8 (at file 0)) (inRange 1 32 (at file 1)) refl refl
   where
     two : leb 2 (length file) ≡ true
     two = le-leb 2 (length file) (omega arith)
 
-    by : (a b : Bool) → inRange 1 8 (at file 0) ≡ a → inRange 1 16 (at file 1) ≡ b → fileReply file ≡ refusal (longNumber (at file 0) (at file 1))
+    by : (a b : Bool) → inRange 1 8 (at file 0) ≡ a → inRange 1 32 (at file 1) ≡ b → fileReply file ≡ refusal (longNumber (at file 0) (at file 1))
     by true true p q =
         let ten : longNumber (at file 0) (at file 1) ≡ 10 = rw (p, q) in
         sym (reply-refused (sym (found (skip two (skip p (skip q (stop (too-long file long p))))))) _) ∙ ap refusal (sym ten)
@@ -158,13 +168,13 @@ long-file-refused file long = by (inRange 1 8 (at file 0)) (inRange 1 16 (at fil
         let inputs : longNumber (at file 0) (at file 1) ≡ 1 = rw p in
         sym (reply-refused (sym (found (skip two (stop p)))) _) ∙ ap refusal (sym inputs)
 
--- What a file of 515 bytes or more has past them changes nothing: the program may stop reading there.
-pub only-the-start-matters : (file : List ℕ) → 515 ≤ length file → sheetText (take 515 file) ≡ sheetText file
+-- What a file of 1,027 bytes or more has past them changes nothing: the program may stop reading there.
+pub only-the-start-matters : (file : List ℕ) → 1027 ≤ length file → sheetText (take 1027 file) ≡ sheetText file
 only-the-start-matters file long =
-    let start = take 515 file in
-    let start-long : 515 ≤ length start = omega (arith, length-take-le 515 file long) in
-    let n-same : at start 0 ≡ at file 0 = getD-take 515 file 0 0 (omega arith) in
-    let m-same : at start 1 ≡ at file 1 = getD-take 515 file 1 0 (omega arith) in
+    let start = take 1027 file in
+    let start-long : 1027 ≤ length start = omega (arith, length-take-le 1027 file long) in
+    let n-same : at start 0 ≡ at file 0 = getD-take 1027 file 0 0 (omega arith) in
+    let m-same : at start 1 ≡ at file 1 = getD-take 1027 file 1 0 (omega arith) in
     sheet-refused start (long-file-refused start start-long)
     ∙ ap₂ (λ (n m : ℕ). line (bytes "refused") (longNumber n m ∷ [])) n-same m-same
     ∙ sym (sheet-refused file (long-file-refused file long))

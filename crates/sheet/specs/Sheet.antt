@@ -3,7 +3,7 @@ use Prim.Native.Nat.{ℕ, _^_}
 use Prim.Native.String.{String}
 use mathlib.Core.Bool.{cond}
 use mathlib.Core.List.{List, [], _∷_, _++_}
-use lib.Dec.{eqb}
+use lib.Dec.{eqb, leb}
 use Rattle.boolean.specs.Functions.{at}
 use Rattle.refusals.specs.Table.{Reply, figures, refusal, replyAfter, first}
 use Rattle.linear.specs.Nonlinearity.{nonlinearityReply}
@@ -17,6 +17,8 @@ use Rattle.texts.specs.Text.{bytes, line}
 pub data Line : Type 0 where
   -- a word and the figures
   numbers : String → Reply → Line
+  -- a word, the figures, and the limit on combinations within which they were asked for
+  limited : String → Reply → ℕ → Line
   -- a word and yes or no
   decided : String → Reply → Line
   -- a text that is made without a call
@@ -35,6 +37,8 @@ unfoldable pub outcome : Line → Outcome
 unfolding line yesOrNo
 outcome (numbers word (figures given)) = prints (line (bytes word) given)
 outcome (numbers word (refusal k)) = stops
+outcome (limited word (figures given) i) = prints (line (bytes word) (given ++ (i ∷ [])))
+outcome (limited word (refusal k) i) = stops
 outcome (decided word (figures given)) = prints (line (bytes word ++ yesOrNo given) [])
 outcome (decided word (refusal k)) = stops
 outcome (fixed text) = prints (line (bytes text) [])
@@ -45,6 +49,10 @@ unfolding outcome
 untilRefused [] = []
 untilRefused (l ∷ ls) = elim (outcome l) [ prints text ↦ (text ++ untilRefused ls) | stops ↦ [] ]
 
+-- the limit on combinations: all outputs up to 16 of them, and 4 above
+unfoldable pub sheetLimit : ℕ → ℕ
+sheetLimit m = cond (leb m 16) m 4
+
 -- the sixth line: the dynamic distance of order (2, 1); with m = 1 there is none
 abbrev pub bicLine : ℕ → ℕ → List ℕ → Line
 bicLine n m rows = cond (eqb m 1) (fixed "bic none") (numbers "bic" (distanceReply n m rows 2 1))
@@ -52,12 +60,12 @@ bicLine n m rows = cond (eqb m 1) (fixed "bic none") (numbers "bic" (distanceRep
 -- the lines after the first, in the document's order
 unfoldable pub sheetLines : ℕ → ℕ → List ℕ → List Line
 sheetLines n m rows =
-    numbers "nonlinearity" (nonlinearityReply n m rows)
+    limited "nonlinearity" (nonlinearityReply n m rows (sheetLimit m)) (sheetLimit m)
     ∷ numbers "xor" (xorReply n m rows)
-    ∷ numbers "autocorrelation" (autocorrelationReply n m rows)
+    ∷ limited "autocorrelation" (autocorrelationReply n m rows (sheetLimit m)) (sheetLimit m)
     ∷ numbers "sac" (distanceReply n m rows 1 1)
     ∷ bicLine n m rows
-    ∷ numbers "degree" (boxDegreeReply n m rows)
+    ∷ limited "degree" (boxDegreeReply n m rows (sheetLimit m)) (sheetLimit m)
     ∷ decided "complete" (completeReply n m rows)
     ∷ decided "bijective" (bijectiveReply n m rows)
     ∷ []

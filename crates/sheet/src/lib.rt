@@ -9,13 +9,20 @@ ghost use mathlib.Core.Path.{_≡_};
 ghost use Prim.Native.Nat.{_+_, _≤_};
 ghost use lib.ListN.{length, drop};
 ghost use lib.Seq.{sets};
-ghost use Rattle.sheet.specs.Sheet.{sheetLines, sheetText};
+ghost use Rattle.sheet.specs.Sheet.{sheetLimit, sheetLines, sheetText};
 ghost use Rattle.sheet.specs.Work.{Printed, Room};
+
+// The limit on combinations with which the sheet asks for its figures: all outputs up to 16 of them, and 4 above.
+fn limit_of(m: u32) -> u32
+    ensures { λ r. ⌜ r ≡ sheetLimit m ⌝ }
+{
+    if m <= 16 { m } else { 4 }
+}
 
 // Each function below writes the line of one figure and the lines after it, or nothing where its figure is refused. The number in its
 // clauses is how many bytes these lines may take: a word's, eleven for each figure with its space, and the line's end.
 
-fn write_bijective(n: u32, m: u32, rows: &[u16], text: &mut [u8], at: usize) -> usize
+fn write_bijective(n: u32, m: u32, rows: &[u32], text: &mut [u8], at: usize) -> usize
     requires { ⌜ at + 14 ≤ length (now text) ⌝ }
     ensures { λ r. ⌜ Printed (drop 7 (sheetLines n m (now (rows .entry)))) 14 at (now (text .entry)) r (now (text .exit)) ⌝ }
 {
@@ -29,7 +36,7 @@ fn write_bijective(n: u32, m: u32, rows: &[u16], text: &mut [u8], at: usize) -> 
     texts::put_bytes(text, at, b"bijective yes\n")
 }
 
-fn write_from_complete(n: u32, m: u32, rows: &[u16], text: &mut [u8], at: usize) -> usize
+fn write_from_complete(n: u32, m: u32, rows: &[u32], text: &mut [u8], at: usize) -> usize
     requires { ⌜ at + 27 ≤ length (now text) ⌝ }
     ensures { λ r. ⌜ Printed (drop 6 (sheetLines n m (now (rows .entry)))) 27 at (now (text .entry)) r (now (text .exit)) ⌝ }
 {
@@ -45,21 +52,22 @@ fn write_from_complete(n: u32, m: u32, rows: &[u16], text: &mut [u8], at: usize)
     write_bijective(n, m, rows, text, after_yes)
 }
 
-fn write_from_degree(n: u32, m: u32, rows: &[u16], text: &mut [u8], at: usize) -> usize
-    requires { ⌜ at + 56 ≤ length (now text) ⌝ }
-    ensures { λ r. ⌜ Printed (drop 5 (sheetLines n m (now (rows .entry)))) 56 at (now (text .entry)) r (now (text .exit)) ⌝ }
+fn write_from_degree(n: u32, m: u32, rows: &[u32], text: &mut [u8], at: usize) -> usize
+    requires { ⌜ at + 67 ≤ length (now text) ⌝ }
+    ensures { λ r. ⌜ Printed (drop 5 (sheetLines n m (now (rows .entry)))) 67 at (now (text .entry)) r (now (text .exit)) ⌝ }
 {
-    let answer = algebraic::degree(n, m, rows);
+    let i = limit_of(m);
+    let answer = algebraic::degree(n, m, rows, i);
     let DegreeFound::Reached { degree, c } = answer else {
         return at;
     };
-    let next = texts::put_line(text, at, b"degree", &[degree, c]);
+    let next = texts::put_line(text, at, b"degree", &[degree, c, i]);
     write_from_complete(n, m, rows, text, next)
 }
 
-fn write_from_bic(n: u32, m: u32, rows: &[u16], text: &mut [u8], at: usize) -> usize
-    requires { ⌜ at + 93 ≤ length (now text) ⌝ }
-    ensures { λ r. ⌜ Printed (drop 4 (sheetLines n m (now (rows .entry)))) 93 at (now (text .entry)) r (now (text .exit)) ⌝ }
+fn write_from_bic(n: u32, m: u32, rows: &[u32], text: &mut [u8], at: usize) -> usize
+    requires { ⌜ at + 104 ≤ length (now text) ⌝ }
+    ensures { λ r. ⌜ Printed (drop 4 (sheetLines n m (now (rows .entry)))) 104 at (now (text .entry)) r (now (text .exit)) ⌝ }
 {
     if m == 1 {
         let after_none = texts::put_bytes(text, at, b"bic none\n");
@@ -73,9 +81,9 @@ fn write_from_bic(n: u32, m: u32, rows: &[u16], text: &mut [u8], at: usize) -> u
     write_from_degree(n, m, rows, text, next)
 }
 
-fn write_from_sac(n: u32, m: u32, rows: &[u16], text: &mut [u8], at: usize) -> usize
-    requires { ⌜ at + 130 ≤ length (now text) ⌝ }
-    ensures { λ r. ⌜ Printed (drop 3 (sheetLines n m (now (rows .entry)))) 130 at (now (text .entry)) r (now (text .exit)) ⌝ }
+fn write_from_sac(n: u32, m: u32, rows: &[u32], text: &mut [u8], at: usize) -> usize
+    requires { ⌜ at + 141 ≤ length (now text) ⌝ }
+    ensures { λ r. ⌜ Printed (drop 3 (sheetLines n m (now (rows .entry)))) 141 at (now (text .entry)) r (now (text .exit)) ⌝ }
 {
     let answer = avalanche::dynamic_distance(n, m, rows, 1, 1);
     let LargestChange::Reached { figure, c, s } = answer else {
@@ -85,21 +93,22 @@ fn write_from_sac(n: u32, m: u32, rows: &[u16], text: &mut [u8], at: usize) -> u
     write_from_bic(n, m, rows, text, next)
 }
 
-fn write_from_autocorrelation(n: u32, m: u32, rows: &[u16], text: &mut [u8], at: usize) -> usize
-    requires { ⌜ at + 179 ≤ length (now text) ⌝ }
-    ensures { λ r. ⌜ Printed (drop 2 (sheetLines n m (now (rows .entry)))) 179 at (now (text .entry)) r (now (text .exit)) ⌝ }
+fn write_from_autocorrelation(n: u32, m: u32, rows: &[u32], text: &mut [u8], at: usize) -> usize
+    requires { ⌜ at + 201 ≤ length (now text) ⌝ }
+    ensures { λ r. ⌜ Printed (drop 2 (sheetLines n m (now (rows .entry)))) 201 at (now (text .entry)) r (now (text .exit)) ⌝ }
 {
-    let answer = avalanche::autocorrelation(n, m, rows);
+    let i = limit_of(m);
+    let answer = avalanche::autocorrelation(n, m, rows, i);
     let LargestChange::Reached { figure, c, s } = answer else {
         return at;
     };
-    let next = texts::put_line(text, at, b"autocorrelation", &[figure, c, s]);
+    let next = texts::put_line(text, at, b"autocorrelation", &[figure, c, s, i]);
     write_from_sac(n, m, rows, text, next)
 }
 
-fn write_from_xor(n: u32, m: u32, rows: &[u16], text: &mut [u8], at: usize) -> usize
-    requires { ⌜ at + 216 ≤ length (now text) ⌝ }
-    ensures { λ r. ⌜ Printed (drop 1 (sheetLines n m (now (rows .entry)))) 216 at (now (text .entry)) r (now (text .exit)) ⌝ }
+fn write_from_xor(n: u32, m: u32, rows: &[u32], text: &mut [u8], at: usize) -> usize
+    requires { ⌜ at + 238 ≤ length (now text) ⌝ }
+    ensures { λ r. ⌜ Printed (drop 1 (sheetLines n m (now (rows .entry)))) 238 at (now (text .entry)) r (now (text .exit)) ⌝ }
 {
     let answer = differential::largest_cell(n, m, rows);
     let LargestCell::Reached { count, a, beta } = answer else {
@@ -109,15 +118,16 @@ fn write_from_xor(n: u32, m: u32, rows: &[u16], text: &mut [u8], at: usize) -> u
     write_from_autocorrelation(n, m, rows, text, next)
 }
 
-fn write_from_nonlinearity(n: u32, m: u32, rows: &[u16], text: &mut [u8], at: usize) -> usize
-    requires { ⌜ at + 273 ≤ length (now text) ⌝ }
-    ensures { λ r. ⌜ Printed (sheetLines n m (now (rows .entry))) 273 at (now (text .entry)) r (now (text .exit)) ⌝ }
+fn write_from_nonlinearity(n: u32, m: u32, rows: &[u32], text: &mut [u8], at: usize) -> usize
+    requires { ⌜ at + 306 ≤ length (now text) ⌝ }
+    ensures { λ r. ⌜ Printed (sheetLines n m (now (rows .entry))) 306 at (now (text .entry)) r (now (text .exit)) ⌝ }
 {
-    let answer = linear::nonlinearity(n, m, rows);
+    let i = limit_of(m);
+    let answer = linear::nonlinearity(n, m, rows, i);
     let LeastPair::Reached { count, c, w, b } = answer else {
         return at;
     };
-    let next = texts::put_line(text, at, b"nonlinearity", &[count, c, w, b]);
+    let next = texts::put_line(text, at, b"nonlinearity", &[count, c, w, b, i]);
     write_from_xor(n, m, rows, text, next)
 }
 
@@ -136,9 +146,9 @@ fn room_of(file: &[u8]) -> usize
 }
 
 // The sheet of a file, whose rows are read to an array that has room for them.
-fn write_read(file: &[u8], rows: &mut [u16], text: &mut [u8]) -> usize
-    requires { ⌜ Room (now file) (length (now rows)) × (299 ≤ length (now text)) ⌝ }
-    ensures { λ r. ⌜ (r ≡ length (sheetText (now (file .entry)))) × (r ≤ 299) × (now (text .exit) ≡ sets (now (text .entry)) 0 (sheetText (now (file .entry)))) ⌝ }
+fn write_read(file: &[u8], rows: &mut [u32], text: &mut [u8]) -> usize
+    requires { ⌜ Room (now file) (length (now rows)) × (332 ≤ length (now text)) ⌝ }
+    ensures { λ r. ⌜ (r ≡ length (sheetText (now (file .entry)))) × (r ≤ 332) × (now (text .exit) ≡ sets (now (text .entry)) 0 (sheetText (now (file .entry)))) ⌝ }
 {
     let answer = boxfile::read_box(file, rows);
     let BoxFile::Read { n, m } = answer else {
@@ -152,10 +162,10 @@ fn write_read(file: &[u8], rows: &mut [u16], text: &mut [u8]) -> usize
 }
 
 // Writes the sheet of a box file at the start of the lent text, and answers how many bytes it has.
-pub fn write_sheet(file: &[u8], text: &mut [u8; 320]) -> usize
-    ensures { λ r. ⌜ (r ≡ length (sheetText (now (file .entry)))) × (r ≤ 320) × (now (text .exit) ≡ sets (now (text .entry)) 0 (sheetText (now (file .entry)))) ⌝ }
+pub fn write_sheet(file: &[u8], text: &mut [u8; 332]) -> usize
+    ensures { λ r. ⌜ (r ≡ length (sheetText (now (file .entry)))) × (r ≤ 332) × (now (text .exit) ≡ sets (now (text .entry)) 0 (sheetText (now (file .entry)))) ⌝ }
 {
-    let mut rows = [0u16; 256];
+    let mut rows = [0u32; 256];
     let size = room_of(file);
     write_read(file, &mut rows[..size], text)
 }

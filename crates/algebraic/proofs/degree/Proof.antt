@@ -1,33 +1,35 @@
 -- `algebraic::degree` meets its contract: what the checks found says which case it is, and the sweep has the weakest component. Assumes nothing.
-use mathlib.Core.List.{[]}
 use mathlib.Core.Path.{_≡_, refl, sym, ap, _∙_}
 use borrow.Author.Needs.{needs}
 use lib.Seq.{length-take-le}
 use Rattle.boolean.specs.Selection.{Candidate, shown}
-use Rattle.refusals.specs.Table.{figures, first, boxChecks, Box}
+use Rattle.refusals.specs.Table.{figures, first, limitChecks, Box}
 use Rattle.refusals.specs.declared.Checked.the-variants.{Accepted}
-use Rattle.refusals.proofs.Checks.{box, reply-refused, reply-accepted}
+use Rattle.refusals.proofs.Checks.{Limited, limited, reply-refused, reply-accepted}
 use Rattle.algebraic.proofs.degree.Statement.{statement}
 use Rattle.algebraic.proofs.degree.Tie as tie
 
-check-box-requires : tie.Need-check-box-requires
-check-box-requires c κs = search needs
+check-limited-requires : tie.Need-check-limited-requires
+check-limited-requires c κs = search needs
 
 enum-known-e : tie.Need-enum-known-e
 enum-known-e c = search needs
 
 returns : tie.Need-returns
-returns c = reply-refused (sym (c .before .before .before .check-box .ensures) ∙ c .before .e .given .1) _
+returns c = reply-refused (sym (c .before .before .before .check-limited .ensures) ∙ c .before .e .given .1) _
 
 enum-told : tie.Need-enum-told
 enum-told c = search needs
 
--- accepted: the rows are a box
-accepted : (c : tie.After-enum-told) → let a = c .before .before .before .before .args in first (boxChecks (a .n) (a .m) (a .rows .now)) ≡ Accepted
-accepted c = sym (c .before .before .check-box .ensures) ∙ c .enum-told .given .1
+-- accepted: the rows are a box, and the limit is one of it
+accepted : (c : tie.After-enum-told) → let a = c .before .before .before .before .args in first (limitChecks (a .n) (a .m) (a .rows .now) (a .i)) ≡ Accepted
+accepted c = sym (c .before .before .check-limited .ensures) ∙ c .enum-told .given .1
+
+within : (c : tie.After-enum-told) → let a = c .before .before .before .before .args in Limited (a .n) (a .m) (a .rows .now) (a .i)
+within c = let a = c .before .before .before .before .args in limited (a .n) (a .m) (a .rows .now) (a .i) (accepted c)
 
 boxed : (c : tie.After-enum-told) → let a = c .before .before .before .before .args in Box (a .n) (a .m) (a .rows .now)
-boxed c = let a = c .before .before .before .before .args in box (a .n) (a .m) (a .rows .now) [] (accepted c)
+boxed c = within c .box
 
 array-borrow-prefix-words : tie.Need-array-borrow-prefix-words
 array-borrow-prefix-words c = boxed c .small
@@ -39,7 +41,7 @@ slice-aggregate-weakest-of-2 : tie.Need-slice-aggregate-weakest-of-2
 slice-aggregate-weakest-of-2 c = search needs
 
 weakest-of-requires : tie.Need-weakest-of-requires
-weakest-of-requires c κs = let b = boxed (c .before .before) in (b, length-take-le _ _ (b .small) ∙ b .size, refl)
+weakest-of-requires c κs = let l = within (c .before .before) in (l .box, l .i-low, length-take-le _ _ (l .box .small) ∙ l .box .size, refl)
 
 returns-2 : tie.Need-returns-2
 returns-2 c =
@@ -50,7 +52,7 @@ pub degree-spec : {M : Type 1} → statement M
 degree-spec =
     tie.close
     (tie.spec
-    check-box-requires
+    check-limited-requires
     enum-known-e
     returns
     enum-told

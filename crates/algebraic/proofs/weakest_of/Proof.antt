@@ -31,7 +31,7 @@ returns c =
     let formed = c .before .before .before .before .before .before .before .before .before .before in
     let copied = formed .before .before .before .before in
     let a = copied .before .before .before .before .before .args in
-    c .sweep .ensures ∙ by-words (a .n) (a .m) (a .rows .now) _ (formed .moebius .ensures ∙ ap (λ (l : List ℕ). normalForm (a .n) (at l)) (copied .copy .ensures))
+    c .sweep .ensures ∙ by-words (a .n) (a .m) (a .rows .now) (a .i) _ (formed .moebius .ensures ∙ ap (λ (l : List ℕ). normalForm (a .n) (at l)) (copied .copy .ensures))
 
 pub weakest-of-spec : {M : Type 1} → statement M
 weakest-of-spec =

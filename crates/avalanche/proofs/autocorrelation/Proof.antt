@@ -1,37 +1,36 @@
--- `avalanche::autocorrelation` meets its contract: the order (m, n) leaves out nothing that is measured. Assumes nothing.
-use mathlib.Core.List.{[]}
+-- `avalanche::autocorrelation` meets its contract: the order (i, n) leaves out no change. Assumes nothing.
 use mathlib.Core.Path.{_≡_, sym, ap, _∙_}
 use native.Mathlib.Omega.{arith}
 use Rattle.boolean.specs.Selection.{Candidate, shown}
-use Rattle.refusals.specs.Table.{figures, first, boxChecks, Box}
+use Rattle.refusals.specs.Table.{figures, first, limitChecks}
 use Rattle.refusals.specs.declared.Checked.the-variants.{Accepted}
-use Rattle.refusals.proofs.Checks.{box, reply-refused, reply-accepted}
+use Rattle.refusals.proofs.Checks.{Limited, limited, reply-refused, reply-accepted}
 use Rattle.avalanche.specs.Avalanche.{boxAutocorrelation}
 use borrow.Author.Needs.{needs}
 use Rattle.avalanche.proofs.autocorrelation.Statement.{statement}
 use Rattle.avalanche.proofs.autocorrelation.Tie as tie
 
-check-box-requires : tie.Need-check-box-requires
-check-box-requires c κs = search needs
+check-limited-requires : tie.Need-check-limited-requires
+check-limited-requires c κs = search needs
 
 enum-known-e : tie.Need-enum-known-e
 enum-known-e c = search needs
 
 returns : tie.Need-returns
-returns c = reply-refused (sym (c .before .before .before .check-box .ensures) ∙ c .before .e .given .1) _
+returns c = reply-refused (sym (c .before .before .before .check-limited .ensures) ∙ c .before .e .given .1) _
 
 enum-told : tie.Need-enum-told
 enum-told c = search needs
 
--- accepted: the rows are a box
-accepted : (c : tie.After-enum-told) → let a = c .before .before .before .before .args in first (boxChecks (a .n) (a .m) (a .rows .now)) ≡ Accepted
-accepted c = sym (c .before .before .check-box .ensures) ∙ c .enum-told .given .1
+-- accepted: the rows are a box, and the limit is one of it
+accepted : (c : tie.After-enum-told) → let a = c .before .before .before .before .args in first (limitChecks (a .n) (a .m) (a .rows .now) (a .i)) ≡ Accepted
+accepted c = sym (c .before .before .check-limited .ensures) ∙ c .enum-told .given .1
 
-boxed : (c : tie.After-enum-told) → let a = c .before .before .before .before .args in Box (a .n) (a .m) (a .rows .now)
-boxed c = let a = c .before .before .before .before .args in box (a .n) (a .m) (a .rows .now) [] (accepted c)
+within : (c : tie.After-enum-told) → let a = c .before .before .before .before .args in Limited (a .n) (a .m) (a .rows .now) (a .i)
+within c = let a = c .before .before .before .before .args in limited (a .n) (a .m) (a .rows .now) (a .i) (accepted c)
 
 largest-correlation-requires : tie.Need-largest-correlation-requires
-largest-correlation-requires c κs = let b = boxed c in (b, omega arith, omega arith)
+largest-correlation-requires c κs = let l = within c in (l .box, omega arith, omega arith)
 
 returns-2 : tie.Need-returns-2
 unfolding boxAutocorrelation
@@ -41,7 +40,7 @@ pub autocorrelation-spec : {M : Type 1} → statement M
 autocorrelation-spec =
     tie.close
     (tie.spec
-    check-box-requires
+    check-limited-requires
     enum-known-e
     returns
     enum-told

@@ -8,17 +8,11 @@ use Rattle.avalanche.proofs.bit_differs.Tie as tie
 sub-result : tie.Need-sub-result
 sub-result c = search needs
 
-cast-result : tie.Need-cast-result
-cast-result c = search needs
-
 shr-result : tie.Need-shr-result
 shr-result c = search needs
 
 sub-result-2 : tie.Need-sub-result-2
 sub-result-2 c = search needs
-
-cast-result-2 : tie.Need-cast-result-2
-cast-result-2 c = search needs
 
 shr-result-2 : tie.Need-shr-result-2
 shr-result-2 c = search needs
@@ -28,6 +22,4 @@ unfolding bit
 returns c = refl
 
 pub bit-differs-spec : {M : Type 1} → statement M
-bit-differs-spec =
-    tie.close
-    (tie.spec sub-result cast-result shr-result sub-result-2 cast-result-2 shr-result-2 returns)
+bit-differs-spec = tie.close (tie.spec sub-result shr-result sub-result-2 shr-result-2 returns)

@@ -1,9 +1,8 @@
--- `avalanche::largest_correlation` meets its contract: the sweep over all components gives the first largest. Assumes nothing.
+-- `avalanche::largest_correlation` meets its contract: the sweep gives the first largest. Assumes nothing.
 use mathlib.Core.Path.{sym, _∙_}
 use native.Mathlib.Omega.{arith}
 use lib.Seq.{length-take-le}
-use Rattle.linear.proofs.Stepped.{steps-few}
-use Rattle.avalanche.proofs.Sweeps.{swept-largest}
+use Rattle.masks.proofs.Boxes.{steps-few}
 use borrow.Author.Needs.{needs}
 use Rattle.avalanche.proofs.largest_correlation.Statement.{statement}
 use Rattle.avalanche.proofs.largest_correlation.Tie as tie
@@ -34,17 +33,17 @@ slice-aggregate-sweep-3 c = sym (length-take-le _ _ (c .before .before .before .
 
 sweep-requires : tie.Need-sweep-requires
 sweep-requires c κs =
-    let b = c .before .before .before .before .before .before .pre .0 in (
+    let pre = c .before .before .before .before .before .before .pre in
+    let b = pre .0 in (
       record { box = b; table-size = length-take-le _ _ (b .small) ∙ b .size; out-size = length-take-le _ _ (b .small) ∙ b .size },
       c .before .before .before .before .spectra .ensures,
       length-take-le _ _ (steps-few b),
+      pre .1,
+      pre .2,
     )
 
 returns : tie.Need-returns
-returns c =
-    let swept = c .before .before .before in
-    let pre = swept .before .before .before .before .before .before .before .pre in
-    swept-largest (pre .0 .n-low) (pre .0 .m-low) (pre .1) (pre .2) (swept .sweep .ensures)
+returns c = c .before .before .before .sweep .ensures
 
 pub largest-correlation-spec : {M : Type 1} → statement M
 largest-correlation-spec =

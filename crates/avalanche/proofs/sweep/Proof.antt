@@ -1,23 +1,20 @@
 -- `avalanche::sweep` meets its contract: it has the best change of the components before c, from the figure 0, and the truth table of the last of
 -- them. Assumes nothing.
-use Prim.Native.Nat.{ℕ, _-_}
-use mathlib.Core.Path.{sym, ap, _∙_}
+use Prim.Native.Nat.{_-_, _^_, _<_}
+use mathlib.Core.Path.{sym, _∙_}
 use native.Mathlib.Omega.{arith}
 use borrow.Author.Needs.{needs}
-use Rattle.boolean.specs.Sums.{listBelow}
-use Rattle.boolean.specs.Functions.{component}
-use Rattle.linear.proofs.Components.{written-is}
-use Rattle.linear.proofs.Stepped.{box-some, steps-ready}
+use Rattle.masks.proofs.Boxes.{box-some, masks-fit, stepping}
 use Rattle.avalanche.specs.Calls.{candidate}
 use Rattle.avalanche.proofs.Sweeps.{Sweeping, sweep-starts, sweep-next, sweep-ends}
 use Rattle.avalanche.proofs.sweep.Statement.{statement}
 use Rattle.avalanche.proofs.sweep.Tie as tie
 
 abbrev Inv-loop : tie.InvT-loop
-Inv-loop fixed n m rows i j steps table₀ values₀ masks found₀ c₀ table values found c = Sweeping n m rows i j (candidate found) table values₀ values c
+Inv-loop fixed n m rows i j steps table₀ values₀ masks found₀ last₀ c₀ table values found last c = Sweeping n m rows i j (candidate found) table values last c
 
 abbrev μ-loop : tie.MeasureT-loop
-μ-loop fixed n m rows i j steps table₀ values₀ masks found₀ c₀ table values found c = masks - c
+μ-loop fixed n m rows i j steps table₀ values₀ masks found₀ last₀ c₀ table values found last c = masks - c
 
 write-steps-requires : tie.Need-write-steps-requires Inv-loop μ-loop
 write-steps-requires c κs =
@@ -33,41 +30,53 @@ write-component-requires c κs =
 power-of-two-requires : tie.Need-power-of-two-requires Inv-loop μ-loop
 power-of-two-requires c κs = search needs
 
-cast-masks : tie.Need-cast-masks Inv-loop μ-loop
-cast-masks c = search needs
-
 loop-holds : tie.Need-loop-holds Inv-loop μ-loop
 loop-holds c =
     let component = c .before .before .before in
     let start = component .before .before .before .before .before .before .before .before .before in
-    let a = start .args in
-    sweep-starts (start .pre .0 .box) (start .pre .0 .out-size) (written-is (a .n) (a .rows .now) 0 (a .m) (start .pre .0 .box) _ (component .write-component .ensures))
+    sweep-starts (start .pre .0 .box) (start .pre .3) (start .pre .0 .out-size) (component .write-component .ensures)
 
-with-component-requires : tie.Need-with-component-requires Inv-loop μ-loop
-with-component-requires c κs =
+-- the loop's mask is one of the box's
+below : (c : tie.In-loop Inv-loop μ-loop) →
+    let start = c .before .before .before .before .before .before .before .before .before .before .before .before .before .before in
+    c .before .loop .c < 2 ^ start .args .m
+below c = omega (arith, c .loop-test .taken, c .before .before .power-of-two .ensures .0)
+
+fits : (c : tie.In-loop Inv-loop μ-loop) → c .before .loop .c < 4294967296
+fits c = masks-fit (c .before .loop .inv .arrays .box) (below c)
+
+next-correlation-requires : tie.Need-next-correlation-requires Inv-loop μ-loop
+next-correlation-requires c κs =
     let in-loop = c .before .before .before in
     let at-loop = in-loop .before in
-    let power = at-loop .before in
-    let start = power .before .before .before .before .before .before .before .before .before .before .before .before in
-    let box = start .pre .0 .box in (
-      at-loop .loop .inv .arrays,
-      start .pre .1,
-      steps-ready box (at-loop .loop .inv .c-low) (omega (arith, in-loop .loop-test .taken, power .power-of-two .ensures .0)) (power .before .before .before .before .before .before .before .write-steps .ensures)
-          (at-loop .loop .inv .table-is ∙ ap (λ (k : ℕ). listBelow k (λ x. component (start .args .rows .now) (at-loop .loop .c - 1) x)) (sym (box .size))),
-    )
+    let steps = at-loop .before .before .before .before .before .before .before .before in
+    let start = steps .before .before .before .before .before in
+    (at-loop .loop .inv .arrays, start .pre .1, stepping (at-loop .loop .inv .stepwise) (steps .write-steps .ensures) (below in-loop))
 
-add-c : tie.Need-add-c Inv-loop μ-loop
-add-c c = search needs
+cast-with-correlation : tie.Need-cast-with-correlation Inv-loop μ-loop
+cast-with-correlation c = omega (arith, fits (c .before .before .before .before .before .before .before))
+
+with-correlation-requires : tie.Need-with-correlation-requires Inv-loop μ-loop
+with-correlation-requires c κs =
+    let done = c .before .before .before .before in
+    (done .before .before .before .before .before .loop .inv .arrays .box, done .next-correlation .ensures .0)
+
+next-mask-requires : tie.Need-next-mask-requires Inv-loop μ-loop
+next-mask-requires c κs =
+    let in-loop = c .before .before .before .before .before .before .before .before .before in
+    let walk = in-loop .before .loop .inv .stepwise .walk in
+    (omega (arith, walk .limit), fits in-loop, walk .few)
 
 loop-less : tie.Need-loop-less Inv-loop μ-loop
-loop-less c = search needs
+loop-less c = omega (arith, c .next-mask .ensures .0 .above, c .before .before .before .before .before .before .before .before .before .before .loop-test .taken)
 
 loop-again : tie.Need-loop-again Inv-loop μ-loop
 loop-again c =
-    let done = c .before .before .before in
+    let swept = c .before in
+    let done = swept .before .before .before .before .before in
     let in-loop = done .before .before .before .before in
-    sweep-next (in-loop .before .loop .inv) (omega (arith, in-loop .loop-test .taken, in-loop .before .before .power-of-two .ensures .0))
-    (done .with-component .ensures .0) (done .with-component .ensures .1)
+    sweep-next (in-loop .before .loop .inv) (below in-loop) (c .next-mask .ensures .0) (c .next-mask .ensures .1)
+    (done .next-correlation .ensures .1) (done .next-correlation .ensures .0) (swept .with-correlation .ensures)
 
 same-length : tie.Need-same-length Inv-loop μ-loop
 same-length c = search needs
@@ -79,7 +88,10 @@ same-length-3 : tie.Need-same-length-3 Inv-loop μ-loop
 same-length-3 c = c .before .loop .inv .arrays .out-size ∙ sym (c .before .before .before .before .before .before .before .before .before .before .before .before .before .before .pre .0 .out-size)
 
 returns : tie.Need-returns Inv-loop μ-loop
-returns c = sweep-ends (c .before .loop .inv) (omega (arith, c .loop-test .left, c .before .before .power-of-two .ensures .0))
+returns c =
+    let power = c .before .before in
+    sweep-ends (c .before .loop .inv) (omega (arith, c .loop-test .left, power .power-of-two .ensures .0))
+    (power .before .before .before .before .before .before .before .before .before .before .before .before .pre .4)
 
 pub sweep-spec : {M : Type 1} → statement M
 sweep-spec =
@@ -90,10 +102,11 @@ sweep-spec =
     write-steps-requires
     write-component-requires
     power-of-two-requires
-    cast-masks
     loop-holds
-    with-component-requires
-    add-c
+    next-correlation-requires
+    cast-with-correlation
+    with-correlation-requires
+    next-mask-requires
     loop-less
     loop-again
     same-length

@@ -17,13 +17,13 @@ use Rattle.boxfile.proofs.check_read.Tie as tie
 inputs : (c : tie.Else1) → inRange 1 8 (c .before .before .before .args .n) ≡ true
 inputs c = holds (c .before .in-range .ensures) (c .if1 .left)
 
-outputs : (c : tie.Else2) → inRange 1 16 (c .before .before .before .before .before .args .m) ≡ true
+outputs : (c : tie.Else2) → inRange 1 32 (c .before .before .before .before .before .args .m) ≡ true
 outputs c = holds (c .before .in-range2 .ensures) (c .if2 .left)
 
 size : (c : tie.Else3) →
     let a = c .before .before .before .before .before .before .before .args in
-    eqb (length (a .file .now)) (2 + 2 * 2 ^ a .n) ≡ true
-size c = equals (ap (λ (k : ℕ). 2 + 2 * k) (c .before .power-of-two .ensures .0)) (c .if3 .left)
+    eqb (length (a .file .now)) (2 + 4 * 2 ^ a .n) ≡ true
+size c = equals (ap (λ (k : ℕ). 2 + 4 * k) (c .before .power-of-two .ensures .0)) (c .if3 .left)
 
 answer : (c : tie.After-rows-below) →
     let a = c .before .before .before .before .before .before .before .before .before .args in
@@ -61,10 +61,10 @@ unfolding readChecks
 returns-3 c =
     let p = c .before .before in
     found (skip (inputs (p .before .before)) (skip (outputs p)
-    (stop (differs (ap (λ (k : ℕ). 2 + 2 * k) (c .before .power-of-two .ensures .0)) (c .if3 .taken)))))
+    (stop (differs (ap (λ (k : ℕ). 2 + 4 * k) (c .before .power-of-two .ensures .0)) (c .if3 .taken)))))
 
 power-of-two-requires-2 : tie.Need-power-of-two-requires-2
-power-of-two-requires-2 c κs = range-high 1 16 _ (outputs (c .before .before))
+power-of-two-requires-2 c κs = range-high 1 32 _ (outputs (c .before .before))
 
 rows-below-requires : tie.Need-rows-below-requires
 rows-below-requires c κs = search needs

@@ -37,7 +37,7 @@ accepted c = sym (c .before .before .check-file .ensures) ∙ c .enum-told .give
 -- what the checks of an accepted file say
 record Whole (file rows : List ℕ) : Type 0 where
   two : 2 ≤ length file
-  size : length file ≡ 2 + 2 * 2 ^ at file 0
+  size : length file ≡ 2 + 4 * 2 ^ at file 0
   room : length rows ≡ 2 ^ at file 0
 
 whole : (file rows : List ℕ) → first (fileChecks file (length rows)) ≡ Accepted → Whole file rows
@@ -62,7 +62,7 @@ write-rows-requires c κs =
     let w = c .before in
     let told = w .before .before in
     let a = told .before .before .before .before .before .args in
-    subst (λ (n : ℕ). (length (a .rows .now) ≡ 2 ^ n) × (length (a .file .now) ≡ 2 + 2 * 2 ^ n)) (sym (w .wide .ensures .0)) (known told .room, known told .size)
+    subst (λ (n : ℕ). (length (a .rows .now) ≡ 2 ^ n) × (length (a .file .now) ≡ 2 + 4 * 2 ^ n)) (sym (w .wide .ensures .0)) (known told .room, known told .size)
 
 shared-slice-read-wide-2 : tie.Need-shared-slice-read-wide-2
 shared-slice-read-wide-2 c = omega (arith, known (c .before .before .before .before .before .before .before) .two)

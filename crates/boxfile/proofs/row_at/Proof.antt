@@ -1,34 +1,31 @@
--- `boxfile::row_at` meets its contract. Assumes nothing.
-use mathlib.Core.Path.{ap₂}
+-- `boxfile::row_at` meets its contract: two numbers of two bytes make one of four. Assumes nothing.
+use mathlib.Core.Path.{_≡_, ap}
+use mathlib.Core.List.{List}
 use Prim.Native.Nat.{ℕ, _+_, _*_}
+use native.Mathlib.Omega.{arith}
+use Rattle.boolean.specs.Functions.{at}
 use Rattle.boxfile.specs.File.{rowAt}
 use borrow.Author.Needs.{needs}
 use Rattle.boxfile.proofs.row_at.Statement.{statement}
 use Rattle.boxfile.proofs.row_at.Tie as tie
 
-mul-wide : tie.Need-mul-wide
-mul-wide c = search needs
+mul-two-bytes : tie.Need-mul-two-bytes
+mul-two-bytes c = search needs
 
-add-wide : tie.Need-add-wide
-add-wide c = search needs
+add-two-bytes : tie.Need-add-two-bytes
+add-two-bytes c = search needs
 
-shared-slice-read-wide : tie.Need-shared-slice-read-wide
-shared-slice-read-wide c = search needs
+two-bytes-requires : tie.Need-two-bytes-requires
+two-bytes-requires c κs = search needs
 
-wide-requires : tie.Need-wide-requires
-wide-requires c κs = search needs
+mul-two-bytes-2 : tie.Need-mul-two-bytes-2
+mul-two-bytes-2 c = search needs
 
-mul-wide-2 : tie.Need-mul-wide-2
-mul-wide-2 c = search needs
+add-two-bytes-2 : tie.Need-add-two-bytes-2
+add-two-bytes-2 c = search needs
 
-add-wide-2 : tie.Need-add-wide-2
-add-wide-2 c = search needs
-
-shared-slice-read-wide-2 : tie.Need-shared-slice-read-wide-2
-shared-slice-read-wide-2 c = search needs
-
-wide-requires-2 : tie.Need-wide-requires-2
-wide-requires-2 c κs = search needs
+two-bytes-requires-2 : tie.Need-two-bytes-requires-2
+two-bytes-requires-2 c κs = search needs
 
 mul-result : tie.Need-mul-result
 mul-result c = search needs
@@ -36,26 +33,28 @@ mul-result c = search needs
 add-result : tie.Need-add-result
 add-result c = search needs
 
-cast-result : tie.Need-cast-result
-cast-result c = search needs
+-- the bytes, and their places
+joined : (file : List ℕ) (x low high : ℕ) → low ≡ at file (4 * x + 2) + 256 * at file (4 * x + 2 + 1) → high ≡ at file (4 * x + 4) + 256 * at file (4 * x + 4 + 1)
+    → low + 65536 * high ≡ rowAt file x
+unfolding rowAt
+joined file x low high p q =
+    let second : 4 * x + 2 + 1 ≡ 4 * x + 3 = omega arith in
+    let fourth : 4 * x + 4 + 1 ≡ 4 * x + 5 = omega arith in
+    omega (arith, ap (at file) second, ap (at file) fourth)
 
 returns : tie.Need-returns
-unfolding rowAt
-returns c = ap₂ (λ (a b : ℕ). a + 256 * b) (c .before .before .wide .ensures .0) (c .wide2 .ensures .0)
+returns c = joined _ _ _ _ (c .before .two-bytes .ensures .0) (c .two-bytes2 .ensures .0)
 
 pub row-at-spec : {M : Type 1} → statement M
 row-at-spec =
     tie.close
     (tie.spec
-    mul-wide
-    add-wide
-    shared-slice-read-wide
-    wide-requires
-    mul-wide-2
-    add-wide-2
-    shared-slice-read-wide-2
-    wide-requires-2
+    mul-two-bytes
+    add-two-bytes
+    two-bytes-requires
+    mul-two-bytes-2
+    add-two-bytes-2
+    two-bytes-requires-2
     mul-result
     add-result
-    cast-result
     returns)

@@ -18,9 +18,6 @@ column-at-requires c κs = search needs
 cast-result : tie.Need-cast-result
 cast-result c = search needs
 
-cast-result-2 : tie.Need-cast-result-2
-cast-result-2 c = search needs
-
 shl-result : tie.Need-shl-result
 shl-result c = search needs
 
@@ -55,7 +52,6 @@ box-row-spec =
     row-at-requires
     column-at-requires
     cast-result
-    cast-result-2
     shl-result
     add-result
     returns)

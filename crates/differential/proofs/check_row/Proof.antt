@@ -4,10 +4,11 @@ use mathlib.Core.Path.{_≡_, _∙_, sym, ap}
 use Prim.Native.Nat.{ℕ, _-_, _^_}
 use native.Mathlib.Omega.{arith}
 use borrow.Author.Needs.{needs}
+use lib.Dec.{lit≤}
 use lib.Pow.{pow-pos}
-use Rattle.refusals.specs.Table.{first, inRange, boxChecks, Box}
+use Rattle.refusals.specs.Table.{first, inRange, boxChecksUpTo, Box}
 use Rattle.refusals.specs.declared.Checked.the-variants.{Accepted}
-use Rattle.refusals.proofs.Checks.{fails, holds, differs, equals, found-before, found-after, skip, stop, end, box}
+use Rattle.refusals.proofs.Checks.{fails, holds, differs, equals, found-before, found-after, skip, stop, end, box-up-to}
 use Rattle.differential.specs.Calls.{rowChecks}
 use Rattle.differential.proofs.check_row.Statement.{statement}
 use Rattle.differential.proofs.check_row.Tie as tie
@@ -15,15 +16,15 @@ use Rattle.differential.proofs.check_row.Tie as tie
 -- the lines of the box's checks, where they were passed
 ok-box : (c : tie.After-enum-told) →
     let a = c .before .before .before .before .args in
-    first (boxChecks (a .n) (a .m) (a .rows .now)) ≡ Accepted
-ok-box c = sym (c .before .before .check-box .ensures) ∙ c .enum-told .given .1
+    first (boxChecksUpTo 16 (a .n) (a .m) (a .rows .now)) ≡ Accepted
+ok-box c = sym (c .before .before .check-box-up-to .ensures) ∙ c .enum-told .given .1
 
 the-box : (c : tie.After-enum-told) →
     let a = c .before .before .before .before .args in
     Box (a .n) (a .m) (a .rows .now)
 the-box c =
     let a = c .before .before .before .before .args in
-    box (a .n) (a .m) (a .rows .now) [] (ok-box c)
+    box-up-to 16 (a .n) (a .m) (a .rows .now) [] (lit≤ tt) (ok-box c)
 
 -- the input difference's test, by the power that was computed
 difference-test : (c : tie.After-in-range) →
@@ -35,8 +36,8 @@ difference-test c =
     let a = p .before .before .before .before .before .args in
     c .in-range .ensures ∙ ap (λ (k : ℕ). inRange 1 (k - 1) (a .a)) (p .power-of-two .ensures .0)
 
-check-box-requires : tie.Need-check-box-requires
-check-box-requires c κs = search needs
+check-box-up-to-requires : tie.Need-check-box-up-to-requires
+check-box-up-to-requires c κs = search needs
 
 enum-known-e : tie.Need-enum-known-e
 enum-known-e c = search needs
@@ -46,16 +47,16 @@ unfolding rowChecks
 returns c =
     let p = c .before .before .before in
     let a = p .before .before .args in
-    found-before (boxChecks (a .n) (a .m) (a .rows .now)) _ (sym (p .check-box .ensures) ∙ c .before .e .given .1)
+    found-before (boxChecksUpTo 16 (a .n) (a .m) (a .rows .now)) _ (sym (p .check-box-up-to .ensures) ∙ c .before .e .given .1)
 
 enum-told : tie.Need-enum-told
 enum-told c = search needs
 
 power-of-two-requires : tie.Need-power-of-two-requires
-power-of-two-requires c κs = let b = the-box c in omega (arith, b .n-high, b .m-high)
+power-of-two-requires c κs = omega (arith, the-box c .n-high)
 
 cast-inputs : tie.Need-cast-inputs
-cast-inputs c = search needs
+cast-inputs c = let b = the-box (c .before) in omega (arith, c .power-of-two .ensures .0, b .size, b .small)
 
 sub-in-range : tie.Need-sub-in-range
 sub-in-range c = omega (arith, c .power-of-two .ensures .0, pow-pos (c .before .before .before .before .before .args .n))
@@ -68,7 +69,7 @@ unfolding rowChecks
 returns-2 c = found-after _ (ok-box (c .before .before .before)) (stop (fails (difference-test (c .before)) (c .if1 .taken)))
 
 power-of-two-requires-2 : tie.Need-power-of-two-requires-2
-power-of-two-requires-2 c κs = let b = the-box (c .before .before .before) in omega (arith, b .n-high, b .m-high)
+power-of-two-requires-2 c κs = omega (arith, the-box (c .before .before .before) .m-high)
 
 returns-3 : tie.Need-returns-3
 unfolding rowChecks
@@ -88,7 +89,7 @@ pub check-row-spec : {M : Type 1} → statement M
 check-row-spec =
     tie.close
     (tie.spec
-    check-box-requires
+    check-box-up-to-requires
     enum-known-e
     returns
     enum-told

@@ -6,7 +6,7 @@ use native.Mathlib.Omega.{arith}
 use borrow.Author.Needs.{needs}
 use lib.ListN.{length}
 use Rattle.boolean.proofs.Counted.{Counted, counted-none, counted-le, counted-hit, counted-miss, counted-all}
-use Rattle.differential.specs.Calls.{isListed}
+use Rattle.differential.specs.Work.{isListed}
 use Rattle.differential.proofs.count_in_row.Statement.{statement}
 use Rattle.differential.proofs.count_in_row.Tie as tie
 

@@ -8,7 +8,7 @@ use lib.ListN.{length}
 use lib.Seq.{sets}
 use Rattle.boolean.specs.Functions.{at}
 use Rattle.refusals.proofs.Checks.{fails, holds}
-use Rattle.differential.specs.Calls.{listedAt}
+use Rattle.differential.specs.Work.{listedAt}
 use Rattle.differential.proofs.ListLoops.{at-listed, at-unlisted}
 use Rattle.differential.proofs.list_cell.Statement.{statement}
 use Rattle.differential.proofs.list_cell.Tie as tie
@@ -32,7 +32,7 @@ mul-list-2 c = search needs
 -- the entry that is written
 one : (c : tie.Else1) →
     let a = c .before .before .before .before .args in
-    listedAt (a .largest) (a .a) (a .differences .now) (a .x) ≡ (a .a * 65536 + at (a .differences .now) (a .x)) ∷ []
+    listedAt (a .largest) (a .a) (a .differences .now) (a .x) ≡ (a .a * 4294967296 + at (a .differences .now) (a .x)) ∷ []
 one c =
     let a = c .before .before .before .before .args in
     at-listed (a .largest) (a .differences .now) (a .x) (a .a) (holds (c .before .is-listed .ensures) (c .if1 .left))

@@ -10,7 +10,7 @@ use Rattle.boolean.specs.Selection.{Candidate}
 use Rattle.refusals.specs.Table.{figures}
 use Rattle.refusals.proofs.Checks.{reply-refused, reply-accepted}
 use Rattle.differential.specs.XorTable.{largestCell}
-use Rattle.differential.specs.Calls.{listed}
+use Rattle.differential.specs.Work.{listed}
 use Rattle.differential.proofs.RowBest.{values-length}
 use Rattle.differential.proofs.ListMembers.{same-number, holds-listed, too-short, long-enough, list-refused, list-accepted}
 use Rattle.differential.proofs.list_with.Statement.{statement}

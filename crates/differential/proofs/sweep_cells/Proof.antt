@@ -1,25 +1,22 @@
--- `differential::sweep_cells` meets its contract: it has the first largest cell of the rows before a, from a count that every row exceeds, and
--- between two rows all counts are 0. Assumes nothing.
+-- `differential::sweep_cells` meets its contract: it has the first largest cell of the rows before a, from a count that every row exceeds.
+-- Assumes nothing.
 use Prim.Native.Nat.{_-_, _^_, _≤_}
-use mathlib.Core.Path.{_≡_, refl, sym, ap, _∙_}
+use mathlib.Core.Path.{_≡_, refl, sym, _∙_}
 use native.Mathlib.Nat.{le-trans}
 use native.Mathlib.Omega.{arith}
 use borrow.Author.Needs.{needs}
 use lib.Dec.{lit≤}
 use lib.ListN.{length}
-use Rattle.boolean.specs.Sums.{listBelow}
-use Rattle.differential.specs.Calls.{candidate}
-use Rattle.differential.proofs.Sweeps.{box-inside, pairs-ready, Sweeping, sweep-starts, sweep-next, sweep-ends, sweep-last}
-use Rattle.differential.proofs.Tallies.{tally-ready}
+use Rattle.differential.specs.Work.{candidate}
+use Rattle.differential.proofs.Sweeps.{box-inside, pairs-few, Sweeping, sweep-starts, sweep-next, sweep-ends, sweep-last}
 use Rattle.differential.proofs.sweep_cells.Statement.{statement}
 use Rattle.differential.proofs.sweep_cells.Tie as tie
 
 abbrev Inv-loop : tie.InvT-loop
-Inv-loop n m rows pairs₀ counts₀ inputs found₀ a₀ pairs counts found a =
-    Sweeping n m rows (candidate found₀) (candidate found) pairs a × (counts ≡ listBelow (2 ^ m) (λ β. 0))
+Inv-loop n m rows pairs₀ slots₀ inputs found₀ a₀ pairs slots found a = Sweeping n m rows (candidate found₀) (candidate found) pairs a × (length slots ≡ 4096)
 
 abbrev μ-loop : tie.MeasureT-loop
-μ-loop n m rows pairs₀ counts₀ inputs found₀ a₀ pairs counts found a = inputs - a
+μ-loop n m rows pairs₀ slots₀ inputs found₀ a₀ pairs slots found a = inputs - a
 
 power-of-two-requires : tie.Need-power-of-two-requires Inv-loop μ-loop
 power-of-two-requires c κs = le-trans (c .before .before .before .pre .0 .n-high) (lit≤ tt)
@@ -40,9 +37,7 @@ after-row-requires : tie.Need-after-row-requires Inv-loop μ-loop
 after-row-requires c κs =
     let written = c .before .before .before .before in
     let at-loop = written .before .before .before in
-    let box = at-loop .loop .inv .0 .box in
-    let values = pairs-ready box (written .write-pairs .ensures) in
-    tally-ready (box .m-high) refl (at-loop .loop .inv .1) (values .0) (values .1)
+    (pairs-few (at-loop .loop .inv .0 .box) (written .write-pairs .ensures), at-loop .loop .inv .1)
 
 add-a : tie.Need-add-a Inv-loop μ-loop
 add-a c = search needs
@@ -58,7 +53,7 @@ loop-again c =
     let at-loop = in-loop .before in (
       sweep-next (at-loop .loop .inv .0) (omega (arith, in-loop .loop-test .taken, at-loop .before .power-of-two .ensures .0))
           (written .write-pairs .ensures) (row .after-row .ensures .0),
-      row .after-row .ensures .1 ∙ at-loop .loop .inv .1,
+      row .after-row .ensures .1,
     )
 
 same-length : tie.Need-same-length Inv-loop μ-loop
@@ -68,7 +63,7 @@ same-length c =
     same
 
 same-length-2 : tie.Need-same-length-2 Inv-loop μ-loop
-same-length-2 c = ap length (c .before .loop .inv .1 ∙ sym (c .before .before .before .before .before .before .pre .2))
+same-length-2 c = c .before .loop .inv .1 ∙ sym (c .before .before .before .before .before .before .pre .2)
 
 returns : tie.Need-returns Inv-loop μ-loop
 returns c =

@@ -6,7 +6,7 @@ use native.Mathlib.Omega.{arith}
 use lib.ListN.{length}
 use Rattle.boolean.proofs.Filled.{Filled, filled-none, filled-more, filled-whole}
 use Rattle.differential.specs.XorTable.{difference}
-use Rattle.differential.specs.Calls.{differencesOf}
+use Rattle.differential.specs.Work.{differencesOf}
 use Rattle.differential.proofs.write_differences.Statement.{statement}
 use Rattle.differential.proofs.write_differences.Tie as tie
 

@@ -21,7 +21,7 @@ count-differences-requires c κs =
     let start = written .before .before .before .before .before in
     let box = start .pre .0 .box in
     let values = differences-ready box (start .args .a) (written .write-differences .ensures) in
-    tally-ready (box .m-high) (start .pre .2) (cleared .clear .ensures) (values .0) (values .1)
+    tally-ready _ (start .pre .2) (cleared .clear .ensures) (values .0) (values .1)
 
 same-length : tie.Need-same-length
 same-length c = search needs
@@ -37,7 +37,7 @@ returns c =
     let start = written .before .before .before .before .before in
     let box = start .pre .0 .box in
     let values = written .write-differences .ensures in (
-      row-is box (start .args .a) (cleared-length (box .m-high) (start .pre .2) (cleared .clear .ensures)) values (counted .count-differences .ensures .0),
+      row-is box (start .args .a) (cleared-length _ (start .pre .2) (cleared .clear .ensures)) values (counted .count-differences .ensures),
       values,
     )
 

@@ -5,13 +5,14 @@ use Prim.Native.Nat.{ℕ, _-_, _^_, _≤_, _<_}
 use native.Mathlib.Omega.{arith}
 use borrow.Author.Needs.{needs}
 use borrow.Author.Tests.{eqb-true}
+use lib.Dec.{lit≤}
 use lib.ListN.{length}
 use lib.Pow.{pow-pos}
 use lib.Seq.{length-take-le}
-use Rattle.refusals.specs.Table.{first, boxChecks, Box}
+use Rattle.refusals.specs.Table.{first, boxChecksUpTo, Box}
 use Rattle.refusals.specs.declared.Checked.the-variants.{Accepted}
 use Rattle.refusals.proofs.Bounds.{range-high}
-use Rattle.refusals.proofs.Checks.{passed, accepted-after, box, reply-refused, reply-accepted, content-refused, content-accepted}
+use Rattle.refusals.proofs.Checks.{passed, accepted-after, box-up-to, reply-refused, reply-accepted, content-refused, content-accepted}
 use Rattle.differential.specs.Calls.{rowChecks}
 use Rattle.differential.proofs.xor_row.Statement.{statement}
 use Rattle.differential.proofs.xor_row.Tie as tie
@@ -35,17 +36,17 @@ enum-told c = search needs
 module _ (n m : ℕ) (rows : List ℕ) (a room : ℕ) (h : first (rowChecks n m rows a room) ≡ Accepted) where
   the-box : Box n m rows
   unfolding rowChecks
-  the-box = box n m rows _ h
+  the-box = box-up-to 16 n m rows _ (lit≤ tt) h
 
   the-difference : a < 2 ^ n
   unfolding rowChecks
   the-difference =
-      let le : a ≤ 2 ^ n - 1 = range-high 1 (2 ^ n - 1) a (passed _ (accepted-after (boxChecks n m rows) _ h) .0) in
+      let le : a ≤ 2 ^ n - 1 = range-high 1 (2 ^ n - 1) a (passed _ (accepted-after (boxChecksUpTo 16 n m rows) _ h) .0) in
       omega (arith, pow-pos n)
 
   the-room : room ≡ 2 ^ m
   unfolding rowChecks
-  the-room = eqb-true room (2 ^ m) (passed _ (accepted-after (boxChecks n m rows) _ h) .1 .0)
+  the-room = eqb-true room (2 ^ m) (passed _ (accepted-after (boxChecksUpTo 16 n m rows) _ h) .1 .0)
 
 accepted : (c : tie.After-enum-told) →
     let a = c .before .before .before .before .before .args in

@@ -56,11 +56,11 @@ enum-told c = search needs
 power-of-two-requires : tie.Need-power-of-two-requires
 power-of-two-requires c κs = the-box c .m-high
 
-cast-masks : tie.Need-cast-masks
-cast-masks c = search needs
+sub-masks : tie.Need-sub-masks
+sub-masks c = omega (arith, c .power-of-two .ensures .0, pow-pos (c .before .before .before .before .before .args .m))
 
-sub-in-range : tie.Need-sub-in-range
-sub-in-range c = omega (arith, c .power-of-two .ensures .0, pow-pos (c .before .before .before .before .before .args .m))
+cast-in-range : tie.Need-cast-in-range
+cast-in-range c = search needs
 
 in-range-requires : tie.Need-in-range-requires
 in-range-requires c κs = search needs
@@ -95,8 +95,8 @@ check-component-spec =
     returns
     enum-told
     power-of-two-requires
-    cast-masks
-    sub-in-range
+    sub-masks
+    cast-in-range
     in-range-requires
     returns-2
     power-of-two-requires-2

@@ -1,35 +1,37 @@
 -- `linear::nonlinearity` meets its contract: what the checks found says which case it is, and the sweep has the figure and its pair. Assumes nothing.
 use borrow.Author.Needs.{needs}
 use mathlib.Core.Path.{_≡_, sym, ap, _∙_}
-use mathlib.Core.List.{[]}
 use native.Mathlib.Omega.{arith}
 use lib.Seq.{length-take-le}
 use Rattle.boolean.specs.Selection.{Candidate, shown}
-use Rattle.refusals.specs.Table.{figures, first, boxChecks, Box}
+use Rattle.refusals.specs.Table.{figures, first, limitChecks, Box}
 use Rattle.refusals.specs.declared.Checked.the-variants.{Accepted}
-use Rattle.refusals.proofs.Checks.{box, reply-refused, reply-accepted}
-use Rattle.linear.proofs.Stepped.{steps-few}
+use Rattle.refusals.proofs.Checks.{Limited, limited, reply-refused, reply-accepted}
+use Rattle.masks.proofs.Boxes.{steps-few}
 use Rattle.linear.proofs.nonlinearity.Statement.{statement}
 use Rattle.linear.proofs.nonlinearity.Tie as tie
 
-check-box-requires : tie.Need-check-box-requires
-check-box-requires c κs = search needs
+check-limited-requires : tie.Need-check-limited-requires
+check-limited-requires c κs = search needs
 
 enum-known-e : tie.Need-enum-known-e
 enum-known-e c = search needs
 
 returns : tie.Need-returns
-returns c = reply-refused (sym (c .before .before .before .check-box .ensures) ∙ c .before .e .given .1) _
+returns c = reply-refused (sym (c .before .before .before .check-limited .ensures) ∙ c .before .e .given .1) _
 
 enum-told : tie.Need-enum-told
 enum-told c = search needs
 
--- accepted: the rows are a box
-accepted : (c : tie.After-enum-told) → let a = c .before .before .before .before .args in first (boxChecks (a .n) (a .m) (a .rows .now)) ≡ Accepted
-accepted c = sym (c .before .before .check-box .ensures) ∙ c .enum-told .given .1
+-- accepted: the rows are a box, and the limit is one of it
+accepted : (c : tie.After-enum-told) → let a = c .before .before .before .before .args in first (limitChecks (a .n) (a .m) (a .rows .now) (a .i)) ≡ Accepted
+accepted c = sym (c .before .before .check-limited .ensures) ∙ c .enum-told .given .1
+
+within : (c : tie.After-enum-told) → let a = c .before .before .before .before .args in Limited (a .n) (a .m) (a .rows .now) (a .i)
+within c = let a = c .before .before .before .before .args in limited (a .n) (a .m) (a .rows .now) (a .i) (accepted c)
 
 boxed : (c : tie.After-enum-told) → let a = c .before .before .before .before .args in Box (a .n) (a .m) (a .rows .now)
-boxed c = let a = c .before .before .before .before .args in box (a .n) (a .m) (a .rows .now) [] (accepted c)
+boxed c = within c .box
 
 spectra-requires : tie.Need-spectra-requires
 spectra-requires c κs = search needs
@@ -61,6 +63,7 @@ sweep-requires c κs =
       record { box = b; table-size = length-take-le _ _ (b .small) ∙ b .size; out-size = length-take-le _ _ (b .small) ∙ b .size },
       c .before .before .before .before .spectra .ensures,
       length-take-le _ _ (steps-few b),
+      within (c .before .before .before .before .before) .i-low,
     )
 
 returns-2 : tie.Need-returns-2
@@ -72,7 +75,7 @@ pub nonlinearity-spec : {M : Type 1} → statement M
 nonlinearity-spec =
     tie.close
     (tie.spec
-    check-box-requires
+    check-limited-requires
     enum-known-e
     returns
     enum-told

@@ -1,20 +1,21 @@
 -- `linear::sweep` meets its contract: it has the best pair of the components before c, from a count that no pair has, and the truth table of the
 -- last of them. Assumes nothing.
-use Prim.Native.Nat.{_-_}
+use Prim.Native.Nat.{_-_, _^_, _<_}
 use mathlib.Core.Path.{sym, _∙_}
 use native.Mathlib.Omega.{arith}
 use borrow.Author.Needs.{needs}
+use Rattle.masks.proofs.Boxes.{box-some, masks-fit, stepping}
 use Rattle.linear.specs.Calls.{candidate}
-use Rattle.linear.proofs.Stepped.{box-some, steps-ready}
 use Rattle.linear.proofs.Nearest.{Sweeping, sweep-starts, sweep-next, sweep-ends}
 use Rattle.linear.proofs.sweep.Statement.{statement}
 use Rattle.linear.proofs.sweep.Tie as tie
 
 abbrev Inv-loop : tie.InvT-loop
-Inv-loop fixed n m rows steps table₀ values₀ masks found₀ c₀ table values found c = Sweeping n m rows (candidate found₀) (candidate found) table values c
+Inv-loop fixed n m rows i steps table₀ values₀ masks found₀ last₀ c₀ table values found last c =
+    Sweeping n m rows i (candidate found₀) (candidate found) table values last c
 
 abbrev μ-loop : tie.MeasureT-loop
-μ-loop fixed n m rows steps table₀ values₀ masks found₀ c₀ table values found c = masks - c
+μ-loop fixed n m rows i steps table₀ values₀ masks found₀ last₀ c₀ table values found last c = masks - c
 
 write-steps-requires : tie.Need-write-steps-requires Inv-loop μ-loop
 write-steps-requires c κs =
@@ -30,51 +31,59 @@ write-component-requires c κs =
 power-of-two-requires : tie.Need-power-of-two-requires Inv-loop μ-loop
 power-of-two-requires c κs = search needs
 
-cast-masks : tie.Need-cast-masks Inv-loop μ-loop
-cast-masks c = search needs
+cast-t19 : tie.Need-cast-t19 Inv-loop μ-loop
+cast-t19 c = search needs
 
-cast-t17 : tie.Need-cast-t17 Inv-loop μ-loop
-cast-t17 c = search needs
-
-add-t18 : tie.Need-add-t18 Inv-loop μ-loop
-add-t18 c = search needs
+add-t20 : tie.Need-add-t20 Inv-loop μ-loop
+add-t20 c = search needs
 
 loop-holds : tie.Need-loop-holds Inv-loop μ-loop
 loop-holds c =
     let component = c .before .before .before in
     let start = component .before .before .before .before .before .before .before .before .before in
-    sweep-starts (start .pre .0 .box) (start .pre .0 .out-size) (component .write-component .ensures)
+    sweep-starts (start .pre .0 .box) (start .pre .3) (start .pre .0 .out-size) (component .write-component .ensures)
+
+-- the loop's mask is one of the box's
+below : (c : tie.In-loop Inv-loop μ-loop) →
+    let start = c .before .before .before .before .before .before .before .before .before .before .before .before .before .before in
+    c .before .loop .c < 2 ^ start .args .m
+below c = omega (arith, c .loop-test .taken, c .before .before .power-of-two .ensures .0)
+
+fits : (c : tie.In-loop Inv-loop μ-loop) → c .before .loop .c < 4294967296
+fits c = masks-fit (c .before .loop .inv .arrays .box) (below c)
 
 next-spectrum-requires : tie.Need-next-spectrum-requires Inv-loop μ-loop
 next-spectrum-requires c κs =
     let in-loop = c .before .before .before in
     let at-loop = in-loop .before in
-    let power = at-loop .before in
-    let start = power .before .before .before .before .before .before .before .before .before .before .before .before in
-    let box = start .pre .0 .box in (
-      at-loop .loop .inv .arrays,
-      start .pre .1,
-      steps-ready box (at-loop .loop .inv .c-low) (omega (arith, in-loop .loop-test .taken, power .power-of-two .ensures .0)) (power .before .before .before .before .before .before .before .write-steps .ensures)
-          (at-loop .loop .inv .table-is),
-    )
+    let steps = at-loop .before .before .before .before .before .before .before .before in
+    let start = steps .before .before .before .before .before in
+    (at-loop .loop .inv .arrays, start .pre .1, stepping (at-loop .loop .inv .stepwise) (steps .write-steps .ensures) (below in-loop))
+
+cast-with-spectrum : tie.Need-cast-with-spectrum Inv-loop μ-loop
+cast-with-spectrum c = omega (arith, fits (c .before .before .before .before .before .before .before))
 
 with-spectrum-requires : tie.Need-with-spectrum-requires Inv-loop μ-loop
 with-spectrum-requires c κs =
     let done = c .before .before .before .before in
     (done .before .before .before .before .before .loop .inv .arrays .box, done .next-spectrum .ensures .0)
 
-add-c : tie.Need-add-c Inv-loop μ-loop
-add-c c = search needs
+next-mask-requires : tie.Need-next-mask-requires Inv-loop μ-loop
+next-mask-requires c κs =
+    let in-loop = c .before .before .before .before .before .before .before .before .before in
+    let walk = in-loop .before .loop .inv .stepwise .walk in
+    (walk .limit, fits in-loop, walk .few)
 
 loop-less : tie.Need-loop-less Inv-loop μ-loop
-loop-less c = search needs
+loop-less c = omega (arith, c .next-mask .ensures .0 .above, c .before .before .before .before .before .before .before .before .before .before .loop-test .taken)
 
 loop-again : tie.Need-loop-again Inv-loop μ-loop
 loop-again c =
-    let done = c .before .before .before .before .before in
+    let swept = c .before in
+    let done = swept .before .before .before .before .before in
     let in-loop = done .before .before .before .before in
-    sweep-next (in-loop .before .loop .inv) (omega (arith, in-loop .loop-test .taken, in-loop .before .before .power-of-two .ensures .0))
-    (done .next-spectrum .ensures .1) (done .next-spectrum .ensures .0) (c .with-spectrum .ensures)
+    sweep-next (in-loop .before .loop .inv) (below in-loop) (c .next-mask .ensures .0) (c .next-mask .ensures .1)
+    (done .next-spectrum .ensures .1) (done .next-spectrum .ensures .0) (swept .with-spectrum .ensures)
 
 same-length : tie.Need-same-length Inv-loop μ-loop
 same-length c = search needs
@@ -88,7 +97,8 @@ same-length-3 c = c .before .loop .inv .arrays .out-size ∙ sym (c .before .bef
 returns : tie.Need-returns Inv-loop μ-loop
 returns c =
     let power = c .before .before in
-    sweep-ends (c .before .loop .inv) (omega (arith, c .loop-test .left, power .power-of-two .ensures .0)) (omega (arith, power .before .before .before .before .before .before .before .before .before .before .before .before .pre .0 .box .size))
+    sweep-ends (c .before .loop .inv) (omega (arith, c .loop-test .left, power .power-of-two .ensures .0))
+    (omega (arith, power .before .before .before .before .before .before .before .before .before .before .before .before .pre .0 .box .size))
 
 pub sweep-spec : {M : Type 1} → statement M
 sweep-spec =
@@ -99,13 +109,13 @@ sweep-spec =
     write-steps-requires
     write-component-requires
     power-of-two-requires
-    cast-masks
-    cast-t17
-    add-t18
+    cast-t19
+    add-t20
     loop-holds
     next-spectrum-requires
+    cast-with-spectrum
     with-spectrum-requires
-    add-c
+    next-mask-requires
     loop-less
     loop-again
     same-length

@@ -16,20 +16,17 @@ loop-holds c = search needs
 add-loop : tie.Need-add-loop Inv-loop μ-loop
 add-loop c = search needs
 
-shared-slice-read-n : tie.Need-shared-slice-read-n Inv-loop μ-loop
-shared-slice-read-n c = search needs
+shared-slice-read-rows-of : tie.Need-shared-slice-read-rows-of Inv-loop μ-loop
+shared-slice-read-rows-of c = search needs
 
-add-m : tie.Need-add-m Inv-loop μ-loop
-add-m c = search needs
-
-shared-slice-read-m : tie.Need-shared-slice-read-m Inv-loop μ-loop
-shared-slice-read-m c = search needs
+rows-of-requires : tie.Need-rows-of-requires Inv-loop μ-loop
+rows-of-requires c κs = search needs
 
 add-start : tie.Need-add-start Inv-loop μ-loop
 add-start c = search needs
 
-bytes-of-requires : tie.Need-bytes-of-requires Inv-loop μ-loop
-bytes-of-requires c κs = search needs
+mul-smaller : tie.Need-mul-smaller Inv-loop μ-loop
+mul-smaller c = search needs
 
 sub-smaller : tie.Need-sub-smaller Inv-loop μ-loop
 sub-smaller c = search needs
@@ -40,17 +37,17 @@ smaller-requires c κs = search needs
 add-end : tie.Need-add-end Inv-loop μ-loop
 add-end c = search needs
 
-sub-show-rows : tie.Need-sub-show-rows Inv-loop μ-loop
-sub-show-rows c = search needs
+sub-show-file : tie.Need-sub-show-file Inv-loop μ-loop
+sub-show-file c = search needs
 
-part-show-rows-start : tie.Need-part-show-rows-start Inv-loop μ-loop
-part-show-rows-start c = search needs
+part-show-file-start : tie.Need-part-show-file-start Inv-loop μ-loop
+part-show-file-start c = search needs
 
-part-show-rows-end : tie.Need-part-show-rows-end Inv-loop μ-loop
-part-show-rows-end c = search needs
+part-show-file-end : tie.Need-part-show-file-end Inv-loop μ-loop
+part-show-file-end c = search needs
 
-show-rows-requires : tie.Need-show-rows-requires Inv-loop μ-loop
-show-rows-requires c κs = search needs
+show-file-requires : tie.Need-show-file-requires Inv-loop μ-loop
+show-file-requires c κs = search needs
 
 loop-less : tie.Need-loop-less Inv-loop μ-loop
 loop-less c = search needs
@@ -69,18 +66,17 @@ show-boxes-spec =
     μ-loop
     loop-holds
     add-loop
-    shared-slice-read-n
-    add-m
-    shared-slice-read-m
+    shared-slice-read-rows-of
+    rows-of-requires
     add-start
-    bytes-of-requires
+    mul-smaller
     sub-smaller
     smaller-requires
     add-end
-    sub-show-rows
-    part-show-rows-start
-    part-show-rows-end
-    show-rows-requires
+    sub-show-file
+    part-show-file-start
+    part-show-file-end
+    show-file-requires
     loop-less
     loop-again
     returns)

@@ -1,14 +1,17 @@
 -- `sheet::write_from_autocorrelation` meets its contract: a refused figure leaves the text as it is, and else its line stands before those that follow.
 -- Assumes nothing.
 use mathlib.Core.Path.{sym, ap, _∙_}
-use Rattle.avalanche.specs.Calls.{changeReply}
+use Rattle.avalanche.specs.Calls.{changeReply, autocorrelationReply}
 use Rattle.texts.proofs.Lengths.{line-few}
 use Rattle.sheet.specs.Sheet.{sheetLines}
-use Rattle.sheet.proofs.Outcomes.{numbers-refused, numbers-shown}
+use Rattle.sheet.proofs.Outcomes.{limited-refused, limited-shown}
 use Rattle.sheet.proofs.Printing.{printed-nothing, printed-line, room-after}
 use borrow.Author.Needs.{needs}
 use Rattle.sheet.proofs.write_from_autocorrelation.Statement.{statement}
 use Rattle.sheet.proofs.write_from_autocorrelation.Tie as tie
+
+limit-of-requires : tie.Need-limit-of-requires
+limit-of-requires c κs = search needs
 
 autocorrelation-requires : tie.Need-autocorrelation-requires
 autocorrelation-requires c κs = search needs
@@ -21,7 +24,10 @@ enum-told c = search needs
 
 returns : tie.Need-returns
 unfolding sheetLines
-returns c = printed-nothing (numbers-refused "autocorrelation" (sym (c .before .before .autocorrelation .ensures) ∙ ap changeReply (c .enum-told .given .1)))
+returns c =
+    let call = c .before .before in
+    let reply = sym (call .autocorrelation .ensures) ∙ ap changeReply (c .enum-told .given .1) in
+    printed-nothing (limited-refused "autocorrelation" (autocorrelationReply _ _ _) (call .before .limit-of .ensures) reply)
 
 slice-aggregate-put-line : tie.Need-slice-aggregate-put-line
 slice-aggregate-put-line c = search needs
@@ -35,7 +41,7 @@ put-line-requires c κs = search needs
 write-from-sac-requires : tie.Need-write-from-sac-requires
 write-from-sac-requires c κs =
     let put = c .before .before .before .put-line in
-    room-after 49 130 _ (line-few _ _) (put .ensures .0) (put .kept .0) (search needs)
+    room-after 60 141 _ (line-few _ _) (put .ensures .0) (put .kept .0) (search needs)
 
 same-length : tie.Need-same-length
 same-length c = search needs
@@ -46,13 +52,16 @@ returns-2 c =
     let done = c .before .before in
     let put = done .before .before .before .before in
     let told = put .before .before .before .before .before in
-    let reply = sym (told .before .before .autocorrelation .ensures) ∙ ap changeReply (told .answer .given .1) in
-    printed-line 49 (numbers-shown "autocorrelation" reply) (line-few _ _) (put .put-line .ensures .0) (put .put-line .ensures .1) (done .write-from-sac .ensures)
+    let call = told .before .before in
+    let reply = sym (call .autocorrelation .ensures) ∙ ap changeReply (told .answer .given .1) in
+    let shows = limited-shown "autocorrelation" (autocorrelationReply _ _ _) (call .before .limit-of .ensures) reply in
+    printed-line 60 shows (line-few _ _) (put .put-line .ensures .0) (put .put-line .ensures .1) (done .write-from-sac .ensures)
 
 pub write-from-autocorrelation-spec : {M : Type 1} → statement M
 write-from-autocorrelation-spec =
     tie.close
     (tie.spec
+    limit-of-requires
     autocorrelation-requires
     enum-known-answer
     enum-told

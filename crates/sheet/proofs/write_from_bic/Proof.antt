@@ -58,7 +58,7 @@ put-line-requires c κs = search needs
 write-from-degree-requires-2 : tie.Need-write-from-degree-requires-2
 write-from-degree-requires-2 c κs =
     let put = c .before .before .before .put-line in
-    room-after 37 56 _ (line-few _ _) (put .ensures .0) (put .kept .0) (search needs)
+    room-after 37 67 _ (line-few _ _) (put .ensures .0) (put .kept .0) (search needs)
 
 same-length-2 : tie.Need-same-length-2
 same-length-2 c = search needs

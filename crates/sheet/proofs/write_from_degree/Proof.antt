@@ -1,14 +1,17 @@
 -- `sheet::write_from_degree` meets its contract: a refused figure leaves the text as it is, and else its line stands before those that follow.
 -- Assumes nothing.
 use mathlib.Core.Path.{sym, ap, _∙_}
-use Rattle.algebraic.specs.Calls.{degreeReply}
+use Rattle.algebraic.specs.Calls.{degreeReply, boxDegreeReply}
 use Rattle.texts.proofs.Lengths.{line-few}
 use Rattle.sheet.specs.Sheet.{sheetLines}
-use Rattle.sheet.proofs.Outcomes.{numbers-refused, numbers-shown}
+use Rattle.sheet.proofs.Outcomes.{limited-refused, limited-shown}
 use Rattle.sheet.proofs.Printing.{printed-nothing, printed-line, room-after}
 use borrow.Author.Needs.{needs}
 use Rattle.sheet.proofs.write_from_degree.Statement.{statement}
 use Rattle.sheet.proofs.write_from_degree.Tie as tie
+
+limit-of-requires : tie.Need-limit-of-requires
+limit-of-requires c κs = search needs
 
 degree-requires : tie.Need-degree-requires
 degree-requires c κs = search needs
@@ -21,7 +24,10 @@ enum-told c = search needs
 
 returns : tie.Need-returns
 unfolding sheetLines
-returns c = printed-nothing (numbers-refused "degree" (sym (c .before .before .degree .ensures) ∙ ap degreeReply (c .enum-told .given .1)))
+returns c =
+    let call = c .before .before in
+    let reply = sym (call .degree .ensures) ∙ ap degreeReply (c .enum-told .given .1) in
+    printed-nothing (limited-refused "degree" (boxDegreeReply _ _ _) (call .before .limit-of .ensures) reply)
 
 slice-aggregate-put-line : tie.Need-slice-aggregate-put-line
 slice-aggregate-put-line c = search needs
@@ -35,7 +41,7 @@ put-line-requires c κs = search needs
 write-from-complete-requires : tie.Need-write-from-complete-requires
 write-from-complete-requires c κs =
     let put = c .before .before .before .put-line in
-    room-after 29 27 _ (line-few _ _) (put .ensures .0) (put .kept .0) (search needs)
+    room-after 40 27 _ (line-few _ _) (put .ensures .0) (put .kept .0) (search needs)
 
 same-length : tie.Need-same-length
 same-length c = search needs
@@ -46,13 +52,16 @@ returns-2 c =
     let done = c .before .before in
     let put = done .before .before .before .before in
     let told = put .before .before .before .before .before in
-    let reply = sym (told .before .before .degree .ensures) ∙ ap degreeReply (told .answer .given .1) in
-    printed-line 29 (numbers-shown "degree" reply) (line-few _ _) (put .put-line .ensures .0) (put .put-line .ensures .1) (done .write-from-complete .ensures)
+    let call = told .before .before in
+    let reply = sym (call .degree .ensures) ∙ ap degreeReply (told .answer .given .1) in
+    let shows = limited-shown "degree" (boxDegreeReply _ _ _) (call .before .limit-of .ensures) reply in
+    printed-line 40 shows (line-few _ _) (put .put-line .ensures .0) (put .put-line .ensures .1) (done .write-from-complete .ensures)
 
 pub write-from-degree-spec : {M : Type 1} → statement M
 write-from-degree-spec =
     tie.close
     (tie.spec
+    limit-of-requires
     degree-requires
     enum-known-answer
     enum-told

@@ -2,13 +2,17 @@
 -- Assumes nothing.
 use mathlib.Core.Path.{sym, ap, _∙_}
 use Rattle.linear.specs.Calls.{leastPair}
+use Rattle.linear.specs.Nonlinearity.{nonlinearityReply}
 use Rattle.texts.proofs.Lengths.{line-few}
 use Rattle.sheet.specs.Sheet.{sheetLines}
-use Rattle.sheet.proofs.Outcomes.{numbers-refused, numbers-shown}
+use Rattle.sheet.proofs.Outcomes.{limited-refused, limited-shown}
 use Rattle.sheet.proofs.Printing.{printed-nothing, printed-line, room-after}
 use borrow.Author.Needs.{needs}
 use Rattle.sheet.proofs.write_from_nonlinearity.Statement.{statement}
 use Rattle.sheet.proofs.write_from_nonlinearity.Tie as tie
+
+limit-of-requires : tie.Need-limit-of-requires
+limit-of-requires c κs = search needs
 
 nonlinearity-requires : tie.Need-nonlinearity-requires
 nonlinearity-requires c κs = search needs
@@ -21,7 +25,10 @@ enum-told c = search needs
 
 returns : tie.Need-returns
 unfolding sheetLines
-returns c = printed-nothing (numbers-refused "nonlinearity" (sym (c .before .before .nonlinearity .ensures) ∙ ap leastPair (c .enum-told .given .1)))
+returns c =
+    let call = c .before .before in
+    let reply = sym (call .nonlinearity .ensures) ∙ ap leastPair (c .enum-told .given .1) in
+    printed-nothing (limited-refused "nonlinearity" (nonlinearityReply _ _ _) (call .before .limit-of .ensures) reply)
 
 slice-aggregate-put-line : tie.Need-slice-aggregate-put-line
 slice-aggregate-put-line c = search needs
@@ -35,7 +42,7 @@ put-line-requires c κs = search needs
 write-from-xor-requires : tie.Need-write-from-xor-requires
 write-from-xor-requires c κs =
     let put = c .before .before .before .put-line in
-    room-after 57 216 _ (line-few _ _) (put .ensures .0) (put .kept .0) (search needs)
+    room-after 68 238 _ (line-few _ _) (put .ensures .0) (put .kept .0) (search needs)
 
 same-length : tie.Need-same-length
 same-length c = search needs
@@ -46,13 +53,16 @@ returns-2 c =
     let done = c .before .before in
     let put = done .before .before .before .before in
     let told = put .before .before .before .before .before in
-    let reply = sym (told .before .before .nonlinearity .ensures) ∙ ap leastPair (told .answer .given .1) in
-    printed-line 57 (numbers-shown "nonlinearity" reply) (line-few _ _) (put .put-line .ensures .0) (put .put-line .ensures .1) (done .write-from-xor .ensures)
+    let call = told .before .before in
+    let reply = sym (call .nonlinearity .ensures) ∙ ap leastPair (told .answer .given .1) in
+    let shows = limited-shown "nonlinearity" (nonlinearityReply _ _ _) (call .before .limit-of .ensures) reply in
+    printed-line 68 shows (line-few _ _) (put .put-line .ensures .0) (put .put-line .ensures .1) (done .write-from-xor .ensures)
 
 pub write-from-nonlinearity-spec : {M : Type 1} → statement M
 write-from-nonlinearity-spec =
     tie.close
     (tie.spec
+    limit-of-requires
     nonlinearity-requires
     enum-known-answer
     enum-told

@@ -35,7 +35,7 @@ put-line-requires c κs = search needs
 write-from-autocorrelation-requires : tie.Need-write-from-autocorrelation-requires
 write-from-autocorrelation-requires c κs =
     let put = c .before .before .before .put-line in
-    room-after 37 179 _ (line-few _ _) (put .ensures .0) (put .kept .0) (search needs)
+    room-after 37 201 _ (line-few _ _) (put .ensures .0) (put .kept .0) (search needs)
 
 same-length : tie.Need-same-length
 same-length c = search needs

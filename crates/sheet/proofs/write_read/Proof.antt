@@ -78,7 +78,7 @@ put-line-requires-2 c κs = search needs
 write-from-nonlinearity-requires : tie.Need-write-from-nonlinearity-requires
 write-from-nonlinearity-requires c κs =
     let put = c .before .before .before .before .put-line2 in
-    room-after 26 273 0 (line-few _ _) (put .ensures .0) (put .kept .0) (search needs)
+    room-after 26 306 0 (line-few _ _) (put .ensures .0) (put .kept .0) (search needs)
 
 same-length-4 : tie.Need-same-length-4
 same-length-4 c = search needs

@@ -3,9 +3,11 @@ use mathlib.Core.List.{[]}
 use mathlib.Core.Path.{_≡_, sym, ap, _∙_}
 use Prim.Native.Nat.{_^_}
 use native.Mathlib.Nat.{le-trans}
+use native.Mathlib.Omega.{arith}
 use borrow.Author.Needs.{needs}
 use lib.Dec.{lit≤}
 use lib.ListN.{length}
+use lib.Pow.{pow-mono}
 use lib.Seq.{length-take-le}
 use Rattle.boolean.specs.Sums.{listBelow}
 use Rattle.boolean.specs.Functions.{valueAt, inverse}
@@ -48,7 +50,10 @@ power-of-two-requires c κs =
     le-trans (inverse-few (a .n) (a .values .now) (a .table .now) (lengths c)) (lit≤ tt)
 
 cast-all-within : tie.Need-cast-all-within
-cast-all-within c = search needs
+cast-all-within c =
+    let told = c .before in
+    let a = told .before .before .before .before .args in
+    omega (arith, c .power-of-two .ensures .0, pow-mono {i = a .n} {j = 8} (inverse-few (a .n) (a .values .now) (a .table .now) (lengths told)))
 
 all-within-requires : tie.Need-all-within-requires
 all-within-requires c κs = search needs

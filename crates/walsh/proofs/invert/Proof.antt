@@ -2,10 +2,12 @@
 use mathlib.Core.List.{List, []}
 use mathlib.Core.Path.{_≡_, sym, ap, _∙_, subst}
 use Prim.Native.Nat.{_^_}
+use native.Mathlib.Omega.{arith}
 use borrow.Author.Needs.{needs}
 use lib.Dec.{eqb}
 use lib.IntN.{ℤ, natAbs}
 use lib.ListN.{length}
+use lib.Pow.{pow-mono}
 use Rattle.boolean.specs.Sums.{every, listBelow}
 use Rattle.boolean.specs.Functions.{valueAt, transform, signBit, isSpectrum}
 use Rattle.refusals.proofs.Checks.{fails, holds, reply-refused, reply-accepted, content-refused, content-accepted}
@@ -36,7 +38,9 @@ power-of-two-requires : tie.Need-power-of-two-requires
 power-of-two-requires c κs = search needs
 
 cast-all-full : tie.Need-cast-all-full
-cast-all-full c = search needs
+cast-all-full c =
+    let s = c .before .before .before .before .before .before .before .before .before in
+    omega (arith, c .power-of-two .ensures .0, pow-mono {i = s .args .n} {j = 8} (s .pre .few))
 
 all-full-requires : tie.Need-all-full-requires
 all-full-requires c κs = search needs

@@ -1,0 +1,97 @@
+-- The running value: after each rise its count is the largest so far, and its β the smallest that has it. Assumes nothing.
+use mathlib.Core.Path.{_≡_, refl, ap, ap₂, _∙_}
+use mathlib.Core.Logic.{inl, inr}
+use mathlib.Core.List.{List, [], _∷_}
+use Prim.Native.Nat.{ℕ, _+_, _-_, _*_, _/_, _%_, _≤_, _<_}
+use native.Mathlib.Decide.{ℕ-discrete}
+use native.Mathlib.Omega.{arith}
+use lib.ListN.{length}
+use Rattle.boolean.specs.Functions.{at}
+use Rattle.boolean.specs.Selection.{Candidate}
+use Rattle.differential.specs.Work.{occurrences, standing, Running, AfterRow}
+use Rattle.differential.proofs.Occurrences.{occurs-more, occurs-same, occurs-none, occurs-le}
+
+-- ---- at the start
+pub running-none : (values : List ℕ) → Running values 0 4294967295
+running-none values = record {
+  largest = 0;
+  β = 0;
+  is = refl;
+  small = omega arith;
+  so-far = record { most = λ v. omega (arith, occurs-none values v); reached = occurs-none values 0; smallest = λ v l. absurd (omega arith) };
+}
+
+-- ---- after a rise
+module _ {values : List ℕ} {y best : ℕ} (r : Running values y best) {value : ℕ} (small : at values y < 4294967296)
+    (risen : value ≡ standing (occurrences values (y + 1) (at values y)) (at values y)) where
+  abbrev v : ℕ
+  v = at values y
+
+  abbrev count : ℕ
+  count = occurrences values (y + 1) v
+
+  -- the count that has risen is the largest, or is as large and of a smaller β
+  pub running-takes : best < value → Running values (y + 1) value
+  running-takes h = record {
+    largest = count;
+    β = v;
+    is = risen;
+    small = small;
+    so-far = record { most = λ u. most u (ℕ-discrete v u); reached = refl; smallest = λ u l. smallest u l (ℕ-discrete (r .largest) count) };
+  }
+    where
+      most : (u : ℕ) → Dec (v ≡ u) → occurrences values (y + 1) u ≤ count
+      most u (yes e) = omega (arith, ap (occurrences values (y + 1)) e)
+      most u (no e) = omega (arith, occurs-same values y u e, r .so-far .most u, r .is, r .small)
+
+      smallest : (u : ℕ) → u < v → Dec (r .largest ≡ count) → occurrences values (y + 1) u < count
+      smallest u l (yes e) = omega (arith, occurs-same values y u (λ q. omega arith), r .so-far .smallest u (omega (arith, r .is, r .small)))
+      smallest u l (no e) = omega (arith, occurs-same values y u (λ q. omega arith), r .so-far .most u, r .is, r .small)
+
+  -- it is not
+  pub running-keeps : value ≤ best → Running values (y + 1) best
+  running-keeps h = record {
+    largest = r .largest;
+    β = r .β;
+    is = r .is;
+    small = r .small;
+    so-far = record { most = λ u. most u (ℕ-discrete v u); reached = reached; smallest = λ u l. smallest u l (ℕ-discrete v u) };
+  }
+    where
+      most : (u : ℕ) → Dec (v ≡ u) → occurrences values (y + 1) u ≤ r .largest
+      most u (yes e) = omega (arith, ap (occurrences values (y + 1)) e, r .is, r .small)
+      most u (no e) = omega (arith, occurs-same values y u e, r .so-far .most u)
+
+      reached : occurrences values (y + 1) (r .β) ≡ r .largest
+      reached =
+          occurs-same values y (r .β) (λ e. absurd (omega (arith, r .is, r .small, occurs-more values y v refl, ap (occurrences values y) e, r .so-far .reached)))
+          ∙ r .so-far .reached
+
+      smallest : (u : ℕ) → u < r .β → Dec (v ≡ u) → occurrences values (y + 1) u < r .largest
+      smallest u l (yes e) = omega (arith, ap (occurrences values (y + 1)) e, r .is, r .small)
+      smallest u l (no e) = omega (arith, occurs-same values y u e, r .so-far .smallest u l)
+
+-- ---- at the end
+module _ {values : List ℕ} {best : ℕ} (r : Running values (length values) best) where
+  largest-is : best / 4294967296 ≡ r .largest
+  largest-is = omega (arith, r .is, r .small)
+
+  smallest-is : 4294967295 - best % 4294967296 ≡ r .β
+  smallest-is = omega (arith, r .is, r .small)
+
+  pub largest-few : best / 4294967296 ≤ length values
+  largest-few = omega (arith, largest-is, r .so-far .reached, occurs-le values (length values) (r .β))
+
+  -- the best cell so far stays, or is the row's largest
+  pub row-keeps : (a : ℕ) (found : Candidate) → 2 * (best / 4294967296) ≤ found .figure → AfterRow a values found found
+  row-keeps a found h = inl (refl, λ v. omega (arith, r .so-far .most v, largest-is))
+
+  pub row-takes : (a : ℕ) (found : Candidate) → found .figure < 2 * (best / 4294967296)
+      → AfterRow a values found (record { figure = 2 * (best / 4294967296); witness = a ∷ (4294967295 - best % 4294967296) ∷ [] })
+  row-takes a found h = inr (record {
+    largest = r .largest;
+    β = r .β;
+    is = ap₂ (λ (k v : ℕ). record { figure = 2 * k; witness = a ∷ v ∷ [] }) largest-is smallest-is;
+    above = omega (arith, largest-is);
+    of-row = r .so-far;
+  })

@@ -1,0 +1,7 @@
+pub mod Ones
+pub mod Trailing
+pub mod NextMask
+pub mod Runs
+pub mod Stepped
+pub mod Walk
+pub mod Boxes
