@@ -1,6 +1,7 @@
 pub mod Adding
 pub mod MoebiusHalves
 pub mod FallingOnes
+pub mod Basis
 pub mod Gathering
 pub mod Scanning
 pub mod Sweeping

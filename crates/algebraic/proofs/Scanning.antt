@@ -19,25 +19,20 @@ abbrev pub NoneOdd : (words inputs : List ℕ) → ℕ → ℕ → Type 0
 NoneOdd words inputs c i = (j : ℕ) → j < i → dot (at words (at inputs j)) c ≡ 1 → ⊥
 
 module _ {words inputs : List ℕ} {count : ℕ} (g : Gathered words inputs count) (c : ℕ) where
-  -- an odd word is one of those gathered, and past those that are not odd
-  odd-later : (i u : ℕ) → NoneOdd words inputs c i → u < length words → dot (at words u) c ≡ 1 → (j : ℕ) × (i ≤ j) × (j < count) × (at inputs j ≡ u)
-  odd-later i u none l odd = pick (g .all u l)
+  -- an odd word is settled by one of those gathered, past those that are not odd
+  odd-later : (i u : ℕ) → NoneOdd words inputs c i → u < length words → dot (at words u) c ≡ 1 → (j : ℕ) × (i ≤ j) × (j < count) × (ones u ≤ ones (at inputs j))
+  odd-later i u none l odd = let t = g .settle c u l odd in (t .0, later (t .0) (t .2) (decLt (t .0) i), t .1, t .3)
     where
-      later : (j : ℕ) → at inputs j ≡ u → Dec (j < i) → i ≤ j
-      later j e (yes k) = absurd (none j k (ap (λ (v : ℕ). dot (at words v) c) e ∙ odd))
+      later : (j : ℕ) → dot (at words (at inputs j)) c ≡ 1 → Dec (j < i) → i ≤ j
+      later j e (yes k) = absurd (none j k e)
       later j e (no k) = omega arith
-
-      pick : (at words u ≡ 0) ⊎ ((j : ℕ) × (j < count) × (at inputs j ≡ u)) → (j : ℕ) × (i ≤ j) × (j < count) × (at inputs j ≡ u)
-      pick (inl z) = absurd (let e : _≡_ {A = ℕ} 1 0 = sym odd ∙ ap (λ (a : ℕ). dot a c) z ∙ dot-zero c in omega arith)
-      pick (inr t) = (t .0, later (t .0) (t .2) (decLt (t .0) i), t .1, t .2)
 
   pub first-odd : (i : ℕ) → i < count → NoneOdd words inputs c i → dot (at words (at inputs i)) c ≡ 1 → ones (at inputs i) ≡ degreeOf words c
   unfolding degreeOf
   first-odd i l none odd = le-antisymm (le-most (length words) (λ u. dot (at words u) c) (at inputs i) (g .inside i l) odd)
       (most-le (length words) (ones (at inputs i)) (λ u. dot (at words u) c)
       (λ u h e.
-      let t = odd-later i u none h e in
-      subst (λ (v : ℕ). ones v ≤ ones (at inputs i)) (t .3) (g .falling i (t .0) (t .1) (t .2))))
+      let t = odd-later i u none h e in omega (arith, t .3, g .falling i (t .0) (t .1) (t .2))))
 
   pub none-odd : NoneOdd words inputs c count → 0 ≡ degreeOf words c
   unfolding degreeOf

@@ -1,13 +1,13 @@
 -- The calls on the normal form, the degree and bijectivity: checks and answers.
-use Prim.Native.Nat.{ℕ, _+_, _^_, _≤_, _<_}
+use Prim.Native.Nat.{ℕ, suc, _+_, _^_, _≤_, _<_}
 use mathlib.Core.Path.{_≡_}
 use mathlib.Core.Logic.{_⊎_}
-use mathlib.Core.Bool.{cond}
+use mathlib.Core.Bool.{Bool, true, false, cond}
 use mathlib.Core.List.{List, [], _∷_}
 use lib.Bits.{bitXor}
 use lib.Count.{ones}
 use lib.Dec.{eqb}
-use lib.ListN.{length}
+use lib.ListN.{length, set}
 use Rattle.boolean.specs.Bits.{dot}
 use Rattle.boolean.specs.Sums.{largestBelow, each}
 use Rattle.boolean.specs.Functions.{at, components}
@@ -63,11 +63,41 @@ pub record ByOnes (table : List ℕ) : Type 0 where
   pub all : (u : ℕ) → u < 256 → (i : ℕ) × (i < 256) × (at table i ≡ u)
   pub falling : (i j : ℕ) → i ≤ j → j < 256 → ones (at table j) ≤ ones (at table i)
 
--- the inputs at which the words are not 0, those with the most ones first: as many as are counted
+-- a basis of words: the word at each place is 0, or has its highest one there
+abbrev pub Staircase : List ℕ → Type 0
+Staircase basis = (k : ℕ) → (at basis k ≡ 0) ⊎ ((2 ^ k ≤ at basis k) × (at basis k < 2 ^ suc k))
+
+-- the component at the mask c is even at every word of the basis
+abbrev pub EvenOn : List ℕ → ℕ → Type 0
+EvenOn basis c = (k : ℕ) → dot (at basis k) c ≡ 0
+
+-- what is left of a word, in a place of the basis that was free
+pub record Placed (m word : ℕ) (old new : List ℕ) : Type 0 where
+  pub place : ℕ
+  pub rest : ℕ
+  pub inside : place < m
+  pub low : 2 ^ place ≤ rest
+  pub high : rest < 2 ^ suc place
+  pub some : word ≡ 0 → ⊥
+  pub put : new ≡ set old place rest
+  pub same : (c : ℕ) → EvenOn old c → dot rest c ≡ dot word c
+
+-- a component that is even on the basis is even at the word, and the basis stays
+pub record Spanned (word : ℕ) (old new : List ℕ) : Type 0 where
+  pub kept : new ≡ old
+  pub even : (c : ℕ) → EvenOn old c → dot word c ≡ 0
+
+-- whether the word is put into the basis
+abbrev pub PutIn : ℕ → ℕ → List ℕ → List ℕ → Bool → Type 0
+PutIn m word old new true = Placed m word old new
+PutIn m word old new false = Spanned word old new
+
+-- the inputs that settle every degree, those with the most ones first, as many as are counted: a component that is odd anywhere is odd at one of them
+-- that has as many ones or more
 pub record Gathered (words inputs : List ℕ) (count : ℕ) : Type 0 where
   pub few : count ≤ length inputs
   pub inside : (i : ℕ) → i < count → at inputs i < length words
-  pub all : (u : ℕ) → u < length words → (at words u ≡ 0) ⊎ ((i : ℕ) × (i < count) × (at inputs i ≡ u))
+  pub settle : (c u : ℕ) → u < length words → dot (at words u) c ≡ 1 → (i : ℕ) × (i < count) × (dot (at words (at inputs i)) c ≡ 1) × (ones u ≤ ones (at inputs i))
   pub falling : (i j : ℕ) → i ≤ j → j < count → ones (at inputs j) ≤ ones (at inputs i)
 
 -- the words of an accepted box, and a limit

@@ -19,7 +19,7 @@ ghost use Rattle.boolean.specs.Selection.{best, lower, firstLeast};
 ghost use Rattle.refusals.specs.Table.{tableCallChecks, first, replyAfter, contentAfter, written, verdict, Box, Table};
 ghost use Rattle.masks.specs.Masks.{Next};
 ghost use Rattle.algebraic.specs.Algebraic.{boxDegree};
-ghost use Rattle.algebraic.specs.Calls.{degreeReply, boxDegreeReply, bijectiveReply, degreeAt, candidate, degreeOf, degreesOf, Added, Gathered, Swept};
+ghost use Rattle.algebraic.specs.Calls.{degreeReply, boxDegreeReply, bijectiveReply, degreeAt, candidate, degreeOf, degreesOf, Added, Staircase, PutIn, Gathered, Swept};
 
 // The weakest component so far: its degree and its mask.
 pub struct Weakest {
@@ -154,30 +154,61 @@ fn is_odd(word: u32, c: u32) -> bool
     boolean::dot(word, c) == 1
 }
 
-// Whether the normal form has a word other than 0 at u. A word of 0 is a coefficient 0 of every component.
-fn is_present(words: &[u32], u: u8) -> bool
-    ensures { λ r. ⌜ r ≡ not (eqb (at (now (words .entry)) u) 0) ⌝ }
+// Whether the word is no XOR of words of the basis; then what they leave of it is put into the basis, at the place of its highest one. Where a word of the
+// basis has its highest one, that word is XORed to it, from the highest place down.
+fn put_in(m: u32, word: u32, basis: &mut [u32; 32]) -> bool
+    requires { ⌜ (m ≤ 32) × (word < 2 ^ m) × Staircase (now basis) ⌝ }
+    ensures { λ r. ⌜ PutIn m word (now (basis .entry)) (now (basis .exit)) r ⌝ }
+{
+    let mut rest = word;
+    let mut place = m as usize;
+    let mut top = boolean::power_of_two(m);
+    while rest != 0 {
+        place -= 1;
+        top /= 2;
+        if top <= rest as usize {
+            let here = basis[place];
+            if here == 0 {
+                basis[place] = rest;
+                return true;
+            }
+            rest = rest ^ here;
+        }
+    }
+    false
+}
+
+// Whether the normal form has a word at u that is no XOR of words of the basis; it is then put in. Past the inputs there is none.
+fn adds_word(m: u32, words: &[u32], u: u8, basis: &mut [u32; 32]) -> bool
+    requires { ⌜ (m ≤ 32) × ((x : ℕ) → at (now words) x < 2 ^ m) × Staircase (now basis) ⌝ }
+    ensures { λ r. ⌜ PutIn m (at (now (words .entry)) u) (now (basis .entry)) (now (basis .exit)) r ⌝ }
 {
     let place = place_of(u);
     if place < words.len() {
-        words[place] != 0
+        put_in(m, words[place], basis)
     } else {
         false
     }
 }
 
-// The inputs at which the normal form has a word other than 0, those with the most ones first, and their number.
-fn gather(words: &[u32], inputs: &mut [u8]) -> usize
-    requires { ⌜ (length (now words) ≤ 256) × (length (now inputs) ≡ 256) ⌝ }
+// The inputs that settle every degree, those with the most ones first, and their number. A word that is an XOR of words before it is left out: a
+// component that is odd there is odd at one of those. Once the basis has a word for each of the m bits every component is odd at one of them.
+fn gather(m: u32, words: &[u32], inputs: &mut [u8]) -> usize
+    requires { ⌜ (m ≤ 32) × ((x : ℕ) → at (now words) x < 2 ^ m) × (length (now words) ≤ 256) × (length (now inputs) ≡ 256) ⌝ }
     ensures { λ r. ⌜ Gathered (now (words .entry)) (now (inputs .exit)) r ⌝ }
 {
     let table = order::by_ones();
+    let width = m as usize;
+    let mut basis = [0u32; 32];
     let mut count: usize = 0;
     let mut i: usize = 0;
     while i < 256 {
-        if is_present(words, table[i]) {
+        if adds_word(m, words, table[i], &mut basis) {
             inputs[count] = table[i];
             count += 1;
+            if none_equal(&basis[..width], 0) {
+                return count;
+            }
         }
         i += 1;
     }
@@ -252,7 +283,7 @@ fn weakest_of(n: u32, m: u32, rows: &[u32], i: u32, words: &mut [u32], inputs: &
 {
     copy(rows, words);
     moebius(n, words);
-    let count = gather(words, inputs);
+    let count = gather(m, words, inputs);
     sweep(n, m, words, i, inputs, count)
 }
 

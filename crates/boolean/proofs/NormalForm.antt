@@ -3,12 +3,13 @@ use mathlib.Core.Path.{_≡_, refl, sym, ap, ap₂, _∙_}
 use mathlib.Core.Bool.{Bool, true, false, cond}
 use mathlib.Core.List.{List}
 use Prim.Native.Nat.{ℕ, zero, suc, _+_, _*_, _^_, _<_}
-use native.Mathlib.Nat.{one-mul, zero-add, zero-lt-suc, zero-mul}
+use native.Mathlib.Nat.{one-mul, zero-add, zero-mul}
 use native.Mathlib.Omega.{arith}
 use borrow.Author.Tests.{eq-eqb, eqb-false, eqb-true, ne-eqb}
 use lib.Arith.{lt-one as below-one}
 use lib.Bits.{and-block, and-le-r, bitAnd, bitXor, xor-self, xor-zero-r}
 use lib.Dec.{eqb}
+use lib.Pow.{pow-pos}
 use Rattle.boolean.specs.Bits.{dot, within}
 use Rattle.boolean.specs.Functions.{Boolean, at, coefficient, component}
 use Rattle.boolean.specs.Sums.{xorBelow}
@@ -62,13 +63,16 @@ coefficient-xor n f g u =
     both true a b = refl
     both false a b = refl
 
-pub coefficient-boolean : (n : ℕ) (f : ℕ → ℕ) (u : ℕ) → Boolean n f → coefficient n f u < 2
+pub coefficient-lt : (k n : ℕ) (f : ℕ → ℕ) (u : ℕ) → ((x : ℕ) → x < 2 ^ n → f x < 2 ^ k) → coefficient n f u < 2 ^ k
 unfolding coefficient
-coefficient-boolean n f u h = xorBelow-lt 1 (2 ^ n) (λ x. cond (within u x) (f x) 0) (λ x l. pick (within u x) (h x l))
+coefficient-lt k n f u h = xorBelow-lt k (2 ^ n) (λ x. cond (within u x) (f x) 0) (λ x l. pick (within u x) (h x l))
   where
-    pick : {a : ℕ} (t : Bool) → a < 2 → cond t a 0 < 2
-    pick true k = k
-    pick false k = zero-lt-suc 1
+    pick : {a : ℕ} (t : Bool) → a < 2 ^ k → cond t a 0 < 2 ^ k
+    pick true l = l
+    pick false l = pow-pos k
+
+pub coefficient-boolean : (n : ℕ) (f : ℕ → ℕ) (u : ℕ) → Boolean n f → coefficient n f u < 2
+coefficient-boolean n f u h = coefficient-lt 1 n f u h
 
 -- of nothing
 pub coefficient-none : (n u : ℕ) → coefficient n (λ x. 0) u ≡ 0

@@ -1,39 +1,80 @@
 -- `algebraic::gather` meets its contract: each turn passes one input of the table or puts it after those gathered. Assumes nothing.
-use mathlib.Core.Path.{sym, _∙_}
+use mathlib.Core.Path.{_≡_, refl, sym, ap, _∙_, subst}
 use mathlib.Core.Logic.{⊎-elim}
-use Prim.Native.Nat.{_-_, _<_}
+use mathlib.Core.Bool.{Bool, true, false}
+use Prim.Native.Nat.{ℕ, _+_, _-_, _<_, _≤_}
 use native.Mathlib.Omega.{arith}
 use borrow.Author.Needs.{needs}
-use Rattle.algebraic.proofs.Gathering.{Gathering, gathering-none, gathering-passed, gathering-put, gathering-all}
+use lib.ListN.{set, length-take}
+use Rattle.boolean.specs.Functions.{at}
+use Rattle.algebraic.specs.Calls.{PutIn}
+use Rattle.algebraic.proofs.Gathering.{Gathering, gathering-none, gathering-passed, gathering-put, gathering-all, gathering-full, zeroes, none-zero}
 use Rattle.algebraic.proofs.gather.Statement.{statement}
 use Rattle.algebraic.proofs.gather.Tie as tie
 
 abbrev Inv-loop : tie.InvT-loop
-Inv-loop words inputs₀ table count₀ i₀ inputs count i = Gathering table words i count inputs
+Inv-loop m words inputs₀ table width basis₀ count₀ i₀ inputs basis count i = Gathering table words basis i count inputs
 
 abbrev μ-loop : tie.MeasureT-loop
-μ-loop words inputs₀ table count₀ i₀ inputs count i = 256 - i
+μ-loop m words inputs₀ table width basis₀ count₀ i₀ inputs basis count i = 256 - i
+
+-- the word was put into the basis, and its input after those gathered
+put : (c : tie.Then1 Inv-loop μ-loop) →
+    let at-loop = c .before .before .before .before in
+    let table = at-loop .before .by-ones .result in
+    Gathering table (at-loop .before .before .before .before .args .words .now) (c .before .adds-word .last .1 .1 .1 .0) (at-loop .loop .i + 1) (at-loop .loop .count + 1)
+    (set (at-loop .loop .inputs) (at-loop .loop .count) (at table (at-loop .loop .i)))
+put c =
+    let in-loop = c .before .before .before in
+    let at-loop = in-loop .before in
+    let start = at-loop .before .before .before .before in
+    let a = start .args in
+    gathering-put (at-loop .loop .inv) (at-loop .before .by-ones .ensures) (in-loop .loop-test .taken) (start .pre .0)
+    (subst (λ (r : Bool). PutIn (a .m) (at (a .words .now) (at (at-loop .before .by-ones .result) (at-loop .loop .i))) (at-loop .loop .basis) (c .before .adds-word .last .1 .1 .1 .0) r)
+    (c .if1 .taken) (c .before .adds-word .ensures))
 
 by-ones-requires : tie.Need-by-ones-requires Inv-loop μ-loop
 by-ones-requires c κs = search needs
 
 loop-holds : tie.Need-loop-holds Inv-loop μ-loop
-loop-holds c = gathering-none _ _ _ (c .before .before .before .pre .1)
+loop-holds c = gathering-none _ _ _ _ (c .before .before .before .pre .3) refl (zeroes 32)
 
-array-read-is-present : tie.Need-array-read-is-present Inv-loop μ-loop
-array-read-is-present c = search needs
+array-read-adds-word : tie.Need-array-read-adds-word Inv-loop μ-loop
+array-read-adds-word c = search needs
 
-is-present-requires : tie.Need-is-present-requires Inv-loop μ-loop
-is-present-requires c κs = search needs
+adds-word-requires : tie.Need-adds-word-requires Inv-loop μ-loop
+adds-word-requires c κs = let at-loop = c .before .before in
+    let start = at-loop .before .before .before .before in
+    (start .pre .0, start .pre .1, at-loop .loop .inv .stairs)
 
 array-read-inputs : tie.Need-array-read-inputs Inv-loop μ-loop
 array-read-inputs c = search needs
 
 slice-write-inputs : tie.Need-slice-write-inputs Inv-loop μ-loop
-slice-write-inputs c = search needs
+slice-write-inputs c = omega (arith, c .before .before .before .before .loop .inv .few, c .before .before .before .before .loop .inv .long, c .before .before .before .loop-test .taken)
 
 add-count : tie.Need-add-count Inv-loop μ-loop
 add-count c = search needs
+
+array-share-prefix-basis : tie.Need-array-share-prefix-basis Inv-loop μ-loop
+array-share-prefix-basis c = omega (arith, put c .places, c .before .before .before .before .before .before .before .before .pre .0)
+
+slice-aggregate-none-equal : tie.Need-slice-aggregate-none-equal Inv-loop μ-loop
+slice-aggregate-none-equal c = let put-in = c .before in
+    omega (arith, length-take (put-in .before .before .before .before .before .before .before .before .args .m) (put-in .before .adds-word .last .1 .1 .1 .0), put put-in .places, put-in .before .before .before .before .before .before .before .before .pre .0)
+
+none-equal-requires : tie.Need-none-equal-requires Inv-loop μ-loop
+none-equal-requires c κs = search needs
+
+same-length : tie.Need-same-length Inv-loop μ-loop
+same-length c = put (c .before .before .before) .long ∙ sym (c .before .before .before .before .before .before .before .before .before .before .before .pre .3)
+
+returns : tie.Need-returns Inv-loop μ-loop
+returns c = let put-in = c .before .before .before in
+    let at-loop = put-in .before .before .before .before in
+    let start = at-loop .before .before .before .before in
+    gathering-full (put put-in) (at-loop .before .by-ones .ensures) (start .pre .2) (start .pre .1)
+    (none-zero (start .args .m) (put-in .before .adds-word .last .1 .1 .1 .0) (omega (arith, put put-in .places, start .pre .0)) (sym (c .before .none-equal .ensures) ∙ c .if2 .taken))
 
 add-i : tie.Need-add-i Inv-loop μ-loop
 add-i c = search needs
@@ -42,19 +83,21 @@ loop-less : tie.Need-loop-less Inv-loop μ-loop
 loop-less c = search needs
 
 loop-again : tie.Need-loop-again Inv-loop μ-loop
-loop-again c =
-    let in-loop = c .before .before in
+loop-again c = let word = c .before in
+    let in-loop = word .before .before in
     let at-loop = in-loop .before in
-    let inside : at-loop .loop .i < 256 = omega (arith, in-loop .loop-test .taken) in
-    let answer = sym (c .before .is-present .ensures) in
-    ⊎-elim (λ t. rw (t .1, t .2) (gathering-put (at-loop .loop .inv) (at-loop .before .by-ones .ensures) inside (answer ∙ t .0 .taken)))
-    (λ t. rw (t .1, t .2) (gathering-passed (at-loop .loop .inv) inside (answer ∙ t .0 .left))) (c .if1 .came)
+    let a = at-loop .before .before .before .before .args in
+    ⊎-elim (λ t. rw (t .4, t .5) (put record { before = word; if1 = t .0 }))
+    (λ t.
+    rw (t .1, t .2) (gathering-passed (at-loop .loop .inv) (at-loop .before .by-ones .ensures) (in-loop .loop-test .taken)
+    (subst (λ (r : Bool). PutIn (a .m) (at (a .words .now) (at (at-loop .before .by-ones .result) (at-loop .loop .i))) (at-loop .loop .basis) (word .adds-word .last .1 .1 .1 .0) r)
+    (t .0 .left) (word .adds-word .ensures)))) (c .if1 .came)
 
-same-length : tie.Need-same-length Inv-loop μ-loop
-same-length c = c .before .loop .inv .long ∙ sym (c .before .before .before .before .before .pre .1)
+same-length-2 : tie.Need-same-length-2 Inv-loop μ-loop
+same-length-2 c = c .before .loop .inv .long ∙ sym (c .before .before .before .before .before .pre .3)
 
-returns : tie.Need-returns Inv-loop μ-loop
-returns c = gathering-all (c .before .loop .inv) (c .before .before .by-ones .ensures) (c .before .before .before .before .before .pre .0) (omega (arith, c .loop-test .left))
+returns-2 : tie.Need-returns-2 Inv-loop μ-loop
+returns-2 c = gathering-all (c .before .loop .inv) (c .before .before .by-ones .ensures) (c .before .before .before .before .before .pre .2) (c .loop-test .left)
 
 pub gather-spec : {M : Type 1} → statement M
 gather-spec =
@@ -64,13 +107,18 @@ gather-spec =
     μ-loop
     by-ones-requires
     loop-holds
-    array-read-is-present
-    is-present-requires
+    array-read-adds-word
+    adds-word-requires
     array-read-inputs
     slice-write-inputs
     add-count
+    array-share-prefix-basis
+    slice-aggregate-none-equal
+    none-equal-requires
+    same-length
+    returns
     add-i
     loop-less
     loop-again
-    same-length
-    returns)
+    same-length-2
+    returns-2)

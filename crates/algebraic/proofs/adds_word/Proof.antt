@@ -1,0 +1,51 @@
+-- `algebraic::adds_word` meets its contract: past the inputs the word is 0, which is even everywhere. Assumes nothing.
+use mathlib.Core.Path.{refl, sym, ap, _∙_, subst}
+use mathlib.Core.List.{List}
+use Prim.Native.Nat.{ℕ}
+use native.Mathlib.Omega.{arith}
+use borrow.Author.Needs.{needs}
+use lib.ListN.{List·getD-eq-default}
+use Rattle.boolean.specs.Bits.{dot}
+use Rattle.boolean.specs.Functions.{at}
+use Rattle.boolean.proofs.Dots.{dot-zero}
+use Rattle.algebraic.specs.Calls.{PutIn}
+use Rattle.algebraic.proofs.adds_word.Statement.{statement}
+use Rattle.algebraic.proofs.adds_word.Tie as tie
+
+place-of-requires : tie.Need-place-of-requires
+place-of-requires c κs = search needs
+
+mul-put-in : tie.Need-mul-put-in
+mul-put-in c = search needs
+
+shared-slice-read-put-in : tie.Need-shared-slice-read-put-in
+shared-slice-read-put-in c = search needs
+
+put-in-requires : tie.Need-put-in-requires
+put-in-requires c κs = let start = c .before .before .before .before .before in
+    (start .pre .0, start .pre .1 _, start .pre .2)
+
+returns : tie.Need-returns
+returns c = let start = c .before .before .before .before .before .before in
+    let a = start .args in
+    subst (λ (u : ℕ). PutIn (a .m) (at (a .words .now) u) (a .basis .now) (c .put-in .last .1 .1 .0) (c .put-in .result))
+    (c .before .before .before .before .place-of .ensures) (c .put-in .ensures)
+
+returns-2 : tie.Need-returns-2
+returns-2 c = let a = c .before .before .before .args in
+    record {
+      kept = refl;
+      even = λ e h.
+          ap (λ (v : ℕ). dot v e) (List·getD-eq-default (a .words .now) 0 (omega (arith, c .before .place-of .ensures, c .if1 .left))) ∙ dot-zero e;
+    }
+
+pub adds-word-spec : {M : Type 1} → statement M
+adds-word-spec =
+    tie.close
+    (tie.spec
+    place-of-requires
+    mul-put-in
+    shared-slice-read-put-in
+    put-in-requires
+    returns
+    returns-2)
