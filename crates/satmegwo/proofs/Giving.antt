@@ -38,6 +38,11 @@ pub gives-all : (given old : List ℕ) → length old ≡ length given → Gives
 unfolding status figuresAfter
 gives-all given old h = let e = lent-all given (length old) h in (sym (ap status e), sym (ap (λ (k : Reply). figuresAfter k old) e))
 
+-- a call that looks at the array first, where it has another length than the figures that the checks would let through
+pub room-first : (found : Checked) (given old : List ℕ) → (found ≡ Accepted → length old ≡ length given → ⊥) → Gives (replyAfter found given) (roomNumber found) old old
+room-first Accepted given old h = gives-other given old (h refl)
+room-first (Refused e) given old h = gives-refused (number e) old
+
 -- the same reply, in other words
 pub gives-same : (old : List ℕ) {reply other : Reply} {r : ℕ} {new : List ℕ} → reply ≡ other →
     (r ≡ status (lent reply (length old))) × (new ≡ figuresAfter (lent reply (length old)) old) →

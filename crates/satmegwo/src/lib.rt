@@ -172,6 +172,9 @@ pub extern "C" fn satmegwo_nonlinearity(
     ensures number { λ r. ⌜ r ≡ status (lent (nonlinearityReply n m (now (rows .entry)) i) (length (now (figures .entry)))) ⌝ }
     ensures content { λ r. ⌜ now (figures .exit) ≡ figuresAfter (lent (nonlinearityReply n m (now (rows .entry)) i) (length (now (figures .entry)))) (now (figures .entry)) ⌝ }
 {
+    if figures.len() != 4 {
+        return number_for_room(refusals::check_limited(n, m, rows, i));
+    }
     give_pair(linear::nonlinearity(n, m, rows, i), figures)
 }
 
@@ -244,6 +247,9 @@ pub extern "C" fn satmegwo_autocorrelation(
     ensures number { λ r. ⌜ r ≡ status (lent (autocorrelationReply n m (now (rows .entry)) i) (length (now (figures .entry)))) ⌝ }
     ensures content { λ r. ⌜ now (figures .exit) ≡ figuresAfter (lent (autocorrelationReply n m (now (rows .entry)) i) (length (now (figures .entry)))) (now (figures .entry)) ⌝ }
 {
+    if figures.len() != 3 {
+        return number_for_room(refusals::check_limited(n, m, rows, i));
+    }
     give_change(avalanche::autocorrelation(n, m, rows, i), figures)
 }
 
@@ -278,6 +284,9 @@ pub extern "C" fn satmegwo_degree(n: u32, m: u32, rows: &[u32], i: u32, figures:
     ensures number { λ r. ⌜ r ≡ status (lent (boxDegreeReply n m (now (rows .entry)) i) (length (now (figures .entry)))) ⌝ }
     ensures content { λ r. ⌜ now (figures .exit) ≡ figuresAfter (lent (boxDegreeReply n m (now (rows .entry)) i) (length (now (figures .entry)))) (now (figures .entry)) ⌝ }
 {
+    if figures.len() != 2 {
+        return number_for_room(refusals::check_limited(n, m, rows, i));
+    }
     give_degree(algebraic::degree(n, m, rows, i), figures)
 }
 

@@ -1,8 +1,31 @@
--- `satmegwo::satmegwo_degree` meets its contract: that of the call, with its figures in the lent array. Assumes nothing.
-use Rattle.satmegwo.proofs.Giving.{gives-same}
+-- `satmegwo::satmegwo_degree` meets its contract: that of the call, with its figures in the lent array, whose length is looked at before the sweep.
+-- Assumes nothing.
+use mathlib.Core.Path.{ap, _∙_}
+use Rattle.boolean.specs.Selection.{shown}
+use Rattle.refusals.specs.Table.{first, limitChecks}
+use Rattle.algebraic.specs.Algebraic.{boxDegree}
+use Rattle.satmegwo.specs.Exports.{roomNumber}
+use Rattle.satmegwo.proofs.Giving.{gives-same, room-first}
+use Rattle.satmegwo.proofs.Sizes.{degree-size}
 use borrow.Author.Needs.{needs}
 use Rattle.satmegwo.proofs.satmegwo_degree.Statement.{statement}
 use Rattle.satmegwo.proofs.satmegwo_degree.Tie as tie
+
+check-limited-requires : tie.Need-check-limited-requires
+check-limited-requires c κs = search needs
+
+number-for-room-requires : tie.Need-number-for-room-requires
+number-for-room-requires c κs = search needs
+
+returns : tie.Need-returns
+returns c =
+    let else = c .before .before in
+    let a = else .before .before .before .args in
+    let found = first (limitChecks (a .n) (a .m) (a .rows .now) (a .i)) in
+    let told =
+    room-first found (shown (boxDegree (a .n) (a .m) (a .rows .now) (a .i))) (a .figures .now)
+    (λ ok e. else .if1 .taken (e ∙ degree-size (a .n) (a .m) (a .rows .now) (a .i) ok)) in
+    (c .number-for-room .ensures ∙ ap roomNumber (c .before .check-limited .ensures) ∙ told .0, told .1)
 
 degree-requires : tie.Need-degree-requires
 degree-requires c κs = search needs
@@ -13,12 +36,20 @@ give-degree-requires c κs = search needs
 same-length : tie.Need-same-length
 same-length c = search needs
 
-returns : tie.Need-returns
-returns c =
+returns-2 : tie.Need-returns-2
+returns-2 c =
     let given = c .before .before in
     let called = given .before .before in
-    gives-same (called .before .before .before .args .figures .now) (called .degree .ensures) (given .give-degree .ensures)
+    gives-same (called .before .before .before .before .args .figures .now) (called .degree .ensures) (given .give-degree .ensures)
 
 pub satmegwo-degree-spec : {M : Type 1} → statement M
 satmegwo-degree-spec =
-    tie.close (tie.spec degree-requires give-degree-requires same-length returns)
+    tie.close
+    (tie.spec
+    check-limited-requires
+    number-for-room-requires
+    returns
+    degree-requires
+    give-degree-requires
+    same-length
+    returns-2)

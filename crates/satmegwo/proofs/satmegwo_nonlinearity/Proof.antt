@@ -1,8 +1,31 @@
--- `satmegwo::satmegwo_nonlinearity` meets its contract: that of the call, with its figures in the lent array. Assumes nothing.
-use Rattle.satmegwo.proofs.Giving.{gives-same}
+-- `satmegwo::satmegwo_nonlinearity` meets its contract: that of the call, with its figures in the lent array, whose length is looked at before the sweep.
+-- Assumes nothing.
+use mathlib.Core.Path.{ap, _∙_}
+use Rattle.boolean.specs.Selection.{shown}
+use Rattle.refusals.specs.Table.{first, limitChecks}
+use Rattle.linear.specs.Nonlinearity.{nonlinearity}
+use Rattle.satmegwo.specs.Exports.{roomNumber}
+use Rattle.satmegwo.proofs.Giving.{gives-same, room-first}
+use Rattle.satmegwo.proofs.Sizes.{pair-size}
 use borrow.Author.Needs.{needs}
 use Rattle.satmegwo.proofs.satmegwo_nonlinearity.Statement.{statement}
 use Rattle.satmegwo.proofs.satmegwo_nonlinearity.Tie as tie
+
+check-limited-requires : tie.Need-check-limited-requires
+check-limited-requires c κs = search needs
+
+number-for-room-requires : tie.Need-number-for-room-requires
+number-for-room-requires c κs = search needs
+
+returns : tie.Need-returns
+returns c =
+    let else = c .before .before in
+    let a = else .before .before .before .args in
+    let found = first (limitChecks (a .n) (a .m) (a .rows .now) (a .i)) in
+    let told =
+    room-first found (shown (nonlinearity (a .n) (a .m) (a .rows .now) (a .i))) (a .figures .now)
+    (λ ok e. else .if1 .taken (e ∙ pair-size (a .n) (a .m) (a .rows .now) (a .i) ok)) in
+    (c .number-for-room .ensures ∙ ap roomNumber (c .before .check-limited .ensures) ∙ told .0, told .1)
 
 nonlinearity-requires : tie.Need-nonlinearity-requires
 nonlinearity-requires c κs = search needs
@@ -13,12 +36,20 @@ give-pair-requires c κs = search needs
 same-length : tie.Need-same-length
 same-length c = search needs
 
-returns : tie.Need-returns
-returns c =
+returns-2 : tie.Need-returns-2
+returns-2 c =
     let given = c .before .before in
     let called = given .before .before in
-    gives-same (called .before .before .before .args .figures .now) (called .nonlinearity .ensures) (given .give-pair .ensures)
+    gives-same (called .before .before .before .before .args .figures .now) (called .nonlinearity .ensures) (given .give-pair .ensures)
 
 pub satmegwo-nonlinearity-spec : {M : Type 1} → statement M
 satmegwo-nonlinearity-spec =
-    tie.close (tie.spec nonlinearity-requires give-pair-requires same-length returns)
+    tie.close
+    (tie.spec
+    check-limited-requires
+    number-for-room-requires
+    returns
+    nonlinearity-requires
+    give-pair-requires
+    same-length
+    returns-2)
