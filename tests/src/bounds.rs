@@ -151,8 +151,8 @@ fn outside_limits(m: u32) -> [u32; 7] {
     [0, m + 1, m + 2, 1 + (1 << 8), 1 + (1 << 16), m + (1 << 31), u32::MAX]
 }
 
-/// With many outputs the higher limits take too long to be run, also where the figures' array
-/// has a wrong length: 7 comes last, and the library looks at that array when it has the figures.
+/// With many outputs the higher limits take too long to be run. Where the figures' array has a
+/// wrong length nothing needs to be run, and 7 is told at once at every limit.
 fn limits(run: &mut Run) {
     for m in 1..=32 {
         let rows = boxes::random_rows(2, m, &mut run.random);
@@ -163,10 +163,12 @@ fn limits(run: &mut Run) {
             }
             for i in 1..=quick_limit(2, m) {
                 run.limited_figures(call, 2, m, &rows, i, call.figures);
+            }
+            for i in 1..=m {
                 run.limited_figures(call, 2, m, &rows, i, call.figures + 1);
             }
         }
-        for i in 1..=quick_limit(2, m) {
+        for i in 1..=m {
             run.dynamic_distance(2, m, &rows, (i, 1), 4);
         }
     }

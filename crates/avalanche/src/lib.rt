@@ -34,7 +34,7 @@ pub enum LargestChange {
 }
 
 // The checks of the dynamic distance: those of a box, then the order (i, j).
-fn check_distance(n: u32, m: u32, rows: &[u32], i: u32, j: u32) -> Checked
+pub fn check_distance(n: u32, m: u32, rows: &[u32], i: u32, j: u32) -> Checked
     ensures { λ r. ⌜ r ≡ first (distanceChecks n m (now (rows .entry)) i j) ⌝ }
 {
     if let Checked::Refused(e) = refusals::check_box(n, m, rows) {

@@ -1,4 +1,4 @@
--- How many figures each call with a limit gives. Assumes nothing.
+-- How many figures each call that sweeps over combinations gives. Assumes nothing.
 use Prim.Native.Nat.{ℕ}
 use mathlib.Core.Path.{_≡_, ap, _∙_}
 use mathlib.Core.List.{List, [], _∷_}
@@ -9,8 +9,10 @@ use Rattle.refusals.specs.declared.Checked.the-variants.{Accepted}
 use Rattle.refusals.proofs.Checks.{limited, reply-accepted}
 use Rattle.linear.specs.Nonlinearity.{nonlinearity}
 use Rattle.linear.proofs.Theorems.{reached}
-use Rattle.avalanche.specs.Avalanche.{boxAutocorrelation}
-use Rattle.avalanche.proofs.Theorems.{autocorrelation-widest}
+use Rattle.avalanche.specs.Avalanche.{boxAutocorrelation, dynamicDistance}
+use Rattle.avalanche.specs.Calls.{distanceChecks}
+use Rattle.avalanche.proofs.Distance.{distance-box, outputs-low, inputs-low}
+use Rattle.avalanche.proofs.Theorems.{autocorrelation-widest, distance-widest}
 use Rattle.algebraic.specs.Algebraic.{boxDegree}
 use Rattle.algebraic.proofs.Theorems.{degree-reported}
 
@@ -31,3 +33,8 @@ module _ (n m : ℕ) (rows : List ℕ) (i : ℕ) (accepted : first (limitChecks 
       let told : figures (shown (boxDegree n m rows i)) ≡ figures (boxDegree n m rows i .figure ∷ r .c ∷ []) = reply-accepted accepted (shown (boxDegree n m rows i)) ∙ r .reply in
       let same : shown (boxDegree n m rows i) ≡ boxDegree n m rows i .figure ∷ r .c ∷ [] = cc in
       ap length same
+
+pub distance-size : (n m : ℕ) (rows : List ℕ) (i j : ℕ) → first (distanceChecks n m rows i j) ≡ Accepted → length (shown (dynamicDistance n m rows i j)) ≡ 3
+distance-size n m rows i j ok =
+    ap (λ (p : Candidate). length (shown p))
+    (distance-widest n m rows (distance-box n m rows i j ok) i j (outputs-low n m rows i j ok) (inputs-low n m rows i j ok) .reached)

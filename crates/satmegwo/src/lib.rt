@@ -172,7 +172,8 @@ pub extern "C" fn satmegwo_nonlinearity(
     ensures number { λ r. ⌜ r ≡ status (lent (nonlinearityReply n m (now (rows .entry)) i) (length (now (figures .entry)))) ⌝ }
     ensures content { λ r. ⌜ now (figures .exit) ≡ figuresAfter (lent (nonlinearityReply n m (now (rows .entry)) i) (length (now (figures .entry)))) (now (figures .entry)) ⌝ }
 {
-    if figures.len() != 4 {
+    let room = figures.len();
+    if room != 4 {
         return number_for_room(refusals::check_limited(n, m, rows, i));
     }
     give_pair(linear::nonlinearity(n, m, rows, i), figures)
@@ -247,7 +248,8 @@ pub extern "C" fn satmegwo_autocorrelation(
     ensures number { λ r. ⌜ r ≡ status (lent (autocorrelationReply n m (now (rows .entry)) i) (length (now (figures .entry)))) ⌝ }
     ensures content { λ r. ⌜ now (figures .exit) ≡ figuresAfter (lent (autocorrelationReply n m (now (rows .entry)) i) (length (now (figures .entry)))) (now (figures .entry)) ⌝ }
 {
-    if figures.len() != 3 {
+    let room = figures.len();
+    if room != 3 {
         return number_for_room(refusals::check_limited(n, m, rows, i));
     }
     give_change(avalanche::autocorrelation(n, m, rows, i), figures)
@@ -266,6 +268,10 @@ pub extern "C" fn satmegwo_dynamic_distance(
     ensures number { λ r. ⌜ r ≡ status (lent (distanceReply n m (now (rows .entry)) i j) (length (now (figures .entry)))) ⌝ }
     ensures content { λ r. ⌜ now (figures .exit) ≡ figuresAfter (lent (distanceReply n m (now (rows .entry)) i j) (length (now (figures .entry)))) (now (figures .entry)) ⌝ }
 {
+    let room = figures.len();
+    if room != 3 {
+        return number_for_room(avalanche::check_distance(n, m, rows, i, j));
+    }
     give_change(avalanche::dynamic_distance(n, m, rows, i, j), figures)
 }
 
@@ -284,7 +290,8 @@ pub extern "C" fn satmegwo_degree(n: u32, m: u32, rows: &[u32], i: u32, figures:
     ensures number { λ r. ⌜ r ≡ status (lent (boxDegreeReply n m (now (rows .entry)) i) (length (now (figures .entry)))) ⌝ }
     ensures content { λ r. ⌜ now (figures .exit) ≡ figuresAfter (lent (boxDegreeReply n m (now (rows .entry)) i) (length (now (figures .entry)))) (now (figures .entry)) ⌝ }
 {
-    if figures.len() != 2 {
+    let room = figures.len();
+    if room != 2 {
         return number_for_room(refusals::check_limited(n, m, rows, i));
     }
     give_degree(algebraic::degree(n, m, rows, i), figures)

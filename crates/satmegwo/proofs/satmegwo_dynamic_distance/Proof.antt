@@ -1,8 +1,32 @@
--- `satmegwo::satmegwo_dynamic_distance` meets its contract: that of the call, with its figures in the lent array. Assumes nothing.
-use Rattle.satmegwo.proofs.Giving.{gives-same}
+-- `satmegwo::satmegwo_dynamic_distance` meets its contract: that of the call, with its figures in the lent array, whose length is looked at before the sweep.
+-- Assumes nothing.
+use mathlib.Core.Path.{ap, _∙_}
+use Rattle.boolean.specs.Selection.{shown}
+use Rattle.refusals.specs.Table.{first}
+use Rattle.avalanche.specs.Avalanche.{dynamicDistance}
+use Rattle.avalanche.specs.Calls.{distanceChecks}
+use Rattle.satmegwo.specs.Exports.{roomNumber}
+use Rattle.satmegwo.proofs.Giving.{gives-same, room-first}
+use Rattle.satmegwo.proofs.Sizes.{distance-size}
 use borrow.Author.Needs.{needs}
 use Rattle.satmegwo.proofs.satmegwo_dynamic_distance.Statement.{statement}
 use Rattle.satmegwo.proofs.satmegwo_dynamic_distance.Tie as tie
+
+check-distance-requires : tie.Need-check-distance-requires
+check-distance-requires c κs = search needs
+
+number-for-room-requires : tie.Need-number-for-room-requires
+number-for-room-requires c κs = search needs
+
+returns : tie.Need-returns
+returns c =
+    let else = c .before .before in
+    let a = else .before .before .before .args in
+    let found = first (distanceChecks (a .n) (a .m) (a .rows .now) (a .i) (a .j)) in
+    let told =
+    room-first found (shown (dynamicDistance (a .n) (a .m) (a .rows .now) (a .i) (a .j))) (a .figures .now)
+    (λ ok e. else .if1 .taken (e ∙ distance-size (a .n) (a .m) (a .rows .now) (a .i) (a .j) ok)) in
+    (c .number-for-room .ensures ∙ ap roomNumber (c .before .check-distance .ensures) ∙ told .0, told .1)
 
 dynamic-distance-requires : tie.Need-dynamic-distance-requires
 dynamic-distance-requires c κs = search needs
@@ -13,12 +37,20 @@ give-change-requires c κs = search needs
 same-length : tie.Need-same-length
 same-length c = search needs
 
-returns : tie.Need-returns
-returns c =
+returns-2 : tie.Need-returns-2
+returns-2 c =
     let given = c .before .before in
     let called = given .before .before in
-    gives-same (called .before .before .before .args .figures .now) (called .dynamic-distance .ensures) (given .give-change .ensures)
+    gives-same (called .before .before .before .before .args .figures .now) (called .dynamic-distance .ensures) (given .give-change .ensures)
 
 pub satmegwo-dynamic-distance-spec : {M : Type 1} → statement M
 satmegwo-dynamic-distance-spec =
-    tie.close (tie.spec dynamic-distance-requires give-change-requires same-length returns)
+    tie.close
+    (tie.spec
+    check-distance-requires
+    number-for-room-requires
+    returns
+    dynamic-distance-requires
+    give-change-requires
+    same-length
+    returns-2)
