@@ -114,8 +114,8 @@ uint32_t satmegwo_xor_row(uint32_t n, uint32_t m, const uint32_t *rows, size_t r
 uint32_t satmegwo_largest_cell(uint32_t n, uint32_t m, const uint32_t *rows, size_t rows_len, uint32_t *figures, size_t figures_len);
 
 /* All cells that reach the largest count. Each stands in the list once, as
- * a * 4294967296 + beta; their order is open. Entries past the last cell are left as they
- * were. 32,640 entries are enough for every box.
+ * a * 4294967296 + beta, by ascending a, then by ascending beta. Entries past the last cell
+ * are left as they were. 32,640 entries are enough for every box.
  *   rows     read, 2^n elements below 2^m
  *   list     written, at least as many elements as there are cells
  *   figures  written, 1 element: the number of cells

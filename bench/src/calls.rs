@@ -93,14 +93,11 @@ thread_local! {
     static LENT: RefCell<Vec<u64>> = RefCell::new(vec![0; 255 * 128]);
 }
 
-/// The order of the cells is open, so both programs' lists are sorted before they are compared.
 fn library_list(n: u32, m: u32, rows: &[u32]) -> Figures {
     LENT.with_borrow_mut(|lent| {
         let mut number = [0];
         accepted(library::largest_cells(n, m, rows, lent, &mut number));
-        let mut list = lent[..number[0] as usize].to_vec();
-        list.sort_unstable();
-        list
+        lent[..number[0] as usize].to_vec()
     })
 }
 
@@ -135,7 +132,5 @@ fn second_sheet(n: u32, m: u32, rows: &[u32]) -> Figures {
 }
 
 fn second_list(_: u32, m: u32, rows: &[u32]) -> Figures {
-    let mut list = fast_cells::largest_cells(m, rows);
-    list.sort_unstable();
-    list
+    fast_cells::largest_cells(m, rows)
 }

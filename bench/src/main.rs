@@ -17,7 +17,7 @@ mod library;
 mod table;
 
 use calls::{library_nonlinearity, DEGREE, LIST, MEASURES};
-use second_model::boxes::{affine_columns, random_rows};
+use second_model::boxes::{affine_columns, cubes, random_rows};
 use second_model::published;
 use second_model::random::Random;
 use std::process::ExitCode;
@@ -91,13 +91,16 @@ fn figures_of_random_boxes(size: &Size, table: &mut Table, random: &mut Random) 
     Ok(())
 }
 
-/// One cell in each row of the XOR table (AES, the identity, a constant), and many in each.
+/// One cell in each row of the XOR table (AES, the identity, a constant); as many as a row can
+/// have, one for each pair of inputs (the cube, and nearly always a random box of 32 outputs);
+/// and a few in some rows.
 fn lists_of_cells(table: &mut Table, random: &mut Random) -> Result<(), String> {
     let aes = published::all().into_iter().find(|known| known.name == "aes").expect("it is among them");
     let boxes = [
         ("list of cells, AES", 8, aes.rows),
         ("list of cells, identity", 8, (0..256).collect()),
         ("list of cells, constant", 8, vec![99; 256]),
+        ("list of cells, cube", 8, cubes()),
         ("list of cells, random", 16, random_rows(8, 16, random)),
         ("list of cells, random", 32, random_rows(8, 32, random)),
     ];

@@ -69,6 +69,18 @@ fn identity(n: u32, m: u32) -> Vec<u32> {
     (0..1 << n).map(|x| x & all_outputs(m)).collect()
 }
 
+/// The cube in the field of 256 elements, an 8 by 8 box: under each input difference every pair
+/// of inputs has an output difference of its own.
+pub fn cubes() -> Vec<u32> {
+    (0..256).map(|x| times(x, times(x, x))).collect()
+}
+
+/// The product in that field, whose polynomial is x^8 + x^4 + x^3 + x + 1.
+fn times(x: u32, y: u32) -> u32 {
+    let whole = (0..8).filter(|k| y >> k & 1 == 1).fold(0, |sum, k| sum ^ x << k);
+    (8..15).rev().fold(whole, |rest, k| if rest >> k & 1 == 1 { rest ^ 0x11B << (k - 8) } else { rest })
+}
+
 /// A bent function, or for odd n one on all inputs but the highest.
 fn bent(n: u32, random: &mut Random) -> Vec<u8> {
     let even = n & !1;
@@ -149,6 +161,12 @@ fn few_ones(n: u32, m: u32, random: &mut Random) -> Vec<u32> {
 #[cfg(test)]
 mod tests {
     use super::*;
+
+    #[test]
+    fn each_pair_of_the_cube_has_its_own_difference() {
+        let cells = model::largest_cells(8, 8, &cubes(), 255 * 128, 1).expect("nothing to refuse");
+        assert_eq!(cells.len(), 255 * 128);
+    }
 
     #[test]
     fn every_kind_is_a_box_at_every_width() {

@@ -166,7 +166,7 @@ impl Run {
         });
     }
 
-    /// The order of the cells is open: they are sorted before the comparison.
+    /// The list is compared entry by entry, in its order, and past the cells nothing may change.
     pub fn largest_cells(&mut self, n: u32, m: u32, rows: &[u32], list_len: usize, figures_len: usize) {
         let mut list: Lent<u64> = self.lend(list_len);
         let mut figures: Lent<u32> = self.lend(figures_len);
@@ -242,9 +242,7 @@ impl Run {
 }
 
 fn holds_cells(list: &Lent<u64>, cells: &[u64]) -> bool {
-    let mut found = list.content()[..cells.len()].to_vec();
-    found.sort();
-    found == cells && list.untouched_from(cells.len())
+    list.content()[..cells.len()] == *cells && list.untouched_from(cells.len())
 }
 
 fn report(arguments: &str, code: u32, content: impl Debug, wanted: impl Debug) -> String {

@@ -109,6 +109,7 @@ fn boxes_of_all_widths(run: &mut Run) {
         }
     }
     highest_orders(run);
+    cell_lists(run, 8, 8, &boxes::cubes());
 }
 
 /// The highest orders of the dynamic distance at the widest boxes take long, and are tried once.

@@ -21,7 +21,7 @@ fn differences(rows: &[u32], a: usize) -> impl Iterator<Item = u32> + '_ {
 trait Counts {
     /// Counts the differences for a and gives the largest count.
     fn count(&mut self, rows: &[u32], a: usize) -> u16;
-    /// Adds each β that has this count to `found`, once.
+    /// Adds each β that has this count to `found`, once, in ascending order.
     fn reaching(&mut self, rows: &[u32], a: usize, count: u16, found: &mut Vec<u32>);
     /// Makes all counts 0 again.
     fn clear(&mut self, rows: &[u32], a: usize);
@@ -74,6 +74,7 @@ impl Counts for Sparse {
                 found.push(beta);
             }
         });
+        found.sort_unstable();
     }
 
     fn clear(&mut self, rows: &[u32], a: usize) {
@@ -142,6 +143,7 @@ impl Counts for Hashed {
                 found.push(beta);
             }
         });
+        found.sort_unstable();
     }
 
     fn clear(&mut self, _: &[u32], _: usize) {}
@@ -168,15 +170,14 @@ pub fn largest_cell(m: u32, rows: &[u32]) -> [u32; 3] {
         if count > largest {
             found.clear();
             counts.reaching(rows, a, count, &mut found);
-            let least = found.iter().min().expect("it was reached");
-            (largest, witness) = (count, (a as u32, *least));
+            (largest, witness) = (count, (a as u32, found[0]));
         }
         counts.clear(rows, a);
     }
     [u32::from(largest), witness.0, witness.1]
 }
 
-/// All largest cells, each as a * 2^32 + β, ascending in a.
+/// All largest cells, each as a * 2^32 + β, by ascending a, then by ascending β.
 pub fn largest_cells(m: u32, rows: &[u32]) -> Vec<u64> {
     let mut counts = counts_for(m, rows);
     let (mut largest, mut cells) = (0, Vec::new());
@@ -207,9 +208,7 @@ mod tests {
     fn agrees(n: u32, m: u32, rows: &[u32]) {
         let shown = format!("n = {n}, m = {m}, rows = {rows:?}");
         assert_eq!(largest_cell(m, rows), model::largest_cell_by_definition(n, rows), "{shown}");
-        let mut cells = largest_cells(m, rows);
-        cells.sort();
-        assert_eq!(cells, model::largest_cells_by_definition(n, rows), "{shown}");
+        assert_eq!(largest_cells(m, rows), model::largest_cells_by_definition(n, rows), "{shown}");
     }
 
     #[test]

@@ -173,7 +173,8 @@ pub fn largest_cell_by_definition(n: u32, rows: &[u32]) -> [u32; 3] {
     best
 }
 
-/// All cells that reach the largest count, each as a * 2^32 + β, ascending.
+/// All cells that reach the largest count, each as a * 2^32 + β: by ascending a, then by
+/// ascending β.
 pub fn largest_cells_by_definition(n: u32, rows: &[u32]) -> Vec<u64> {
     let largest = largest_cell_by_definition(n, rows)[0];
     let mut cells = Vec::new();
@@ -340,7 +341,7 @@ pub fn largest_cell(n: u32, m: u32, rows: &[u32], figures_len: usize) -> Answer<
     Ok(largest_cell_by_definition(n, rows))
 }
 
-/// The cells in ascending order; their number is the figure.
+/// The cells in their order; their number is the figure.
 pub fn largest_cells(n: u32, m: u32, rows: &[u32], list_len: usize, figures_len: usize) -> Answer<Vec<u64>> {
     check_box(n, m, rows)?;
     check_written(figures_len, 1)?;
@@ -684,6 +685,16 @@ mod tests {
         let wanted: Vec<u64> = wanted.iter().map(|&(a, beta)| (a << 32) + u64::from(beta)).collect();
         assert_eq!(largest_cells(2, 32, &rows, 6, 1), Ok(wanted));
         assert_eq!(largest_cells(2, 32, &rows, 5, 1), Err(9));
+    }
+
+    /// The list runs by ascending a, then by ascending β, whichever input gives a β first: under
+    /// a = 1 the inputs 0 and 1 give 9, and 2 and 3 give 5.
+    #[test]
+    fn cells_in_order() {
+        let rows = [0, 9, 3, 6];
+        let wanted = [(1, 5), (1, 9), (2, 3), (2, 15), (3, 6), (3, 10)];
+        let wanted: Vec<u64> = wanted.iter().map(|&(a, beta)| (a << 32) + beta).collect();
+        assert_eq!(largest_cells(2, 4, &rows, 6, 1), Ok(wanted));
     }
 
     /// Each column of the example has degree 2; the three of them together are affine.

@@ -4,8 +4,15 @@ pub mod Pairs
 pub mod RowBest
 pub mod Rises
 pub mod Slots
+pub mod LargestCount
 pub mod Sweeps
 pub mod Tallies
-pub mod ListLoops
-pub mod ListMembers
+pub mod CellRows
+pub mod Totals
+pub mod Places
+pub mod Placing
+pub mod Sorts
+pub mod Runs
+pub mod Measures
+pub mod ListChecks
 pub mod Theorems

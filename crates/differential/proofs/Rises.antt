@@ -71,27 +71,29 @@ module _ {values : List ℕ} {y best : ℕ} (r : Running values y best) {value :
       smallest u l (yes e) = omega (arith, ap (occurrences values (y + 1)) e, r .is, r .small)
       smallest u l (no e) = omega (arith, occurs-same values y u e, r .so-far .smallest u l)
 
--- ---- at the end
-module _ {values : List ℕ} {best : ℕ} (r : Running values (length values) best) where
-  largest-is : best / 4294967296 ≡ r .largest
+-- ---- the count and its β, out of the running value
+module _ {values : List ℕ} {y best : ℕ} (r : Running values y best) where
+  pub largest-is : best / 4294967296 ≡ r .largest
   largest-is = omega (arith, r .is, r .small)
 
-  smallest-is : 4294967295 - best % 4294967296 ≡ r .β
+  pub smallest-is : 4294967295 - best % 4294967296 ≡ r .β
   smallest-is = omega (arith, r .is, r .small)
 
+-- ---- at the end
+module _ {values : List ℕ} {best : ℕ} (r : Running values (length values) best) where
   pub largest-few : best / 4294967296 ≤ length values
-  largest-few = omega (arith, largest-is, r .so-far .reached, occurs-le values (length values) (r .β))
+  largest-few = omega (arith, largest-is r, r .so-far .reached, occurs-le values (length values) (r .β))
 
   -- the best cell so far stays, or is the row's largest
   pub row-keeps : (a : ℕ) (found : Candidate) → 2 * (best / 4294967296) ≤ found .figure → AfterRow a values found found
-  row-keeps a found h = inl (refl, λ v. omega (arith, r .so-far .most v, largest-is))
+  row-keeps a found h = inl (refl, λ v. omega (arith, r .so-far .most v, largest-is r))
 
   pub row-takes : (a : ℕ) (found : Candidate) → found .figure < 2 * (best / 4294967296)
       → AfterRow a values found (record { figure = 2 * (best / 4294967296); witness = a ∷ (4294967295 - best % 4294967296) ∷ [] })
   row-takes a found h = inr (record {
     largest = r .largest;
     β = r .β;
-    is = ap₂ (λ (k v : ℕ). record { figure = 2 * k; witness = a ∷ v ∷ [] }) largest-is smallest-is;
-    above = omega (arith, largest-is);
+    is = ap₂ (λ (k v : ℕ). record { figure = 2 * k; witness = a ∷ v ∷ [] }) (largest-is r) (smallest-is r);
+    above = omega (arith, largest-is r);
     of-row = r .so-far;
   })

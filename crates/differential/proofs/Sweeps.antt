@@ -15,7 +15,7 @@ use Rattle.boolean.proofs.Lists.{each-from-one}
 use Rattle.boolean.proofs.Selection.{best-append, firstLargest-above}
 use Rattle.refusals.specs.Table.{Box}
 use Rattle.differential.specs.XorTable.{cellsOf, cells, largestCell}
-use Rattle.differential.specs.Work.{Swept, Inside, differencesOf, Paired, AfterRow}
+use Rattle.differential.specs.Work.{Inside, differencesOf, Paired, AfterRow}
 use Rattle.differential.specs.Statements.{IsCell, cellOf}
 use Rattle.differential.proofs.Cells.{in-cells}
 use Rattle.differential.proofs.Occurrences.{occurs}
@@ -25,36 +25,6 @@ use Rattle.differential.proofs.Pairs.{pairs-length}
 -- XOR with an input difference leads from inputs to inputs
 pub box-inside : {n m : ℕ} {rows : List ℕ} → Box n m rows → {a : ℕ} → a < 2 ^ n → Inside (length rows) a
 box-inside {n} b {a} l x k = omega (arith, b .size, xor-lt n x a (omega (arith, b .size)) l)
-
--- ---- any loop over the rows: those below a were visited, and the array has the differences of the last of them
-pub record Visited (n m : ℕ) (rows work : List ℕ) (a : ℕ) : Type 0 where
-  pub swept : Swept n m rows work
-  pub a-low : 1 ≤ a
-  pub a-high : a ≤ 2 ^ n
-  pub last : 1 < a → work ≡ differencesOf rows (a - 1)
-
-pub visited-none : {n m : ℕ} {rows work : List ℕ} → Swept n m rows work → Visited n m rows work 1
-visited-none {n} h = record { swept = h; a-low = le-refl 1; a-high = pow-pos n; last = λ l. absurd (omega arith) }
-
-module _ {n m : ℕ} {rows work : List ℕ} {a : ℕ} (t : Visited n m rows work a) where
-  pub visited-inside : a < 2 ^ n → Inside (length rows) a
-  visited-inside l = box-inside (t .swept .box) l
-
-  pub visited-room : length work ≡ length rows
-  visited-room = t .swept .size ∙ sym (t .swept .box .size)
-
-  pub visited-next : {new : List ℕ} → a < 2 ^ n → new ≡ differencesOf rows a → Visited n m rows new (a + 1)
-  visited-next l e = record {
-    swept = record { box = t .swept .box; size = ap length e ∙ values-length (t .swept .box) a };
-    a-low = omega arith;
-    a-high = omega arith;
-    last = λ k. e ∙ ap (differencesOf rows) (let z : a ≡ a + 1 - 1 = omega arith in z);
-  }
-
-  pub visited-all : 2 ^ n ≤ a → work ≡ differencesOf rows (2 ^ n - 1)
-  visited-all l =
-      let end : a ≡ 2 ^ n = omega (arith, t .a-high) in
-      t .last (omega (arith, pow-lt (t .swept .box .n-low))) ∙ ap (λ (k : ℕ). differencesOf rows (k - 1)) end
 
 -- ---- the loop that takes the largest cell
 abbrev cellsBelow : ℕ → ℕ → List ℕ → ℕ → List Candidate

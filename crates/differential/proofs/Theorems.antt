@@ -1,14 +1,22 @@
--- The largest cell: every cell is at most it, it is a cell of the table, and each cell before it is smaller, in whichever order they are visited.
--- Assumes nothing.
-use mathlib.Core.Path.{_≡_, sym, ap, subst}
-use mathlib.Core.List.{List, List·Memᴰ}
+-- The largest cell: every cell is at most it, it is a cell of the table, and each cell before it is smaller, in whichever order they are visited; and the list
+-- of all cells that reach it: which these are, and their order. Assumes nothing.
+use mathlib.Core.Path.{_≡_, sym, ap, _∙_, subst}
+use mathlib.Core.Bool.{Bool}
+use mathlib.Core.Logic.{_↔_}
+use mathlib.Core.List.{List, map, List·Memᴰ, Memᴰ·cast, Memᴰ·map, Memᴰ·of-map}
 use Prim.Native.Nat.{ℕ, _^_, _<_, _≤_}
 use native.Mathlib.Nat.{le-refl}
 use native.Mathlib.Omega.{arith}
-use Rattle.boolean.specs.Selection.{Candidate, higher, firstBest, firstLargest, SameMembers, ranked, First}
+use borrow.Author.Tests.{eq-eqb, eqb-true}
+use lib.Dec.{eqb}
+use lib.Pow.{pow-mono}
+use Rattle.boolean.specs.Sums.{keep}
+use Rattle.boolean.specs.Selection.{Candidate, higher, firstBest, firstLargest, Ascending, SameMembers, ranked, First}
+use Rattle.boolean.proofs.Kept.{mem-keep, in-keep, ascending-keep}
+use Rattle.boolean.proofs.Members.{ascending-map}
 use Rattle.boolean.proofs.Selection.{firstLargest-ge, firstLargest-mem, firstLargest-first, firstLargest-any-order, first-ranked}
-use Rattle.differential.specs.XorTable.{cell, cells, largestCell}
-use Rattle.differential.specs.Statements.{IsCell, cellOf, Before, rank}
+use Rattle.differential.specs.XorTable.{cell, cells, largestCell, largestCells, coded}
+use Rattle.differential.specs.Statements.{IsCell, cellOf, Before, rank, Listed}
 use Rattle.differential.proofs.Cells.{before-rank, in-cells, mem-cells, ascending-cells, cells-nonempty}
 
 module _ (n m : ℕ) (rows : List ℕ) where
@@ -42,3 +50,36 @@ module _ (n m : ℕ) (rows : List ℕ) where
         (subst (λ (l : List Candidate). First (λ r c. c .figure < r .figure) (firstLargest l) l) (sym (t .2)) (firstLargest-first (t .0) (t .1)))
         (cellOf n rows a′ β′) (in-cells n m rows a′ β′ h)
         (omega (arith, ap (rank (2 ^ m)) e, before-rank (2 ^ m) a′ β′ a β (h .β-high) l))
+
+  -- ---- the list: a cell stands in it exactly when it reaches the largest count
+  pub list-has : (v : ℕ) → List·Memᴰ v (largestCells n m rows) ↔ Listed n m rows v
+  unfolding largestCells
+  list-has v = (listed, unlisted)
+    where
+      reaches : Candidate → Bool
+      reaches c = eqb (c .figure) (largestCell n m rows .figure)
+
+      listed : List·Memᴰ v (map coded (keep reaches (cells n m rows))) → Listed n m rows v
+      listed k =
+          let t = Memᴰ·of-map coded (keep reaches (cells n m rows)) k in
+          let s = mem-keep reaches (cells n m rows) (t .0) (t .1) in
+          let u = mem-cells n m rows (t .0) (s .0) in
+          record {
+            a = u .0;
+            β = u .1;
+            is-cell = u .2;
+            largest = sym (ap (λ (c : Candidate). c .figure) (u .3)) ∙ eqb-true (t .0 .figure) (largestCell n m rows .figure) (s .1);
+            is = sym (t .2) ∙ ap coded (u .3);
+          }
+
+      unlisted : Listed n m rows v → List·Memᴰ v (map coded (keep reaches (cells n m rows)))
+      unlisted t =
+          Memᴰ·cast (t .is)
+          (Memᴰ·map coded (in-keep reaches (cells n m rows) (cellOf n rows (t .a) (t .β)) (in-cells n m rows (t .a) (t .β) (t .is-cell)) (eq-eqb _ _ (t .largest))))
+
+  -- and the list ascends: by a, then by β
+  pub list-ascends : m ≤ 32 → Ascending (λ v. v) (largestCells n m rows)
+  unfolding largestCells
+  list-ascends h =
+      ascending-map coded (λ v. v) (keep (λ c. eqb (c .figure) (largestCell n m rows .figure)) (cells n m rows))
+      (ascending-keep (λ c. eqb (c .figure) (largestCell n m rows .figure)) coded (cells n m rows) (ascending-cells n m rows 4294967296 (pow-mono h)))

@@ -1,15 +1,13 @@
 -- The calls on the XOR table: checks and answers.
 use Prim.Native.Nat.{ℕ, _-_, _^_}
-use mathlib.Core.Path.{_≡_}
 use mathlib.Core.List.{List, [], _∷_, _++_}
 use lib.Dec.{eqb, leb}
-use lib.ListN.{length}
+use lib.ListN.{length, drop}
 use Rattle.boolean.specs.Selection.{shown}
-use Rattle.refusals.specs.Table.{Check, _unless_, first, inRange, boxChecksUpTo, boxChecks, Reply, figures, refusal, number, replyAfter}
+use Rattle.refusals.specs.Table.{Check, _unless_, first, inRange, boxChecksUpTo, boxChecks, Reply, figures, refusal, number, replyAfter, contentAfter}
 use Rattle.refusals.specs.declared.Refusal.the-variants.{Parameter, WrittenLength, ListTooShort}
 use Rattle.refusals.specs.declared.Checked.{Checked}
-use Rattle.refusals.specs.declared.Checked.the-variants.{Accepted, Refused}
-use Rattle.differential.specs.XorTable.{largestCell, largestCells, Holds}
+use Rattle.differential.specs.XorTable.{largestCell, largestCells}
 use Rattle.differential.specs.declared.LargestCell.{LargestCell}
 use Rattle.differential.specs.declared.LargestCell.the-variants.{Reached, Declined}
 use Rattle.differential.specs.declared.CellList.{CellList}
@@ -42,7 +40,6 @@ abbrev pub listReply : CellList → Reply
 listReply (Listed count) = figures (count ∷ [])
 listReply (Unlisted e) = refusal (number e)
 
--- what the list holds after a call whose checks found this
-abbrev pub ListAfter : Checked → List ℕ → List ℕ → List ℕ → Type 0
-ListAfter Accepted wanted old new = Holds wanted old new
-ListAfter (Refused e) wanted old new = new ≡ old
+-- what the list holds after a call whose checks found this: the wanted entries, and past them what was there
+abbrev pub listAfter : Checked → List ℕ → List ℕ → List ℕ
+listAfter checked wanted old = contentAfter checked (wanted ++ drop (length wanted) old) old

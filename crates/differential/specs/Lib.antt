@@ -1,4 +1,5 @@
 pub mod XorTable
 pub mod Calls
 pub mod Work
+pub mod Sorting
 pub mod Statements

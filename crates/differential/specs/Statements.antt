@@ -5,7 +5,7 @@ use mathlib.Core.Logic.{_⊎_}
 use mathlib.Core.List.{List, [], _∷_}
 use Rattle.boolean.specs.Functions.{at}
 use Rattle.boolean.specs.Selection.{Candidate}
-use Rattle.differential.specs.XorTable.{cell}
+use Rattle.differential.specs.XorTable.{cell, largestCell}
 
 -- a and β are a cell of a box of n inputs and m outputs
 pub record IsCell (n m a β : ℕ) : Type 0 where
@@ -24,3 +24,11 @@ Before a′ β′ a β = (a′ < a) ⊎ ((a′ ≡ a) × (β′ < β))
 -- a cell's number in that order, by rows of a size
 abbrev pub rank : ℕ → Candidate → ℕ
 rank size c = at (c .witness) 0 * size + at (c .witness) 1
+
+-- an entry of the list of cells: a × 2^32 + β for a cell that reaches the largest count
+pub record Listed (n m : ℕ) (rows : List ℕ) (v : ℕ) : Type 0 where
+  pub a : ℕ
+  pub β : ℕ
+  pub is-cell : IsCell n m a β
+  pub largest : cell n rows a β ≡ largestCell n m rows .figure
+  pub is : v ≡ a * 4294967296 + β

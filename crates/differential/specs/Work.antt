@@ -1,17 +1,17 @@
 -- What the functions behind the calls on the XOR table ask and leave.
 use Prim.Native.Nat.{ℕ, _+_, _-_, _*_, _/_, _%_, _^_, _≤_, _<_}
 use mathlib.Core.Path.{_≡_}
-use mathlib.Core.Bool.{Bool, true, false, _&&_}
+use mathlib.Core.Bool.{true, false}
 use mathlib.Core.Logic.{_⊎_}
-use mathlib.Core.List.{List, [], _∷_}
+use mathlib.Core.List.{List, [], _∷_, map}
 use lib.Bits.{bitAnd, bitXor}
 use lib.Dec.{eqb}
 use lib.ListN.{length}
-use Rattle.boolean.specs.Sums.{countBelow, listFrom, listBelow, each}
+use Rattle.boolean.specs.Sums.{countBelow, listBelow, each, keep}
 use Rattle.boolean.specs.Functions.{at}
 use Rattle.boolean.specs.Selection.{Candidate}
 use Rattle.refusals.specs.Table.{Box}
-use Rattle.differential.specs.XorTable.{difference}
+use Rattle.differential.specs.XorTable.{difference, cell, cellsOf, largestCell, coded}
 use Rattle.differential.specs.declared.FoundCell.{FoundCell}
 
 -- the best cell so far, as a candidate
@@ -110,20 +110,63 @@ pub record RowLargest (a : ℕ) (pairs : List ℕ) (found r : Candidate) : Type 
 abbrev pub AfterRow : ℕ → List ℕ → Candidate → Candidate → Type 0
 AfterRow a pairs found r = ((r ≡ found) × ((β : ℕ) → 2 * occurrences pairs (length pairs) β ≤ found .figure)) ⊎ RowLargest a pairs found r
 
--- whether the cell of the value at x is listed at x: no value before is the same, and its count is the largest
-unfoldable pub isListed : ℕ → List ℕ → ℕ → Bool
-unfolding occurrences
-isListed largest values x = eqb (occurrences values x (at values x)) 0 && eqb (occurrences values (length values) (at values x)) largest
+-- r is the larger of x and y
+pub record Larger (x y r : ℕ) : Type 0 where
+  pub left : x ≤ r
+  pub right : y ≤ r
+  pub either : (r ≡ x) ⊎ (r ≡ y)
 
--- what is listed at x, at all inputs of a row, and in the rows from 1 to below the size
-unfoldable pub listedAt : ℕ → ℕ → List ℕ → ℕ → List ℕ
-unfolding isListed
-listedAt largest a values x = elim (isListed largest values x) [ true ↦ (a * 4294967296 + at values x) ∷ [] | false ↦ [] ]
+-- how many values have the largest count, once the count of one has risen: r is 1 where it is above the largest before, one more where it is as large, and
+-- as before where it is smaller
+pub record CellsAfter (before count cells r : ℕ) : Type 0 where
+  pub above : before < count → r ≡ 1
+  pub equal : before ≡ count → r ≡ cells + 1
+  pub under : count < before → r ≡ cells
 
-unfoldable pub listedRow : ℕ → ℕ → List ℕ → List ℕ
-unfolding each listBelow listedAt
-listedRow largest a values = each (listBelow (length values) (λ x. x)) (λ x. listedAt largest a values x)
+-- every value is below the size
+abbrev pub Below : ℕ → List ℕ → Type 0
+Below size values = (x : ℕ) → x < length values → at values x < size
 
-unfoldable pub listed : ℕ → List ℕ → ℕ → List ℕ
-unfolding each listFrom listedRow differencesOf
-listed largest rows size = each (listFrom 1 (size - 1) (λ a. a)) (λ a. listedRow largest a (differencesOf rows a))
+-- how many numbers below the size stand so often among the first y values
+unfoldable pub reaching : ℕ → List ℕ → ℕ → ℕ → ℕ
+unfolding countBelow occurrences
+reaching size values y count = countBelow size (λ v. eqb (occurrences values y v) count)
+
+-- the running value after the first y values, and how many numbers have its count, below any size that the values are below
+pub record RunningCells (values : List ℕ) (y value cells : ℕ) : Type 0 where
+  pub running : Running values y value
+  pub few : cells ≤ y
+  pub number : (size : ℕ) → Below size values → 0 < y → cells ≡ reaching size values y (running .largest)
+
+-- a is the number of a row
+abbrev pub IsRow : ℕ → ℕ → Type 0
+IsRow n a = (1 ≤ a) × (a < 2 ^ n)
+
+-- what is known of a row that was measured: its largest count, among the pairs, with the smallest β that has it; and how many β have it
+pub record RowMeasured (n m : ℕ) (rows : List ℕ) (a value number : ℕ) : Type 0 where
+  pub largest : ℕ
+  pub β : ℕ
+  pub is : value ≡ standing largest β
+  pub below : β < 2 ^ m
+  pub most : (v : ℕ) → cell n rows a v ≤ 2 * largest
+  pub reached : cell n rows a β ≡ 2 * largest
+  pub few : number ≤ 128
+  pub counted : number ≡ countBelow (2 ^ m) (λ v. eqb (cell n rows a v) (2 * largest))
+
+-- the entry a of two arrays has that of the row of a
+abbrev pub Measured : (n m : ℕ) (rows standings numbers : List ℕ) → Type 0
+Measured n m rows standings numbers = (a : ℕ) → IsRow n a → RowMeasured n m rows a (at standings a) (at numbers a)
+
+-- the cells of the row of a that reach the largest count of the box, in ascending β
+unfoldable pub rowCells : ℕ → ℕ → List ℕ → ℕ → List ℕ
+unfolding keep cellsOf largestCell
+rowCells n m rows a = map coded (keep (λ c. eqb (c .figure) (largestCell n m rows .figure)) (cellsOf n m rows a))
+
+-- the cell of the run that starts at y, if so many values from there on are the same
+unfoldable pub runAt : ℕ → ℕ → List ℕ → ℕ → List ℕ
+runAt largest a values y = elim (eqb (at values y) (at values (y + (largest - 1)))) [ true ↦ (a * 4294967296 + at values y) ∷ [] | false ↦ [] ]
+
+-- the cells of all runs
+unfoldable pub runs : ℕ → ℕ → List ℕ → List ℕ
+unfolding each listBelow runAt
+runs largest a values = each (listBelow (length values + 1 - largest) (λ y. y)) (λ y. runAt largest a values y)

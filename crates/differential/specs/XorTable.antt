@@ -1,11 +1,9 @@
 -- The XOR table, the field's difference distribution table.
-use Prim.Native.Nat.{ℕ, _+_, _-_, _*_, _^_, _<_}
-use mathlib.Core.Path.{_≡_}
-use mathlib.Core.Logic.{_↔_}
-use mathlib.Core.List.{List, [], _∷_, map, List·Memᴰ}
+use Prim.Native.Nat.{ℕ, _+_, _-_, _*_, _^_}
+use mathlib.Core.List.{List, [], _∷_, map}
 use lib.Bits.{bitXor}
 use lib.Dec.{eqb}
-use lib.ListN.{length, getD, take, drop}
+use lib.ListN.{getD}
 use Rattle.boolean.specs.Sums.{countBelow, listFrom, listBelow, each, keep}
 use Rattle.boolean.specs.Functions.{at}
 use Rattle.boolean.specs.Selection.{Candidate, firstLargest}
@@ -43,15 +41,7 @@ largestCell n m rows = firstLargest (cells n m rows)
 abbrev pub coded : Candidate → ℕ
 coded c = getD (c .witness) 0 0 * 4294967296 + getD (c .witness) 1 0
 
--- the cells that reach the largest count
+-- the cells that reach the largest count, in the same order
 unfoldable pub largestCells : ℕ → ℕ → List ℕ → List ℕ
 unfolding keep largestCell cells
 largestCells n m rows = map coded (keep (λ c. eqb (c .figure) (largestCell n m rows .figure)) (cells n m rows))
-
--- What the list holds afterwards. Its first entries, as many as there are such cells, are these cells, each once, in an order that is left
--- open; the entries past them stay.
-pub record Holds (wanted old new : List ℕ) : Type 0 where
-  pub long : length new ≡ length old
-  pub these : (v : ℕ) → List·Memᴰ v (take (length wanted) new) ↔ List·Memᴰ v wanted
-  pub once : (i j : ℕ) → i < j → j < length wanted → at new i ≡ at new j → ⊥
-  pub past : drop (length wanted) new ≡ drop (length wanted) old

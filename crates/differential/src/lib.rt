@@ -1,4 +1,7 @@
 // The XOR table of a box: one row, the largest cell, and the list of all cells that reach it.
+mod listing;
+mod sorting;
+
 use refusals::Checked;
 use refusals::Refusal;
 use refusals::Written;
@@ -6,14 +9,13 @@ ghost use mathlib.Core.Path.{_≡_};
 ghost use mathlib.Core.List.{[], _∷_};
 ghost use Prim.Native.Nat.{_+_, _-_, _*_, _^_, _≤_, _<_};
 ghost use lib.ListN.{length};
-ghost use lib.Seq.{sets};
-ghost use Rattle.boolean.specs.Sums.{countBelow, listBelow};
+ghost use Rattle.boolean.specs.Sums.{listBelow};
 ghost use Rattle.boolean.specs.Functions.{at};
 ghost use Rattle.refusals.specs.Table.{first, replyAfter, contentAfter, written, Box};
 ghost use Rattle.differential.specs.XorTable.{xorRow, largestCells};
 ghost use Rattle.differential.specs.XorTable as spec;
-ghost use Rattle.differential.specs.Calls.{rowChecks, listChecks, largestReply, xorReply, listReply, ListAfter};
-ghost use Rattle.differential.specs.Work.{candidate, Swept, Inside, Countable, differencesOf, occurrences, HighestBit, Paired, standing, Running, Slots, AfterRow, isListed, listedAt, listedRow, listed};
+ghost use Rattle.differential.specs.Calls.{rowChecks, listChecks, largestReply, xorReply, listReply, listAfter};
+ghost use Rattle.differential.specs.Work.{candidate, Swept, Inside, Countable, differencesOf, occurrences, HighestBit, Paired, standing, Running, Slots, AfterRow};
 
 // The best cell so far.
 pub struct FoundCell {
@@ -268,126 +270,16 @@ pub fn largest_cell(n: u32, m: u32, rows: &[u32]) -> LargestCell
     }
 }
 
-// Whether the cell of the difference at x is listed at x: no input before has the same difference, and as many have it as in the largest cell.
-fn is_listed(differences: &[u32], x: usize, largest: u32) -> bool
-    requires { ⌜ (x < length (now differences)) × (length (now differences) ≤ 256) ⌝ }
-    ensures { λ r. ⌜ r ≡ isListed largest (now (differences .entry)) x ⌝ }
-{
-    let beta = differences[x];
-    if count_equal(&differences[..x], beta) != 0 {
-        return false;
-    }
-    count_equal(differences, beta) == largest
-}
-
-// How many cells of one row are listed.
-fn count_in_row(differences: &[u32], largest: u32) -> usize
-    requires { ⌜ length (now differences) ≤ 256 ⌝ }
-    ensures { λ r. ⌜ r ≡ countBelow (length (now (differences .entry))) (λ x. isListed largest (now (differences .entry)) x) ⌝ }
-{
-    let mut count = 0;
-    let mut x = 0;
-    while x < differences.len() {
-        if is_listed(differences, x, largest) {
-            count += 1;
-        }
-        x += 1;
-    }
-    count
-}
-
-// How many cells of all rows are listed.
-fn count_cells(n: u32, m: u32, rows: &[u32], differences: &mut [u32], largest: u32) -> usize
-    requires { ⌜ Swept n m (now rows) (now differences) ⌝ }
-    ensures { λ r. ⌜ (r ≡ length (listed largest (now (rows .entry)) (2 ^ n))) × (r ≤ 65536) × (now (differences .exit) ≡ differencesOf (now (rows .entry)) (2 ^ n - 1)) ⌝ }
-{
-    let inputs = boolean::power_of_two(n) as u32;
-    let mut count = 0;
-    let mut a: u32 = 1;
-    while a < inputs {
-        write_differences(rows, a, differences);
-        count += count_in_row(differences, largest);
-        a += 1;
-    }
-    count
-}
-
-// The cell of the difference at x is written to the list's entry `next`, where it is listed. The entry after it is returned.
-fn list_cell(
-    a: u32,
-    differences: &[u32],
-    x: usize,
-    largest: u32,
-    list: &mut [u64],
-    next: usize,
-) -> usize
-    requires { ⌜ (x < length (now differences)) × (length (now differences) ≤ 256) × (a < 256) × (next + length (listedAt largest a (now differences) x) ≤ length (now list)) ⌝ }
-    ensures { λ r. ⌜ (r ≡ next + length (listedAt largest a (now (differences .entry)) x)) × (now (list .exit) ≡ sets (now (list .entry)) next (listedAt largest a (now (differences .entry)) x)) ⌝ }
-{
-    if !is_listed(differences, x, largest) {
-        return next;
-    }
-    list[next] = (a as u64) * 4294967296 + differences[x] as u64;
-    next + 1
-}
-
-// The listed cells of one row are written to the list from the entry `start` on. The entry after them is returned.
-fn list_row(a: u32, differences: &[u32], largest: u32, list: &mut [u64], start: usize) -> usize
-    requires { ⌜ (length (now differences) ≤ 256) × (a < 256) × (start + length (listedRow largest a (now differences)) ≤ length (now list)) ⌝ }
-    ensures { λ r. ⌜ (r ≡ start + length (listedRow largest a (now (differences .entry)))) × (now (list .exit) ≡ sets (now (list .entry)) start (listedRow largest a (now (differences .entry)))) ⌝ }
-{
-    let mut next = start;
-    let mut x = 0;
-    while x < differences.len() {
-        next = list_cell(a, differences, x, largest, list, next);
-        x += 1;
-    }
-    next
-}
-
-// The listed cells of all rows are written to the list's first entries.
-fn list_cells(n: u32, m: u32, rows: &[u32], differences: &mut [u32], largest: u32, list: &mut [u64])
-    requires { ⌜ Swept n m (now rows) (now differences) × (length (listed largest (now rows) (2 ^ n)) ≤ length (now list)) ⌝ }
-    ensures { λ _. ⌜ (now (list .exit) ≡ sets (now (list .entry)) 0 (listed largest (now (rows .entry)) (2 ^ n))) × (now (differences .exit) ≡ differencesOf (now (rows .entry)) (2 ^ n - 1)) ⌝ }
-{
-    let inputs = boolean::power_of_two(n) as u32;
-    let mut next = 0;
-    let mut a: u32 = 1;
-    while a < inputs {
-        write_differences(rows, a, differences);
-        next = list_row(a, differences, largest, list, next);
-        a += 1;
-    }
-}
-
-// The largest count is found, then the cells that reach it are counted, and only a list that has room for all of them is written to.
-fn list_with(n: u32, m: u32, rows: &[u32], differences: &mut [u32], list: &mut [u64]) -> CellList
-    requires { ⌜ Swept n m (now rows) (now differences) ⌝ }
-    ensures reply { λ r. ⌜ listReply r ≡ replyAfter (first (listChecks n m (now (rows .entry)) (length (now (list .entry))))) (length (largestCells n m (now (rows .entry))) ∷ []) ⌝ }
-    ensures content { λ r. ⌜ ListAfter (first (listChecks n m (now (rows .entry)) (length (now (list .entry))))) (largestCells n m (now (rows .entry))) (now (list .entry)) (now (list .exit)) ⌝ }
-    ensures work { λ r. ⌜ now (differences .exit) ≡ differencesOf (now (rows .entry)) (2 ^ n - 1) ⌝ }
-{
-    let found = find_largest(n, m, rows);
-    let largest = found.count;
-    let count = count_cells(n, m, rows, differences, largest);
-    if list.len() < count {
-        return CellList::Unlisted(Refusal::ListTooShort);
-    }
-    list_cells(n, m, rows, differences, largest, list);
-    CellList::Listed {
-        count: count as u32,
-    }
-}
-
-// All cells that reach the largest count, each as a * 2^32 + beta, with their number. They are counted before the list is written to.
+// All cells that reach the largest count, each as a * 2^32 + beta, by ascending a, then beta, with their number. They are counted before the list is
+// written to.
 pub fn largest_cells(n: u32, m: u32, rows: &[u32], list: &mut [u64]) -> CellList
     ensures reply { λ r. ⌜ listReply r ≡ replyAfter (first (listChecks n m (now (rows .entry)) (length (now (list .entry))))) (length (largestCells n m (now (rows .entry))) ∷ []) ⌝ }
-    ensures content { λ r. ⌜ ListAfter (first (listChecks n m (now (rows .entry)) (length (now (list .entry))))) (largestCells n m (now (rows .entry))) (now (list .entry)) (now (list .exit)) ⌝ }
+    ensures content { λ r. ⌜ now (list .exit) ≡ listAfter (first (listChecks n m (now (rows .entry)) (length (now (list .entry))))) (largestCells n m (now (rows .entry))) (now (list .entry)) ⌝ }
 {
     if let Checked::Refused(e) = refusals::check_box(n, m, rows) {
         return CellList::Unlisted(e);
     }
-    let mut differences = [0u32; 256];
-    let size = rows.len();
-    list_with(n, m, rows, &mut differences[..size], list)
+    let mut standings = [0u64; 256];
+    let mut numbers = [0u32; 256];
+    listing::list_with(n, m, rows, &mut standings, &mut numbers, list)
 }

@@ -22,7 +22,7 @@ ghost use Rattle.linear.specs.Calls.{componentChecks, leastPair};
 ghost use Rattle.linear.specs.Nonlinearity.{nonlinearityReply};
 ghost use Rattle.columns.specs.Addition.{additionChecks, addedRows};
 ghost use Rattle.differential.specs.XorTable.{xorRow, largestCells};
-ghost use Rattle.differential.specs.Calls.{rowChecks, largestReply, xorReply, ListAfter};
+ghost use Rattle.differential.specs.Calls.{rowChecks, largestReply, xorReply, listAfter};
 ghost use Rattle.avalanche.specs.Calls.{changeReply, autocorrelationReply, distanceReply, completeReply};
 ghost use Rattle.algebraic.specs.Calls.{degreeReply, boxDegreeReply, bijectiveReply};
 ghost use Rattle.constructions.specs.Enlargement.{enlargedTable, enlargedRows};
@@ -214,7 +214,7 @@ pub extern "C" fn satmegwo_largest_cell(n: u32, m: u32, rows: &[u32], figures: &
     give_cell(differential::largest_cell(n, m, rows), figures)
 }
 
-// The list of all cells that reach the largest count. It is written to only where its number can be given too.
+// The list of all cells that reach the largest count, by ascending a, then beta. It is written to only where its number can be given too.
 #[no_mangle]
 pub extern "C" fn satmegwo_largest_cells(
     n: u32,
@@ -225,7 +225,7 @@ pub extern "C" fn satmegwo_largest_cells(
 ) -> u32
     ensures number { λ r. ⌜ r ≡ status (replyAfter (first (cellsChecks n m (now (rows .entry)) (length (now (figures .entry))) (length (now (list .entry))))) (length (largestCells n m (now (rows .entry))) ∷ [])) ⌝ }
     ensures content { λ r. ⌜ now (figures .exit) ≡ contentAfter (first (cellsChecks n m (now (rows .entry)) (length (now (figures .entry))) (length (now (list .entry))))) (length (largestCells n m (now (rows .entry))) ∷ []) (now (figures .entry)) ⌝ }
-    ensures cells { λ r. ⌜ ListAfter (first (cellsChecks n m (now (rows .entry)) (length (now (figures .entry))) (length (now (list .entry))))) (largestCells n m (now (rows .entry))) (now (list .entry)) (now (list .exit)) ⌝ }
+    ensures cells { λ r. ⌜ now (list .exit) ≡ listAfter (first (cellsChecks n m (now (rows .entry)) (length (now (figures .entry))) (length (now (list .entry))))) (largestCells n m (now (rows .entry))) (now (list .entry)) ⌝ }
 {
     if figures.len() != 1 {
         return number_for_room(refusals::check_box(n, m, rows));

@@ -1,14 +1,13 @@
 -- `satmegwo::satmegwo_largest_cells` meets its contract: the array for the figure is looked at between the box and the list. Assumes nothing.
-use mathlib.Core.Path.{_≡_, sym, ap, _∙_, subst}
+use mathlib.Core.Path.{_≡_, sym, ap, _∙_}
 use mathlib.Core.List.{[], _∷_}
 use borrow.Author.Tests.{eq-eqb, ne-eqb}
 use lib.ListN.{length}
 use Rattle.refusals.specs.Table.{first, boxChecks, replyAfter}
 use Rattle.refusals.specs.declared.Checked.{Checked}
-use Rattle.refusals.proofs.Checks.{reply-refused}
+use Rattle.refusals.proofs.Checks.{reply-refused, content-refused}
 use Rattle.differential.specs.XorTable.{largestCells}
-use Rattle.differential.specs.Calls.{listChecks, listReply, ListAfter}
-use Rattle.differential.proofs.ListMembers.{list-refused}
+use Rattle.differential.specs.Calls.{listChecks, listReply, listAfter}
 use Rattle.satmegwo.specs.Exports.{cellsChecks, roomNumber}
 use Rattle.satmegwo.proofs.Giving.{figures-told, refusal-told, room-refused, room-passed}
 use borrow.Author.Needs.{needs}
@@ -37,7 +36,7 @@ returns c =
     let found = first (cellsChecks (a .n) (a .m) (a .rows .now) (length (a .figures .now)) (length (a .list .now))) in
     let t = room-refused (boxChecks (a .n) (a .m) (a .rows .now)) _ (ne-eqb _ 1 (else .if1 .taken)) in
     let told = refusal-told found (length cells ∷ []) (a .figures .now) (reply-refused (t .is) (length cells ∷ [])) in
-    (c .number-for-room .ensures ∙ ap roomNumber (c .before .check-box .ensures) ∙ t .number-is ∙ told .0, (told .1, list-refused cells (a .list .now) (t .is)))
+    (c .number-for-room .ensures ∙ ap roomNumber (c .before .check-box .ensures) ∙ t .number-is ∙ told .0, (told .1, content-refused (t .is) _ (a .list .now)))
 
 largest-cells-requires : tie.Need-largest-cells-requires
 largest-cells-requires c κs = search needs
@@ -74,7 +73,7 @@ returns-2 c =
     let found = first (cellsChecks (a .n) (a .m) (a .rows .now) (length (a .figures .now)) (length (a .list .now))) in
     let reply = sym (ap listReply (is .count .given .1)) ∙ called .largest-cells .ensures .0 ∙ ap (λ (k : Checked). replyAfter k (length cells ∷ [])) (sym (as-called else)) in
     let told = figures-told found (length cells ∷ []) (is .count .given .0 .0 ∷ []) (a .figures .now) (else .if1 .left) reply (given .give .ensures) in
-    (told .0, (told .1, subst (λ (k : Checked). ListAfter k cells (a .list .now) (called .largest-cells .last .1 .1 .1 .0)) (sym (as-called else)) (called .largest-cells .ensures .1)))
+    (told .0, (told .1, called .largest-cells .ensures .1 ∙ ap (λ (k : Checked). listAfter k cells (a .list .now)) (sym (as-called else))))
 
 same-length-3 : tie.Need-same-length-3
 same-length-3 c = search needs
@@ -89,7 +88,7 @@ returns-3 c =
     let found = first (cellsChecks (a .n) (a .m) (a .rows .now) (length (a .figures .now)) (length (a .list .now))) in
     let reply = sym (ap listReply (is .e .given .1)) ∙ called .largest-cells .ensures .0 ∙ ap (λ (k : Checked). replyAfter k (length cells ∷ [])) (sym (as-called else)) in
     let told = refusal-told found (length cells ∷ []) (a .figures .now) reply in
-    (c .number-of .ensures ∙ told .0, (told .1, subst (λ (k : Checked). ListAfter k cells (a .list .now) (called .largest-cells .last .1 .1 .1 .0)) (sym (as-called else)) (called .largest-cells .ensures .1)))
+    (c .number-of .ensures ∙ told .0, (told .1, called .largest-cells .ensures .1 ∙ ap (λ (k : Checked). listAfter k cells (a .list .now)) (sym (as-called else))))
 
 pub satmegwo-largest-cells-spec : {M : Type 1} → statement M
 satmegwo-largest-cells-spec =
