@@ -1,5 +1,5 @@
 /* The nonlinearity of the box 3 1 4 0 2 5 6 7 within two limits, its largest XOR cell, its
- * degree, and a refusal.
+ * degree, the nonlinearity of two boxes added together, and a refusal.
  *
  * With the library built, from this directory:
  *
@@ -21,6 +21,23 @@ static int print_nonlinearity(const uint32_t *rows, uint32_t i)
     }
     printf("nonlinearity %u with at most %u outputs: combination %u against w = %u, b = %u\n",
            (unsigned)figures[0], (unsigned)i, (unsigned)figures[1], (unsigned)figures[2], (unsigned)figures[3]);
+    return 0;
+}
+
+/* The box and a second one with two inputs, added together: a box of five inputs. The two
+ * boxes that are not read are empty. */
+static int print_sum(const uint32_t *rows)
+{
+    const uint32_t second[4] = {0, 5, 3, 6};
+    uint32_t figures[5];
+    uint32_t refusal = satmegwo_sum_nonlinearity(2, 3, 3, rows, 8, 2, 3, second, 4, 0, 0, rows, 0, 0, 0, rows, 0, 1, figures, 5);
+
+    if (refusal != 0) {
+        printf("refused %u\n", (unsigned)refusal);
+        return 1;
+    }
+    printf("sum of two boxes %u with at most 1 output: combination %u against w = %u and %u, b = %u\n",
+           (unsigned)figures[0], (unsigned)figures[1], (unsigned)figures[2], (unsigned)figures[3], (unsigned)figures[4]);
     return 0;
 }
 
@@ -49,6 +66,9 @@ int main(void)
         return 1;
     }
     printf("degree %u: combination %u\n", (unsigned)figures[0], (unsigned)figures[1]);
+
+    if (print_sum(rows) != 0)
+        return 1;
 
     /* With two outputs the first row that is not below 4 stops the call. */
     refusal = satmegwo_nonlinearity(3, 2, rows, 8, 2, figures, 4);

@@ -15,7 +15,7 @@
 #define SIZE (1u << 20)
 #define PAINT 0xA5
 
-static uint32_t rows[256], narrow_rows[256], square_rows[256], half_rows[128], out_rows[256], figures[4];
+static uint32_t rows[256], narrow_rows[256], square_rows[256], half_rows[128], out_rows[256], figures[4], sum_figures[7];
 static uint16_t counts[65536];
 static uint8_t table[256], out_table[256], permutation[16], file[1026];
 static int32_t values[256];
@@ -39,13 +39,14 @@ static uint32_t enlarge_column(void) { return satmegwo_enlarge_column(7, table, 
 static uint32_t enlarge_box(void) { return satmegwo_enlarge_box(7, half_rows, 128, table, 128, 7, out_rows, 256); }
 static uint32_t bent_function(void) { return satmegwo_bent_function(8, permutation, 16, table, 16, out_table, 256); }
 static uint32_t read_box(void) { return satmegwo_read_box(file, 1026, out_rows, 256, figures, 2); }
+static uint32_t sum(void) { return satmegwo_sum_nonlinearity(4, 8, 32, rows, 256, 8, 32, rows, 256, 8, 32, rows, 256, 8, 32, rows, 256, 2, sum_figures, 7); }
 
 static const struct { const char *name; uint32_t (*call)(void); } calls[] = {
     {"spectrum", spectrum}, {"inverse_spectrum", inverse}, {"component_spectrum", component}, {"nonlinearity", nonlinearity},
     {"add_to_column", add_to_column}, {"xor_row", xor_row}, {"largest_cell", largest_cell}, {"largest_cells", largest_cells},
     {"autocorrelation", autocorrelation}, {"dynamic_distance", distance}, {"normal_form", normal_form}, {"degree", degree},
     {"complete", complete}, {"bijective", bijective}, {"enlarge_column", enlarge_column}, {"enlarge_box", enlarge_box},
-    {"bent_function", bent_function}, {"read_box", read_box},
+    {"bent_function", bent_function}, {"read_box", read_box}, {"sum_nonlinearity", sum},
 };
 
 static uint32_t (*current)(void);

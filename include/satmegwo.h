@@ -17,7 +17,8 @@
  * ANSWERS. Every function returns 0, or the number of a refusal. A refused call has
  * written to no array. Figures are written to an array lent by the caller, which must be
  * exactly as long as the number of figures. The checks run in this order (those of a box
- * file in their own, which is given there), and the first that applies gives the number:
+ * file and of a sum in their own, which is given there), and the first that applies gives
+ * the number:
  *
  *    1  n is not 1 to 8 (in the two enlargements not 1 to 7, in the bent form not 2, 4,
  *       6 or 8)
@@ -30,6 +31,8 @@
  *    8  no function has this spectrum
  *    9  the cell list is shorter than the number of cells
  *   10  a box file has a wrong length
+ *   11  the number of boxes in a sum is not 1 to 4
+ *   12  the boxes of a sum have different numbers of outputs
  *
  * All lengths (3) are looked at before any value (4). Each function below names the
  * refusals it can give, in the order in which it looks for them.
@@ -225,6 +228,35 @@ uint32_t satmegwo_bent_function(uint32_t n, const uint8_t *permutation, size_t p
  *   figures  written, 2 elements: n, m
  * Refusals: 10 (under 2 bytes), 1, 2, 10 (another length), 4, 7 (rows), 7 (figures). */
 uint32_t satmegwo_read_box(const uint8_t *file, size_t file_len, uint32_t *rows, size_t rows_len, uint32_t *figures, size_t figures_len);
+
+/* ---- Boxes added together ------------------------------------------------ */
+
+/* The nonlinearity of the sum of one to four boxes: a box whose inputs are all their inputs,
+ * N of them, up to 32. The sum's input x gives box 1 its lowest n1 bits, box 2 the next n2,
+ * and so on; the sum's output is the XOR of their rows. The figure is the least number of
+ * inputs, of all 2^N, in which a combination of the sum within the limit i differs from an
+ * affine function of N inputs. It is found as 2^(N-1) less half the largest product of the
+ * boxes' largest spectrum magnitudes, and proved to be that least number.
+ * Boxes past the number given are not read: whatever their arguments, the outcome is the
+ * same. Lend an empty array for their rows.
+ *   count    the number of boxes, 1 to 4
+ *   rows1    read, 2^n1 elements below 2^m1; so of each box up to the number given
+ *   i        1 to m1
+ *   figures  written, 3 + count elements:
+ *              figures[0]          the nonlinearity of the sum, at most 2^31
+ *              figures[1]          c, the first combination that reaches it
+ *              figures[2]          the mask of box 1, the first for this c
+ *              ..                  then of box 2, 3, 4, up to the number given
+ *              figures[2 + count]  b
+ *            The mask of the affine function is put together of theirs, box 1's lowest.
+ * Refusals: 11, then 1, 2, 3, 4 of box 1, then of box 2, 3, 4 up to the number given, then
+ * 12, 6, 7. */
+uint32_t satmegwo_sum_nonlinearity(uint32_t count,
+                                   uint32_t n1, uint32_t m1, const uint32_t *rows1, size_t rows1_len,
+                                   uint32_t n2, uint32_t m2, const uint32_t *rows2, size_t rows2_len,
+                                   uint32_t n3, uint32_t m3, const uint32_t *rows3, size_t rows3_len,
+                                   uint32_t n4, uint32_t m4, const uint32_t *rows4, size_t rows4_len,
+                                   uint32_t i, uint32_t *figures, size_t figures_len);
 
 #ifdef __cplusplus
 }

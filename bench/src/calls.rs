@@ -1,5 +1,6 @@
 //! What is measured: each figure from the library and from the second program.
 use crate::library;
+use second_model::rounds::{self, Summand};
 use second_model::sheet::limit;
 use second_model::{fast, fast_cells};
 use std::cell::RefCell;
@@ -28,6 +29,9 @@ pub const MEASURES: [Measure; 6] = [
 ];
 
 pub const DEGREE: Measure = Measure { name: "degree", library: library_degree, second: second_degree };
+
+/// Four boxes added together: their rows stand one after the other.
+pub const SUM: Measure = Measure { name: "sum of four boxes", library: library_sum, second: second_sum };
 
 pub const LIST: Measure = Measure { name: "list of cells", library: library_list, second: second_list };
 
@@ -101,6 +105,23 @@ fn library_list(n: u32, m: u32, rows: &[u32]) -> Figures {
     })
 }
 
+/// The four boxes whose rows stand one after the other.
+fn four_boxes(n: u32, rows: &[u32]) -> [&[u32]; 4] {
+    let parts: Vec<&[u32]> = rows.chunks_exact(1 << n).collect();
+    parts.try_into().expect("four boxes")
+}
+
+fn library_sum(n: u32, m: u32, rows: &[u32]) -> Figures {
+    let mut written = [0; 7];
+    accepted(library::sum_nonlinearity(4, four_boxes(n, rows).map(|one| (n, m, one)), limit(m), &mut written));
+    figures(&written)
+}
+
+/// The nonlinearity of the first of the four boxes alone.
+pub fn library_nonlinearity_of_one(n: u32, m: u32, rows: &[u32]) -> Figures {
+    library_nonlinearity(n, m, four_boxes(n, rows)[0])
+}
+
 // The second program's side.
 
 fn second_nonlinearity(n: u32, m: u32, rows: &[u32]) -> Figures {
@@ -129,6 +150,11 @@ fn second_sheet(n: u32, m: u32, rows: &[u32]) -> Figures {
     sheet.push(u64::from(fast::complete(n, m, rows)));
     sheet.push(u64::from(fast::bijective(n, m, rows)));
     sheet
+}
+
+fn second_sum(n: u32, m: u32, rows: &[u32]) -> Figures {
+    let boxes = four_boxes(n, rows).map(|one| Summand { n, m, rows: one.to_vec() });
+    figures(&rounds::by_products(&boxes, limit(m)))
 }
 
 fn second_list(_: u32, m: u32, rows: &[u32]) -> Figures {

@@ -4,7 +4,8 @@
 //!
 //! Each figure is measured on random boxes of 6 by 4, 8 by 8, 8 by 16 and 8 by 32, with the
 //! sheet's limit on combinations, and the list of cells and the degree on a few boxes that are
-//! chosen for them, the degree there beside the library's own nonlinearity too.
+//! chosen for them, the degree there beside the library's own nonlinearity too; so is the sum
+//! of four boxes.
 //! Both programs take turns, several rounds each, and the least time of all rounds is shown:
 //! what disturbs a measurement only ever makes it longer. With --anchor the C program FILE.c,
 //! which measures the nonlinearity of an 8 by 16 box and prints its time as `... T s`, is
@@ -16,7 +17,7 @@ mod calls;
 mod library;
 mod table;
 
-use calls::{library_nonlinearity, DEGREE, LIST, MEASURES};
+use calls::{library_nonlinearity, library_nonlinearity_of_one, DEGREE, LIST, MEASURES, SUM};
 use second_model::boxes::{affine_columns, cubes, random_rows};
 use second_model::published;
 use second_model::random::Random;
@@ -72,6 +73,7 @@ fn run(seed: u64, anchor: Option<&str>) -> Result<(), String> {
     }
     lists_of_cells(&mut table, &mut random)?;
     degrees_of_chosen_boxes(&mut table, &mut random)?;
+    sums_of_boxes(&mut table, &mut random)?;
     if let Some(source) = anchor {
         let library = table.library("8x16", "nonlinearity");
         table.line("8x16", "nonlinearity, second is the C anchor", library, anchor::time(source)?);
@@ -124,6 +126,18 @@ fn degrees_of_chosen_boxes(table: &mut Table, random: &mut Random) -> Result<(),
         table.measure(&format!("degree, {kind} box"), &DEGREE, &sample)?;
         let (degree, nonlinearity, _) = least_times(DEGREE.library, library_nonlinearity, &sample);
         table.line("8x16", &format!("degree, {kind} box, to nonlinearity"), degree, nonlinearity);
+    }
+    Ok(())
+}
+
+/// Four random boxes added together, and beside it the nonlinearity of one of them, in turns.
+fn sums_of_boxes(table: &mut Table, random: &mut Random) -> Result<(), String> {
+    for m in [16, 32] {
+        let rows = (0..4).flat_map(|_| random_rows(8, m, random)).collect();
+        let sample = Sample { n: 8, m, boxes: vec![rows], rounds: 5 };
+        table.measure(SUM.name, &SUM, &sample)?;
+        let (sum, one, _) = least_times(SUM.library, library_nonlinearity_of_one, &sample);
+        table.line(&format!("8x{m}"), "sum of four boxes, to nonlinearity", sum, one);
     }
     Ok(())
 }

@@ -84,7 +84,7 @@ impl Run {
         Run { random: Random::new(seed), comparisons: 0, differences: 0 }
     }
 
-    fn lend<T: Pattern>(&mut self, length: usize) -> Lent<T> {
+    pub fn lend<T: Pattern>(&mut self, length: usize) -> Lent<T> {
         Lent::new(length, &mut self.random)
     }
 
@@ -98,7 +98,7 @@ impl Run {
     }
 
     /// Judges a call with a single lent array.
-    fn judge<T: Pattern>(&mut self, code: u32, lent: &Lent<T>, wanted: &Answer<Vec<T>>, arguments: impl FnOnce() -> String) {
+    pub fn judge<T: Pattern>(&mut self, code: u32, lent: &Lent<T>, wanted: &Answer<Vec<T>>, arguments: impl FnOnce() -> String) {
         let same = match wanted {
             Ok(content) => code == 0 && lent.holds(content),
             Err(number) => code == *number && lent.untouched(),

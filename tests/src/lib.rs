@@ -10,4 +10,5 @@ pub mod fast_cells;
 pub mod model;
 pub mod published;
 pub mod random;
+pub mod rounds;
 pub mod sheet;

@@ -25,6 +25,14 @@ mod raw {
         pub fn satmegwo_enlarge_box(n: u32, rows: *const u32, rows_len: usize, table: *const u8, table_len: usize, k: u32, out: *mut u32, out_len: usize) -> u32;
         pub fn satmegwo_bent_function(n: u32, permutation: *const u8, permutation_len: usize, table: *const u8, table_len: usize, out: *mut u8, out_len: usize) -> u32;
         pub fn satmegwo_read_box(file: *const u8, file_len: usize, rows: *mut u32, rows_len: usize, figures: *mut u32, figures_len: usize) -> u32;
+        pub fn satmegwo_sum_nonlinearity(
+            count: u32,
+            n1: u32, m1: u32, rows1: *const u32, rows1_len: usize,
+            n2: u32, m2: u32, rows2: *const u32, rows2_len: usize,
+            n3: u32, m3: u32, rows3: *const u32, rows3_len: usize,
+            n4: u32, m4: u32, rows4: *const u32, rows4_len: usize,
+            i: u32, figures: *mut u32, figures_len: usize,
+        ) -> u32;
     }
 }
 
@@ -105,4 +113,21 @@ pub fn bent_function(n: u32, permutation: &[u8], table: &[u8], out: &mut [u8]) -
 
 pub fn read_box(file: &[u8], rows: &mut [u32], figures: &mut [u32]) -> u32 {
     unsafe { raw::satmegwo_read_box(file.as_ptr(), file.len(), rows.as_mut_ptr(), rows.len(), figures.as_mut_ptr(), figures.len()) }
+}
+
+/// One box as it is handed over: n, m and the rows.
+pub type BoxLent<'a> = (u32, u32, &'a [u32]);
+
+pub fn sum_nonlinearity(count: u32, boxes: [BoxLent; 4], i: u32, figures: &mut [u32]) -> u32 {
+    let [(n1, m1, rows1), (n2, m2, rows2), (n3, m3, rows3), (n4, m4, rows4)] = boxes;
+    unsafe {
+        raw::satmegwo_sum_nonlinearity(
+            count,
+            n1, m1, rows1.as_ptr(), rows1.len(),
+            n2, m2, rows2.as_ptr(), rows2.len(),
+            n3, m3, rows3.as_ptr(), rows3.len(),
+            n4, m4, rows4.as_ptr(), rows4.len(),
+            i, figures.as_mut_ptr(), figures.len(),
+        )
+    }
 }

@@ -7,6 +7,7 @@ mod files;
 mod lent;
 mod library;
 mod sheets;
+mod sums;
 
 use std::path::Path;
 use std::process::ExitCode;

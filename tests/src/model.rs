@@ -30,7 +30,7 @@ pub type Answer<T> = Result<T, u32>;
 // Checks. Each gives its refusal or nothing.
 // ---------------------------------------------------------------------------
 
-fn refuse_when(condition: bool, number: u32) -> Answer<()> {
+pub fn refuse_when(condition: bool, number: u32) -> Answer<()> {
     if condition {
         Err(number)
     } else {
@@ -58,11 +58,11 @@ fn check_truth_values(table: &[u8]) -> Answer<()> {
     refuse_when(table.iter().any(|&value| value > 1), READ_VALUE)
 }
 
-fn check_parameter(value: u32, low: u32, high: u32) -> Answer<()> {
+pub fn check_parameter(value: u32, low: u32, high: u32) -> Answer<()> {
     refuse_when(value < low || value > high, PARAMETER)
 }
 
-fn check_written(length: usize, right: usize) -> Answer<()> {
+pub fn check_written(length: usize, right: usize) -> Answer<()> {
     refuse_when(length != right, WRITTEN_LENGTH)
 }
 
@@ -75,7 +75,7 @@ fn check_box_up_to(most: u32, n: u32, m: u32, rows: &[u32]) -> Answer<()> {
 }
 
 /// Refusals 1 to 4 of a box.
-fn check_box(n: u32, m: u32, rows: &[u32]) -> Answer<()> {
+pub fn check_box(n: u32, m: u32, rows: &[u32]) -> Answer<()> {
     check_box_up_to(MOST_OUTPUTS, n, m, rows)
 }
 

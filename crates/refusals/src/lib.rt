@@ -14,6 +14,8 @@ pub enum Refusal {
     NoFunction,
     ListTooShort,
     FileLength,
+    BoxCount,
+    OutputWidths,
 }
 
 // What a call's checks find: nothing, or the first that applies.
@@ -35,7 +37,7 @@ pub enum Verdict {
     Undecided(Refusal),
 }
 
-// The number of a refusal, as document 01 gives it.
+// The number of a refusal, as documents 01 and 02 give it.
 pub fn number_of(e: Refusal) -> u32
     ensures { λ r. ⌜ r ≡ number e ⌝ }
 {
@@ -50,6 +52,8 @@ pub fn number_of(e: Refusal) -> u32
         Refusal::NoFunction => 8,
         Refusal::ListTooShort => 9,
         Refusal::FileLength => 10,
+        Refusal::BoxCount => 11,
+        Refusal::OutputWidths => 12,
     }
 }
 

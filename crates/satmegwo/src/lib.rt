@@ -10,10 +10,12 @@ use refusals::Checked;
 use refusals::Refusal;
 use refusals::Verdict;
 use refusals::Written;
+use rounds::LeastSum;
+use rounds::Widths;
 ghost use mathlib.Core.Path.{_≡_};
-ghost use mathlib.Core.List.{[], _∷_};
+ghost use mathlib.Core.List.{[], _∷_, _++_};
 ghost use Prim.Native.Nat.{_^_};
-ghost use lib.ListN.{length};
+ghost use lib.ListN.{length, take};
 ghost use Rattle.boolean.specs.Sums.{listBelow};
 ghost use Rattle.boolean.specs.Functions.{at, valueAt, component, spectrum, inverse, normalForm};
 ghost use Rattle.refusals.specs.Table.{tableCallChecks, first, replyAfter, contentAfter, written, verdict, figures as given};
@@ -29,6 +31,8 @@ ghost use Rattle.constructions.specs.Enlargement.{enlargedTable, enlargedRows};
 ghost use Rattle.constructions.specs.BentForm.{bentTable};
 ghost use Rattle.constructions.specs.Calls.{columnChecks, enlargeChecks, bentChecks};
 ghost use Rattle.boxfile.specs.File.{rowsOf};
+ghost use Rattle.rounds.specs.Round.{boxOf, boxes, sumReply};
+ghost use Rattle.rounds.specs.Calls.{leastSum};
 ghost use Rattle.satmegwo.specs.Exports.{status, lent, figuresAfter, cellsChecks, readBoxChecks, roomNumber};
 
 // The number of a call that only writes.
@@ -373,4 +377,93 @@ pub extern "C" fn satmegwo_read_box(file: &[u8], rows: &mut [u32], figures: &mut
         BoxFile::Read { n, m } => give(&[n, m], figures),
         BoxFile::Declined(e) => refusals::number_of(e),
     }
+}
+
+// The figures of a sum of so many boxes: a mask for each of them, and b last.
+fn give_masks(
+    count: u32,
+    figure: u32,
+    c: u32,
+    w1: u32,
+    w2: u32,
+    w3: u32,
+    w4: u32,
+    b: u32,
+    figures: &mut [u32],
+) -> u32
+    ensures number { λ r. ⌜ r ≡ status (lent (given (figure ∷ c ∷ (take count (w1 ∷ w2 ∷ w3 ∷ w4 ∷ []) ++ (b ∷ [])))) (length (now (figures .entry)))) ⌝ }
+    ensures content { λ r. ⌜ now (figures .exit) ≡ figuresAfter (lent (given (figure ∷ c ∷ (take count (w1 ∷ w2 ∷ w3 ∷ w4 ∷ []) ++ (b ∷ [])))) (length (now (figures .entry)))) (now (figures .entry)) ⌝ }
+{
+    if count == 0 {
+        return give(&[figure, c, b], figures);
+    }
+    if count == 1 {
+        return give(&[figure, c, w1, b], figures);
+    }
+    if count == 2 {
+        return give(&[figure, c, w1, w2, b], figures);
+    }
+    if count == 3 {
+        return give(&[figure, c, w1, w2, w3, b], figures);
+    }
+    give(&[figure, c, w1, w2, w3, w4, b], figures)
+}
+
+fn give_sum(count: u32, answer: LeastSum, figures: &mut [u32]) -> u32
+    ensures number { λ r. ⌜ r ≡ status (lent (leastSum count answer) (length (now (figures .entry)))) ⌝ }
+    ensures content { λ r. ⌜ now (figures .exit) ≡ figuresAfter (lent (leastSum count answer) (length (now (figures .entry)))) (now (figures .entry)) ⌝ }
+{
+    match answer {
+        LeastSum::Reached {
+            figure,
+            c,
+            w1,
+            w2,
+            w3,
+            w4,
+            b,
+        } => { give_masks(count, figure, c, w1, w2, w3, w4, b, figures) }
+        LeastSum::Declined(e) => refusals::number_of(e),
+    }
+}
+
+// The nonlinearity of the sum of one to four boxes over its combinations of at most i outputs, with c, a mask for each box, and b. The array for the
+// figures is looked at before the sweep, which may be long, and told after the checks.
+#[no_mangle]
+pub extern "C" fn satmegwo_sum_nonlinearity(
+    count: u32,
+    n1: u32,
+    m1: u32,
+    rows1: &[u32],
+    n2: u32,
+    m2: u32,
+    rows2: &[u32],
+    n3: u32,
+    m3: u32,
+    rows3: &[u32],
+    n4: u32,
+    m4: u32,
+    rows4: &[u32],
+    i: u32,
+    figures: &mut [u32],
+) -> u32
+    ensures number { λ r. ⌜ r ≡ status (lent (sumReply count (boxes count (boxOf n1 m1 (now (rows1 .entry))) (boxOf n2 m2 (now (rows2 .entry))) (boxOf n3 m3 (now (rows3 .entry))) (boxOf n4 m4 (now (rows4 .entry)))) i) (length (now (figures .entry)))) ⌝ }
+    ensures content { λ r. ⌜ now (figures .exit) ≡ figuresAfter (lent (sumReply count (boxes count (boxOf n1 m1 (now (rows1 .entry))) (boxOf n2 m2 (now (rows2 .entry))) (boxOf n3 m3 (now (rows3 .entry))) (boxOf n4 m4 (now (rows4 .entry)))) i) (length (now (figures .entry)))) (now (figures .entry)) ⌝ }
+{
+    let widths = Widths {
+        n1,
+        m1,
+        n2,
+        m2,
+        n3,
+        m3,
+        n4,
+        m4,
+    };
+    if figures.len() != 3 + count as usize {
+        let found = rounds::check_sum(count, widths, rows1, rows2, rows3, rows4, i);
+        return number_for_room(found);
+    }
+    let answer = rounds::sum_nonlinearity(count, widths, rows1, rows2, rows3, rows4, i);
+    give_sum(count, answer, figures)
 }

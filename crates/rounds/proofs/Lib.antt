@@ -1,0 +1,14 @@
+pub mod Parts
+pub mod Firsts
+pub mod Masks
+pub mod Products
+pub mod Peaks
+pub mod Nearest
+pub mod Spectra
+pub mod Theorems
+pub mod Worked
+pub mod Entry
+pub mod Boxes
+pub mod Reported
+pub mod Tops
+pub mod Terms

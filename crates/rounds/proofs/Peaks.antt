@@ -1,0 +1,101 @@
+-- The largest magnitude of a product of spectra: it is the product of the largest, and the first masks that reach it are each box's own first.
+use mathlib.Core.Path.{_≡_, sym, subst}
+use mathlib.Core.List.{List, [], _∷_, List·Memᴰ, List·Memᴰ·eq-of-singleton}
+use Prim.Native.Nat.{ℕ, zero, suc, _*_, _^_, _<_, _≤_}
+use native.Mathlib.Nat.{le-refl, lt-of-le-of-lt, mul-le-mul, mul-le-mul-left, mul-lt-mul-of-pos-left, mul-lt-mul-of-pos-right, zero-lt-suc}
+use native.Mathlib.Omega.{arith}
+use lib.Pow.{pow-pos}
+use lib.IntN.{natAbs}
+use Rattle.boolean.specs.Functions.{component, square}
+use Rattle.boolean.specs.Selection.{First, here}
+use Rattle.boolean.proofs.Digits.{component-lt}
+use Rattle.boolean.proofs.Spectrum.{some-walsh-large}
+use Rattle.rounds.specs.Round.{Summand, masks}
+use Rattle.rounds.proofs.Firsts.{first-weaken, first-each, first-below}
+use Rattle.rounds.specs.Statements.{Fits, walshOf, productAt}
+use Rattle.rounds.proofs.Masks.{behind, mem-behind, mem-masks}
+use Rattle.rounds.proofs.Products.{abs-product}
+
+-- the magnitude of component c's Walsh value, and of the product
+abbrev pub sizeOf : Summand → ℕ → ℕ → ℕ
+sizeOf s c w = natAbs (walshOf s c w)
+
+abbrev pub sizeAt : List Summand → ℕ → List ℕ → ℕ
+sizeAt ss c ws = natAbs (productAt ss c ws)
+
+-- the first mask at which the spectrum of component c has its largest magnitude
+pub record Peak (s : Summand) (c w : ℕ) : Type 0 where
+  pub inside : w < 2 ^ s .inputs
+  pub bounds : (v : ℕ) → v < 2 ^ s .inputs → sizeOf s c v ≤ sizeOf s c w
+  pub first : (v : ℕ) → v < w → sizeOf s c v < sizeOf s c w
+
+-- for each box
+abbrev pub Peaks : List Summand → ℕ → List ℕ → Type 0
+Peaks [] c [] = Unit {0}
+Peaks [] c (w ∷ ws) = ⊥
+Peaks (s ∷ ss) c [] = ⊥
+Peaks (s ∷ ss) c (w ∷ ws) = Peak s c w × Peaks ss c ws
+
+pub peaks-fit : (ss : List Summand) (c : ℕ) (ws : List ℕ) → Peaks ss c ws → Fits ss ws
+peaks-fit [] c [] h = tt
+peaks-fit [] c (w ∷ ws) h = absurd h
+peaks-fit (s ∷ ss) c [] h = absurd h
+peaks-fit (s ∷ ss) c (w ∷ ws) h = (h .0 .inside, peaks-fit ss c ws (h .1))
+
+-- by Parseval no spectrum is 0 everywhere
+positive : (k z : ℕ) → 0 < k → k ≤ z * z → 0 < z
+positive k zero h l = absurd (omega arith)
+positive k (suc z) h l = zero-lt-suc z
+
+pub peak-positive : (s : Summand) (c w : ℕ) → Peak s c w → 0 < sizeOf s c w
+unfolding square
+peak-positive s c w p =
+    let t = some-walsh-large (s .inputs) (component (s .rows) c) (λ x l. component-lt (s .rows) c x) in
+    omega (arith, positive (2 ^ s .inputs) (sizeOf s c (t .0)) (pow-pos (s .inputs)) (t .2), p .bounds (t .0) (t .1))
+
+pub size-next : (s : Summand) (ss : List Summand) (c w : ℕ) (ws : List ℕ) → sizeAt (s ∷ ss) c (w ∷ ws) ≡ sizeOf s c w * sizeAt ss c ws
+unfolding productAt
+size-next s ss c w ws = abs-product (walshOf s c w) (productAt ss c ws)
+
+pub peaks-positive : (ss : List Summand) (c : ℕ) (ws : List ℕ) → Peaks ss c ws → 0 < sizeAt ss c ws
+unfolding productAt
+peaks-positive [] c [] h = zero-lt-suc 0
+peaks-positive [] c (w ∷ ws) h = absurd h
+peaks-positive (s ∷ ss) c [] h = absurd h
+peaks-positive (s ∷ ss) c (w ∷ ws) h =
+    subst (λ (z : ℕ). 0 < z) (sym (size-next s ss c w ws)) (mul-le-mul (peak-positive s c w (h .0)) (peaks-positive ss c ws (h .1)))
+
+-- no masks give more
+pub peaks-bound : (ss : List Summand) (c : ℕ) (ws : List ℕ) → Peaks ss c ws → (vs : List ℕ) → Fits ss vs → sizeAt ss c vs ≤ sizeAt ss c ws
+peaks-bound [] c [] h [] f = le-refl _
+peaks-bound [] c [] h (v ∷ vs) f = absurd f
+peaks-bound [] c (w ∷ ws) h vs f = absurd h
+peaks-bound (s ∷ ss) c [] h vs f = absurd h
+peaks-bound (s ∷ ss) c (w ∷ ws) h [] f = absurd f
+peaks-bound (s ∷ ss) c (w ∷ ws) h (v ∷ vs) f =
+    rw (size-next s ss c v vs, size-next s ss c w ws) (mul-le-mul (h .0 .bounds v (f .0)) (peaks-bound ss c ws (h .1) vs (f .1)))
+
+-- and all that come before give less
+pub peaks-first : (ss : List Summand) (c : ℕ) (ws : List ℕ) → Peaks ss c ws → First (λ r v. sizeAt ss c v < sizeAt ss c r) ws (masks ss)
+unfolding masks
+peaks-first [] c [] h = here
+peaks-first [] c (w ∷ ws) h = absurd h
+peaks-first (s ∷ ss) c [] h = absurd h
+peaks-first (s ∷ ss) c (w ∷ ws) h =
+    first-each Less (behind ss) (first-below _ (2 ^ s .inputs) w (h .0 .inside) smaller)
+    (first-each Less (λ ws. (w ∷ ws) ∷ []) (first-weaken (λ r v. sizeAt ss c v < sizeAt ss c r) _ (λ v k l vs m. later v l vs (List·Memᴰ·eq-of-singleton m)) (peaks-first ss c ws (h .1))) here)
+  where
+    Less : List ℕ → List ℕ → Type 0
+    Less r v = sizeAt (s ∷ ss) c v < sizeAt (s ∷ ss) c r
+
+    -- a smaller first mask, whatever the others
+    smaller : (v : ℕ) → v < w → (vs : List ℕ) → List·Memᴰ vs (behind ss v) → Less (w ∷ ws) vs
+    smaller v l vs m =
+        let t = mem-behind ss v vs m in
+        rw (t .2, size-next s ss c v (t .0), size-next s ss c w ws)
+        (lt-of-le-of-lt (mul-le-mul-left (sizeOf s c v) (peaks-bound ss c ws (h .1) (t .0) (mem-masks ss (t .0) (t .1))))
+        (mul-lt-mul-of-pos-right (h .0 .first v l) (peaks-positive ss c ws (h .1))))
+
+    -- the same first mask, and others before
+    later : (v : List ℕ) → sizeAt ss c v < sizeAt ss c ws → (vs : List ℕ) → vs ≡ w ∷ v → Less (w ∷ ws) vs
+    later v l vs e = rw (e, size-next s ss c w v, size-next s ss c w ws) (mul-lt-mul-of-pos-left l (peak-positive s c w (h .0)))

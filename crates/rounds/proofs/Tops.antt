@@ -1,0 +1,169 @@
+-- The loops over the values of a spectrum, and what they find of a component's spectrum: the largest magnitude, its first place, the sign there.
+-- Assumes nothing.
+use mathlib.Core.Path.{_≡_, refl, sym, ap, _∙_, subst}
+use mathlib.Core.List.{List}
+use Prim.Native.Nat.{ℕ, suc, _+_, _-_, _<_, _≤_, _^_, max}
+use native.Mathlib.Nat.{le-antisymm, le-of-eq, le-trans, zero-lt-suc}
+use native.Mathlib.Numerals.{add-one}
+use native.Mathlib.Omega.{arith}
+use native.Mathlib.Decide.{decLt}
+use borrow.Author.Count.{below-more}
+use borrow.Author.Tests.{eq-eqb}
+use lib.IntN.{ℤ, pos, natAbs}
+use lib.ListN.{length}
+use lib.Pow.{pow-mono}
+use Rattle.boolean.specs.Sums.{largestBelow}
+use Rattle.boolean.specs.Functions.{at, valueAt, component, walsh, spectrum, signBit}
+use Rattle.boolean.proofs.Largest.{largest-cong, largest-le, le-largest}
+use Rattle.boolean.proofs.Lists.{length-listBelow, getD-listBelow}
+use Rattle.boolean.proofs.Walsh.{walsh-le}
+use Rattle.refusals.specs.Table.{first, boxChecks, contentAfter, Box}
+use Rattle.refusals.specs.declared.Checked.the-variants.{Accepted}
+use Rattle.refusals.proofs.Bounds.{range-true}
+use Rattle.refusals.proofs.Checks.{accepted, box-accepted, first-append, content-accepted}
+use Rattle.linear.specs.Calls.{componentChecks}
+use Rattle.rounds.specs.Round.{Summand, boxOf}
+use Rattle.rounds.specs.Spectra.{peak}
+use Rattle.rounds.specs.Calls.{Highest, TopOf}
+use Rattle.rounds.specs.declared.Top.{Top}
+use Rattle.rounds.proofs.Peaks.{sizeOf, Peak}
+use Rattle.rounds.proofs.Spectra.{place-peak, peak-size}
+
+-- ---- the loop that takes the largest magnitude
+abbrev pub sizes : List ℤ → ℕ → ℕ
+sizes values w = natAbs (valueAt values w)
+
+pub largest-none : (values : List ℤ) → 0 ≡ largestBelow 0 (sizes values)
+unfolding largestBelow
+largest-none values = refl
+
+module _ (values : List ℤ) (k : ℕ) {size : ℕ} (so-far : size ≡ largestBelow k (sizes values)) where
+  largest-next : {next : ℕ} → max size (sizes values k) ≡ next → next ≡ largestBelow (k + 1) (sizes values)
+  unfolding largestBelow
+  largest-next h = sym h ∙ ap (λ (z : ℕ). max z (sizes values k)) so-far ∙ ap (λ (j : ℕ). largestBelow j (sizes values)) (sym (add-one k))
+
+  pub largest-takes : {next : ℕ} → next ≡ sizes values k → size < next → next ≡ largestBelow (k + 1) (sizes values)
+  largest-takes e l = largest-next (omega arith)
+
+  pub largest-keeps : sizes values k ≤ size → size ≡ largestBelow (k + 1) (sizes values)
+  largest-keeps l = largest-next (omega arith)
+
+-- ---- the loop that takes its first place
+-- the largest magnitude of the first k values, and its first place
+pub record Leading (values : List ℤ) (k size place : ℕ) : Type 0 where
+  pub within : k ≤ length values
+  pub inside : place < k
+  pub has : size ≡ sizes values place
+  pub bounds : (w : ℕ) → w < k → sizes values w ≤ size
+  pub first : (w : ℕ) → w < place → sizes values w < size
+
+pub leading-one : (values : List ℤ) (size : ℕ) → 0 < length values → size ≡ sizes values 0 → Leading values 1 size 0
+leading-one values size h e = record {
+  within = h;
+  inside = zero-lt-suc 0;
+  has = e;
+  bounds = λ w l. subst (λ (k : ℕ). sizes values k ≤ size) (omega arith) (le-of-eq (sym e));
+  first = λ w l. absurd (omega arith);
+}
+
+module _ {values : List ℤ} {k size place : ℕ} (t : Leading values k size place) where
+  -- one value more: no larger, or larger
+  pub leading-keeps : k < length values → sizes values k ≤ size → Leading values (k + 1) size place
+  leading-keeps h l = record {
+    within = omega arith;
+    inside = omega (arith, t .inside);
+    has = t .has;
+    bounds = below-more _ _ (t .bounds) l;
+    first = t .first;
+  }
+
+  pub leading-takes : (next : ℕ) → k < length values → next ≡ sizes values k → size < next → Leading values (k + 1) next k
+  leading-takes next h e l = record {
+    within = omega arith;
+    inside = omega arith;
+    has = e;
+    bounds = below-more _ _ (λ w m. omega (arith, t .bounds w m)) (le-of-eq (sym e));
+    first = λ w m. omega (arith, t .bounds w m);
+  }
+
+  -- all of them
+  pub leading-all : (top : Top) → length values ≤ k → top .mask ≡ place → top .sign ≡ signBit (valueAt values place) → Highest values top
+  leading-all top h p s = record {
+    inside = omega (arith, t .inside, t .within);
+    bounds = λ w l. omega (arith, t .bounds w (omega arith), t .has, ap (sizes values) p);
+    first = λ w l. omega (arith, t .first w (omega arith), t .has, ap (sizes values) p);
+    signed = s ∙ ap (λ (w : ℕ). signBit (valueAt values w)) (sym p);
+  }
+
+-- ---- a box has one peak
+pub peak-unique : (s : Summand) (c w v : ℕ) → Peak s c w → Peak s c v → w ≡ v
+peak-unique s c w v p q = pick (decLt w v) (decLt v w)
+  where
+    pick : Dec (w < v) → Dec (v < w) → w ≡ v
+    pick (yes l) r = absurd (omega (arith, q .first w l, p .bounds v (q .inside)))
+    pick (no l) (yes k) = absurd (omega (arith, p .first v k, q .bounds w (p .inside)))
+    pick (no l) (no k) = omega arith
+
+-- ---- the call of the component's spectrum is accepted
+module _ (n m : ℕ) (rows : List ℕ) (c : ℕ) (b : Box n m rows) (low : 1 ≤ c) (high : c < 2 ^ m) where
+  component-accepted : (room : ℕ) → room ≡ 2 ^ n → first (componentChecks n m rows c room) ≡ Accepted
+  unfolding componentChecks
+  component-accepted room e =
+      first-append (boxChecks n m rows) _ (box-accepted n m rows b)
+      ∙ accepted _ (range-true 1 (2 ^ m - 1) c low (omega arith), (eq-eqb room (2 ^ n) e, tt))
+
+  -- so the array holds the spectrum
+  pub spectrum-written : {values : List ℤ} (old : List ℤ) → length old ≡ 2 ^ n
+      → values ≡ contentAfter (first (componentChecks n m rows c (length old))) (spectrum n (component rows c)) old → values ≡ spectrum n (component rows c)
+  spectrum-written old e h = h ∙ sym (content-accepted (component-accepted (length old) e) (spectrum n (component rows c)) old)
+
+-- ---- and the largest of it is the peak
+module _ (n m : ℕ) (rows : List ℕ) (c : ℕ) {values : List ℤ} (e : values ≡ spectrum n (component rows c)) where
+  abbrev box : Summand
+  box = boxOf n m rows
+
+  pub values-length : length values ≡ 2 ^ n
+  unfolding spectrum
+  values-length = ap length e ∙ length-listBelow (2 ^ n) (walsh n (component rows c))
+
+  value-is : (w : ℕ) → w < 2 ^ n → valueAt values w ≡ walsh n (component rows c) w
+  unfolding spectrum
+  value-is w l = ap (λ (vs : List ℤ). valueAt vs w) e ∙ getD-listBelow (2 ^ n) (walsh n (component rows c)) w (pos 0) l
+
+  size-is : (w : ℕ) → w < 2 ^ n → sizes values w ≡ sizeOf box c w
+  size-is w l = ap natAbs (value-is w l)
+
+  -- the largest magnitude
+  peak-largest : largestBelow (2 ^ n) (sizeOf box c) ≡ peak box c .figure
+  peak-largest =
+      let p = place-peak box c in
+      let q = peak-size box c in
+      le-antisymm (le-trans (largest-le (2 ^ n) _ (sizeOf box c) (p .bounds)) (le-of-eq (sym q)))
+      (le-trans (le-of-eq q) (le-largest (2 ^ n) (sizeOf box c) (at (peak box c .witness) 0) (p .inside)))
+
+  pub largest-is : {size : ℕ} → size ≡ largestBelow (length values) (sizes values) → size ≡ peak box c .figure
+  largest-is h = h ∙ ap (λ (k : ℕ). largestBelow k (sizes values)) values-length ∙ largest-cong (2 ^ n) (sizes values) (sizeOf box c) size-is ∙ peak-largest
+
+  pub largest-small : n ≤ 8 → {size : ℕ} → size ≡ largestBelow (length values) (sizes values) → size ≤ 256
+  largest-small small h =
+      let few : 2 ^ n ≤ 256 = pow-mono small in
+      let p = place-peak box c in
+      omega (arith, largest-is h, peak-size box c, walsh-le n (component rows c) (at (peak box c .witness) 0))
+
+  -- its first place, and the sign there
+  module _ {t : Top} (h : Highest values t) where
+    inside : t .mask < 2 ^ n
+    inside = omega (arith, h .inside, values-length)
+
+    highest-peak : Peak box c (t .mask)
+    highest-peak = record {
+      inside = inside;
+      bounds = λ v l. omega (arith, size-is v l, h .bounds v (omega (arith, values-length)), size-is (t .mask) inside);
+      first = λ v l. omega (arith, size-is v (omega (arith, inside)), h .first v l, size-is (t .mask) inside);
+    }
+
+    pub top-of : TopOf box c t
+    top-of = record {
+      mask-is = peak-unique box c (t .mask) (at (peak box c .witness) 0) highest-peak (place-peak box c);
+      sign-is = h .signed ∙ ap signBit (value-is (t .mask) inside);
+    }

@@ -1,0 +1,125 @@
+-- `rounds::check_boxes` meets its contract: the boxes' checks one after the other. Assumes nothing.
+use mathlib.Core.Path.{_≡_, sym, ap, _∙_}
+use mathlib.Core.List.{List, _++_}
+use lib.Dec.{ltb}
+use Rattle.boolean.specs.Sums.{each}
+use Rattle.refusals.specs.Table.{Check, first}
+use Rattle.refusals.specs.declared.Checked.the-variants.{Accepted}
+use Rattle.rounds.specs.Round.{Summand, boxOf, boxes, checksOf}
+use Rattle.rounds.specs.Calls.{checksIf}
+use Rattle.rounds.proofs.Entry.{checks-are, refused-1, refused-2, refused-3, found-4}
+use borrow.Author.Needs.{needs}
+use Rattle.rounds.proofs.check_boxes.Statement.{statement}
+use Rattle.rounds.proofs.check_boxes.Tie as tie
+
+-- the four boxes, and their lists of checks
+abbrev box1 : tie.Start → Summand
+box1 c = let a = c .args in boxOf (a .widths .n1) (a .widths .m1) (a .rows1 .now)
+
+abbrev box2 : tie.Start → Summand
+box2 c = let a = c .args in boxOf (a .widths .n2) (a .widths .m2) (a .rows2 .now)
+
+abbrev box3 : tie.Start → Summand
+box3 c = let a = c .args in boxOf (a .widths .n3) (a .widths .m3) (a .rows3 .now)
+
+abbrev box4 : tie.Start → Summand
+box4 c = let a = c .args in boxOf (a .widths .n4) (a .widths .m4) (a .rows4 .now)
+
+abbrev checks1 : tie.Start → List Check
+checks1 c = checksOf (box1 c)
+
+abbrev checks2 : tie.Start → List Check
+checks2 c = checksIf (ltb 1 (c .args .count)) (box2 c)
+
+abbrev checks3 : tie.Start → List Check
+checks3 c = checksIf (ltb 2 (c .args .count)) (box3 c)
+
+abbrev checks4 : tie.Start → List Check
+checks4 c = checksIf (ltb 3 (c .args .count)) (box4 c)
+
+-- together they are the checks of the boxes that are read
+all : (c : tie.Start) → first (checks1 c ++ (checks2 c ++ (checks3 c ++ checks4 c))) ≡ first (each (boxes (c .args .count) (box1 c) (box2 c) (box3 c) (box4 c)) checksOf)
+all c = ap first (checks-are (box1 c) (box2 c) (box3 c) (box4 c) (c .args .count) (c .pre .0) (c .pre .1))
+
+-- where each was passed
+passed1 : (c : tie.After-enum-told) → first (checks1 (c .before .before .before .before .before .before .before)) ≡ Accepted
+passed1 c = sym (c .before .before .check-box .ensures) ∙ c .enum-told .given .1
+
+passed2 : (c : tie.After-enum-told2) → first (checks2 (c .before .before .before .before .before .before .before .before .before .before)) ≡ Accepted
+passed2 c = sym (c .before .before .check-if .ensures) ∙ c .enum-told2 .given .1
+
+passed3 : (c : tie.After-enum-told3) → first (checks3 (c .before .before .before .before .before .before .before .before .before .before .before .before .before)) ≡ Accepted
+passed3 c = sym (c .before .before .check-if2 .ensures) ∙ c .enum-told3 .given .1
+
+check-box-requires : tie.Need-check-box-requires
+check-box-requires c κs = search needs
+
+enum-known-e : tie.Need-enum-known-e
+enum-known-e c = search needs
+
+returns : tie.Need-returns
+returns c =
+    let found = c .before .before .before in
+    let s = found .before .before .before .before .before in
+    refused-1 (checks1 s) (checks2 s) (checks3 s) (checks4 s) (sym (found .check-box .ensures) ∙ c .before .e .given .1) ∙ all s
+
+enum-told : tie.Need-enum-told
+enum-told c = search needs
+
+check-if-requires : tie.Need-check-if-requires
+check-if-requires c κs = search needs
+
+enum-known-e-2 : tie.Need-enum-known-e-2
+enum-known-e-2 c = search needs
+
+returns-2 : tie.Need-returns-2
+returns-2 c =
+    let found = c .before .before .before in
+    let s = found .before .before .before .before .before .before .before .before in
+    refused-2 (checks1 s) (checks2 s) (checks3 s) (checks4 s) (passed1 (found .before)) (sym (found .check-if .ensures) ∙ c .before .e2 .given .1) ∙ all s
+
+enum-told-2 : tie.Need-enum-told-2
+enum-told-2 c = search needs
+
+check-if-requires-2 : tie.Need-check-if-requires-2
+check-if-requires-2 c κs = search needs
+
+enum-known-e-3 : tie.Need-enum-known-e-3
+enum-known-e-3 c = search needs
+
+returns-3 : tie.Need-returns-3
+returns-3 c =
+    let found = c .before .before .before in
+    let s = found .before .before .before .before .before .before .before .before .before .before .before in
+    refused-3 (checks1 s) (checks2 s) (checks3 s) (checks4 s) (passed1 (found .before .before .before .before)) (passed2 (found .before)) (sym (found .check-if2 .ensures) ∙ c .before .e3 .given .1) ∙ all s
+
+enum-told-3 : tie.Need-enum-told-3
+enum-told-3 c = search needs
+
+check-if-requires-3 : tie.Need-check-if-requires-3
+check-if-requires-3 c κs = search needs
+
+returns-4 : tie.Need-returns-4
+returns-4 c =
+    let told = c .before in
+    let s = told .before .before .before .before .before .before .before .before .before .before .before .before .before in
+    found-4 (checks1 s) (checks2 s) (checks3 s) (checks4 s) (passed1 (told .before .before .before .before .before .before)) (passed2 (told .before .before .before)) (passed3 told) (c .check-if3 .ensures) ∙ all s
+
+pub check-boxes-spec : {M : Type 1} → statement M
+check-boxes-spec =
+    tie.close
+    (tie.spec
+    check-box-requires
+    enum-known-e
+    returns
+    enum-told
+    check-if-requires
+    enum-known-e-2
+    returns-2
+    enum-told-2
+    check-if-requires-2
+    enum-known-e-3
+    returns-3
+    enum-told-3
+    check-if-requires-3
+    returns-4)

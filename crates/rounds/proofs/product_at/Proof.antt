@@ -1,0 +1,94 @@
+-- `rounds::product_at` meets its contract: the boxes' largest magnitudes, multiplied. Assumes nothing.
+use Prim.Native.Nat.{_*_, _≤_}
+use native.Mathlib.Omega.{arith}
+use Rattle.rounds.specs.Round.{Summand, boxOf}
+use Rattle.rounds.proofs.Entry.{box-1, used-2, used-3, used-4}
+use Rattle.rounds.proofs.Terms.{product-of, small-2, small-3, small-4}
+use borrow.Author.Needs.{needs}
+use Rattle.rounds.proofs.product_at.Statement.{statement}
+use Rattle.rounds.proofs.product_at.Tie as tie
+
+-- the four boxes
+abbrev box1 : tie.Start → Summand
+box1 c = let a = c .args in boxOf (a .widths .n1) (a .widths .m1) (a .rows1 .now)
+
+abbrev box2 : tie.Start → Summand
+box2 c = let a = c .args in boxOf (a .widths .n2) (a .widths .m2) (a .rows2 .now)
+
+abbrev box3 : tie.Start → Summand
+box3 c = let a = c .args in boxOf (a .widths .n3) (a .widths .m3) (a .rows3 .now)
+
+abbrev box4 : tie.Start → Summand
+box4 c = let a = c .args in boxOf (a .widths .n4) (a .widths .m4) (a .rows4 .now)
+
+size-if-requires : tie.Need-size-if-requires
+size-if-requires c κs =
+    let start = c .before .before .before .before in
+    (λ e. (box-1 (box1 start) (box2 start) (box3 start) (box4 start) (start .pre .0), start .pre .2), start .pre .1)
+
+size-if-requires-2 : tie.Need-size-if-requires-2
+size-if-requires-2 c κs =
+    let start = c .before .before .before .before .before in
+    (used-2 (box1 start) (box2 start) (box3 start) (box4 start) (start .pre .0) (start .pre .2), start .pre .1)
+
+size-if-requires-3 : tie.Need-size-if-requires-3
+size-if-requires-3 c κs =
+    let start = c .before .before .before .before .before .before in
+    (used-3 (box1 start) (box2 start) (box3 start) (box4 start) (start .pre .0) (start .pre .2), start .pre .1)
+
+size-if-requires-4 : tie.Need-size-if-requires-4
+size-if-requires-4 c κs =
+    let start = c .before .before .before .before .before .before .before in
+    (used-4 (box1 start) (box2 start) (box3 start) (box4 start) (start .pre .0) (start .pre .2), start .pre .1)
+
+-- the products are small
+last-small : (c : tie.After-size-if4) → c .before .size-if3 .result * c .size-if4 .result ≤ 65536
+last-small c = small-2 (c .before .size-if3 .ensures .1) (c .size-if4 .ensures .1)
+
+others-small : (c : tie.After-size-if4) → c .before .before .size-if2 .result * (c .before .size-if3 .result * c .size-if4 .result) ≤ 16777216
+others-small c = small-3 (c .before .before .size-if2 .ensures .1) (last-small c)
+
+cast-last : tie.Need-cast-last
+cast-last c = search needs
+
+cast-last-2 : tie.Need-cast-last-2
+cast-last-2 c = search needs
+
+mul-last : tie.Need-mul-last
+mul-last c = omega (arith, last-small c)
+
+cast-others : tie.Need-cast-others
+cast-others c = search needs
+
+mul-others : tie.Need-mul-others
+mul-others c = omega (arith, others-small c)
+
+cast-result : tie.Need-cast-result
+cast-result c = search needs
+
+mul-result : tie.Need-mul-result
+mul-result c = omega (arith, small-4 (c .before .before .before .size-if .ensures .1) (others-small c))
+
+returns : tie.Need-returns
+returns c =
+    let start = c .before .before .before .before .before .before .before .before in
+    let a = start .args in
+    product-of (box1 start) (box2 start) (box3 start) (box4 start) (a .c) (a .count) (start .pre .0 .count-low) (start .pre .0 .count-high)
+    (c .before .before .before .size-if .ensures .0) (c .before .before .size-if2 .ensures .0) (c .before .size-if3 .ensures .0) (c .size-if4 .ensures .0)
+
+pub product-at-spec : {M : Type 1} → statement M
+product-at-spec =
+    tie.close
+    (tie.spec
+    size-if-requires
+    size-if-requires-2
+    size-if-requires-3
+    size-if-requires-4
+    cast-last
+    cast-last-2
+    mul-last
+    cast-others
+    mul-others
+    cast-result
+    mul-result
+    returns)

@@ -1,0 +1,19 @@
+-- `rounds::same_if` meets its contract. Assumes nothing.
+use mathlib.Core.Path.{_≡_, refl, sym, subst}
+use mathlib.Core.Bool.{Bool}
+use lib.Dec.{eqb}
+use Rattle.rounds.specs.Calls.{sameIf}
+use borrow.Author.Needs.{needs}
+use Rattle.rounds.proofs.same_if.Statement.{statement}
+use Rattle.rounds.proofs.same_if.Tie as tie
+
+returns : tie.Need-returns
+returns c =
+    let a = c .before .args in
+    subst (λ (u : Bool). eqb (a .b) (a .a) ≡ sameIf u (a .a) (a .b)) (sym (c .if1 .taken)) refl
+
+returns-2 : tie.Need-returns-2
+returns-2 c = search needs
+
+pub same-if-spec : {M : Type 1} → statement M
+same-if-spec = tie.close (tie.spec returns returns-2)

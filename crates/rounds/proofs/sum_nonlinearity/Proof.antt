@@ -1,0 +1,167 @@
+-- `rounds::sum_nonlinearity` meets its contract: what the checks found says which case it is, the sweep has the component, and its witness and figure
+-- make the answer. Assumes nothing.
+use mathlib.Core.Path.{_≡_, sym, ap, ap₂, _∙_, subst}
+use mathlib.Core.List.{List}
+use Prim.Native.Nat.{ℕ, _+_, _-_, _/_, _^_, _≤_}
+use native.Mathlib.Omega.{arith}
+use Rattle.boolean.specs.Functions.{components, Within}
+use Rattle.boolean.specs.Selection.{Candidate, shown}
+use Rattle.boolean.proofs.Components.{mem-components, in-components, first-mask}
+use Rattle.refusals.specs.Table.{first, figures}
+use Rattle.refusals.specs.declared.Checked.the-variants.{Accepted}
+use Rattle.refusals.proofs.Checks.{reply-refused, reply-accepted}
+use Rattle.rounds.specs.Round.{Summand, inputsOf, outputsOf, boxOf, boxes, sumNonlinearity, sumChecks}
+use Rattle.rounds.specs.Calls.{Round, IsBox}
+use Rattle.rounds.proofs.Entry.{outputs-are, inputs-are, box-1, box-2, box-3, box-4, accepted-round, limit-low, some-inputs}
+use Rattle.rounds.proofs.Terms.{Chosen, chosen, size-within, answer-is}
+use borrow.Author.Needs.{needs}
+use Rattle.rounds.proofs.sum_nonlinearity.Statement.{statement}
+use Rattle.rounds.proofs.sum_nonlinearity.Tie as tie
+
+-- the four boxes, and those that are read
+abbrev box1 : tie.Start → Summand
+box1 c = let a = c .args in boxOf (a .widths .n1) (a .widths .m1) (a .rows1 .now)
+
+abbrev box2 : tie.Start → Summand
+box2 c = let a = c .args in boxOf (a .widths .n2) (a .widths .m2) (a .rows2 .now)
+
+abbrev box3 : tie.Start → Summand
+box3 c = let a = c .args in boxOf (a .widths .n3) (a .widths .m3) (a .rows3 .now)
+
+abbrev box4 : tie.Start → Summand
+box4 c = let a = c .args in boxOf (a .widths .n4) (a .widths .m4) (a .rows4 .now)
+
+abbrev summed : tie.Start → List Summand
+summed c = boxes (c .args .count) (box1 c) (box2 c) (box3 c) (box4 c)
+
+-- accepted: the boxes are a round of box 1's outputs
+abbrev start : tie.After-enum-told → tie.Start
+start c = c .before .before .before .before .before .before .before
+
+accepted : (c : tie.After-enum-told) → let s = start c in first (sumChecks (s .args .count) (summed s) (s .args .i)) ≡ Accepted
+accepted c = sym (c .before .before .check-sum .ensures) ∙ c .enum-told .given .1
+
+widths : (c : tie.After-enum-told) → outputsOf (summed (start c)) ≡ start c .args .widths .m1
+widths c =
+    let s = start c in
+    outputs-are (box1 s) (box2 s) (box3 s) (box4 s) (s .args .count) (accepted-round (s .args .count) (summed s) (s .args .i) (accepted c) .count-low)
+
+round : (c : tie.After-enum-told) → let s = start c in Round (s .args .count) (s .args .widths .m1) (summed s)
+round c =
+    let s = start c in
+    subst (λ (m : ℕ). Round (s .args .count) m (summed s)) (widths c) (accepted-round (s .args .count) (summed s) (s .args .i) (accepted c))
+
+limit : (c : tie.After-enum-told) → 1 ≤ start c .args .i
+limit c = let s = start c in limit-low (s .args .count) (summed s) (s .args .i) (accepted c)
+
+inputs : (c : tie.After-enum-told) → 1 ≤ inputsOf (summed (start c))
+inputs c = let s = start c in some-inputs (s .args .count) (summed s) (s .args .i) (accepted c)
+
+first-box : (c : tie.After-enum-told) → IsBox (box1 (start c))
+first-box c = let s = start c in box-1 (box1 s) (box2 s) (box3 s) (box4 s) (round c)
+
+-- the component that the sweep found
+found : (c : tie.After-sweep) → let s = start (c .before) in Chosen (summed s) (components (s .args .widths .m1) (s .args .i)) (c .sweep .result)
+found c =
+    let s = start (c .before) in
+    let one = in-components (s .args .widths .m1) (s .args .i) 1 (first-mask (s .args .widths .m1) (s .args .i) (first-box (c .before) .m-low) (limit (c .before))) in
+    chosen (summed s) (inputs (c .before)) (components (s .args .widths .m1) (s .args .i)) 1 one (c .sweep .result) (c .sweep .ensures)
+
+mask : (c : tie.After-sweep) → let s = start (c .before) in Within (s .args .i) (2 ^ s .args .widths .m1) (c .sweep .result .c)
+mask c = let s = start (c .before) in mem-components (s .args .widths .m1) (s .args .i) (c .sweep .result .c) (found c .member)
+
+-- the number of all inputs
+abbrev told : tie.After-inputs-if3 → tie.After-enum-told
+told c = c .before .before .before .before .before
+
+abbrev total : tie.After-inputs-if3 → ℕ
+total c = start (told c) .args .widths .n1 + (c .inputs-if3 .result + (c .before .before .inputs-if .result + c .before .inputs-if2 .result))
+
+total-is : (c : tie.After-inputs-if3) → total c ≡ inputsOf (summed (start (told c)))
+total-is c =
+    let s = start (told c) in
+    let r = round (told c) in
+    ap₂ (λ (i j : ℕ). s .args .widths .n1 + (i + j)) (c .inputs-if3 .ensures .0) (ap₂ (λ (i j : ℕ). i + j) (c .before .before .inputs-if .ensures .0) (c .before .inputs-if2 .ensures .0))
+    ∙ inputs-are (box1 s) (box2 s) (box3 s) (box4 s) (s .args .count) (r .count-low) (r .count-high)
+
+check-sum-requires : tie.Need-check-sum-requires
+check-sum-requires c κs = search needs
+
+enum-known-checked : tie.Need-enum-known-checked
+enum-known-checked c = search needs
+
+returns : tie.Need-returns
+returns c = reply-refused (sym (c .before .before .before .check-sum .ensures) ∙ c .before .checked .given .1) _
+
+enum-told : tie.Need-enum-told
+enum-told c = search needs
+
+sweep-requires : tie.Need-sweep-requires
+sweep-requires c κs = (round c, limit c)
+
+witness-at-requires : tie.Need-witness-at-requires
+witness-at-requires c κs = (round (c .before), mask c .low, mask c .high)
+
+inputs-if-requires : tie.Need-inputs-if-requires
+inputs-if-requires c κs e = let t = c .before .before in let s = start t in box-3 (box1 s) (box2 s) (box3 s) (box4 s) (round t) e .n-high
+
+inputs-if-requires-2 : tie.Need-inputs-if-requires-2
+inputs-if-requires-2 c κs e = let t = c .before .before .before in let s = start t in box-4 (box1 s) (box2 s) (box3 s) (box4 s) (round t) e .n-high
+
+add-last : tie.Need-add-last
+add-last c = omega (arith, c .before .inputs-if .ensures .1, c .inputs-if2 .ensures .1)
+
+inputs-if-requires-3 : tie.Need-inputs-if-requires-3
+inputs-if-requires-3 c κs e = let t = c .before .before .before .before in let s = start t in box-2 (box1 s) (box2 s) (box3 s) (box4 s) (round t) e .n-high
+
+-- each has at most 8
+small : (c : tie.After-inputs-if3) → c .inputs-if3 .result + (c .before .before .inputs-if .result + c .before .inputs-if2 .result) ≤ 24
+small c = omega (arith, c .inputs-if3 .ensures .1, c .before .before .inputs-if .ensures .1, c .before .inputs-if2 .ensures .1)
+
+add-others : tie.Need-add-others
+add-others c = omega (arith, small c)
+
+add-figure-of : tie.Need-add-figure-of
+add-figure-of c = omega (arith, small (c .before), first-box (told (c .before)) .n-high)
+
+figure-of-requires : tie.Need-figure-of-requires
+figure-of-requires c κs =
+    let sized = c .before in
+    let n-low = first-box (told sized) .n-low in
+    let n-high = first-box (told sized) .n-high in
+    let swept = sized .before .before .before .before in (
+      omega arith,
+      omega (arith, small sized),
+      subst (λ (k : ℕ). swept .sweep .result .size ≤ 2 ^ k) (sym (total-is sized)) (size-within (found swept) (inputs (told sized))),
+    )
+
+returns-2 : tie.Need-returns-2
+returns-2 c =
+    let sized = c .before .before in
+    let witnessed = sized .before .before .before in
+    let swept = witnessed .before in
+    let t = swept .before in
+    let s = start t in
+    ap (λ (p : Candidate). figures (shown p))
+    (answer-is (found swept) (inputs t) (c .figure-of .ensures ∙ ap (λ (k : ℕ). 2 ^ (k - 1) - swept .sweep .result .size / 2) (total-is sized)) (witnessed .witness-at .ensures))
+    ∙ ap (λ (m : ℕ). figures (shown (sumNonlinearity (summed s) (components m (s .args .i))))) (sym (widths t))
+    ∙ reply-accepted (accepted t) _
+
+pub sum-nonlinearity-spec : {M : Type 1} → statement M
+sum-nonlinearity-spec =
+    tie.close
+    (tie.spec
+    check-sum-requires
+    enum-known-checked
+    returns
+    enum-told
+    sweep-requires
+    witness-at-requires
+    inputs-if-requires
+    inputs-if-requires-2
+    add-last
+    inputs-if-requires-3
+    add-others
+    add-figure-of
+    figure-of-requires
+    returns-2)

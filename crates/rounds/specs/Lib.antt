@@ -1,0 +1,4 @@
+pub mod Round
+pub mod Spectra
+pub mod Calls
+pub mod Statements

@@ -1,0 +1,103 @@
+-- Boxes added together (document 02 §4): each box is fed by its own input bits, box 1 by the lowest, and their outputs are XORed. What is measured is
+-- the nonlinearity of that sum, as a box whose inputs are all their inputs.
+use Prim.Native.Nat.{ℕ, _+_, _*_, _/_, _%_, _^_}
+use mathlib.Core.Bool.{Bool, true}
+use mathlib.Core.List.{List, [], _∷_, _++_}
+use lib.Bits.{bitXor}
+use lib.Dec.{eqb}
+use lib.ListN.{take}
+use Rattle.boolean.specs.Sums.{each, every, listBelow}
+use Rattle.boolean.specs.Functions.{at, component, components, distance}
+use Rattle.boolean.specs.Selection.{Candidate, firstLeast, shown}
+use Rattle.refusals.specs.Table.{Check, _unless_, inRange, boxChecks, first, Reply, replyAfter}
+use Rattle.refusals.specs.declared.Refusal.the-variants.{BoxCount, OutputWidths, Parameter}
+
+-- one box of the sum: its numbers of inputs and outputs, and its rows
+pub record Summand : Type 0 where
+  pub inputs : ℕ
+  pub outputs : ℕ
+  pub rows : List ℕ
+
+-- N, the number of inputs of all boxes together
+unfoldable pub inputsOf : List Summand → ℕ
+inputsOf [] = 0
+inputsOf (s ∷ ss) = s .inputs + inputsOf ss
+
+-- the sum at the input x: the first box takes the lowest bits, the others the rest
+unfoldable pub sumAt : List Summand → ℕ → ℕ
+sumAt [] x = 0
+sumAt (s ∷ ss) x = bitXor (at (s .rows) (x % 2 ^ s .inputs)) (sumAt ss (x / 2 ^ s .inputs))
+
+-- the sum as a box: its rows at all 2^N inputs
+unfoldable pub sumRows : List Summand → List ℕ
+unfolding inputsOf sumAt listBelow
+sumRows ss = listBelow (2 ^ inputsOf ss) (λ x. sumAt ss x)
+
+-- the masks of affine functions, one for each box from box 1 on, in ascending order of the first, then the second, and so on
+unfoldable pub masks : List Summand → List (List ℕ)
+unfolding each listBelow
+masks [] = [] ∷ []
+masks (s ∷ ss) = each (listBelow (2 ^ s .inputs) (λ w. w)) (λ w. each (masks ss) (λ ws. (w ∷ ws) ∷ []))
+
+-- one mask put together of a mask for each box, the first box's in the lowest bits
+unfoldable pub joined : List Summand → List ℕ → ℕ
+joined [] ws = 0
+joined (s ∷ ss) [] = 0
+joined (s ∷ ss) (w ∷ ws) = w + 2 ^ s .inputs * joined ss ws
+
+-- component c of the sum and the affine function whose mask is put together of ws, with the count of the inputs, of all 2^N, at which they differ
+abbrev pub sumPair : List Summand → ℕ → List ℕ → ℕ → Candidate
+sumPair ss c ws b = record { figure = distance (inputsOf ss) (component (sumRows ss) c) (joined ss ws) b; witness = c ∷ (ws ++ (b ∷ [])) }
+
+-- the pairs of one component, in the masks' order, then b
+unfoldable pub sumPairsOf : List Summand → ℕ → List Candidate
+unfolding each masks
+sumPairsOf ss c = each (masks ss) (λ ws. sumPair ss c ws 0 ∷ sumPair ss c ws 1 ∷ [])
+
+-- all pairs of the components cs, in their order, then the masks', then b
+unfoldable pub sumPairs : List Summand → List ℕ → List Candidate
+unfolding each sumPairsOf
+sumPairs ss cs = each cs (λ c. sumPairsOf ss c)
+
+-- the first pair that differs at the fewest inputs
+unfoldable pub sumNonlinearity : List Summand → List ℕ → Candidate
+unfolding firstLeast sumPairs
+sumNonlinearity ss cs = firstLeast (sumPairs ss cs)
+
+-- The call: which boxes it reads, its checks, and what it replies.
+
+-- a box as it is handed over
+abbrev pub boxOf : ℕ → ℕ → List ℕ → Summand
+boxOf n m rows = record { inputs = n; outputs = m; rows = rows }
+
+-- the boxes that are read: the first so many of the four that are handed over
+abbrev pub boxes : ℕ → Summand → Summand → Summand → Summand → List Summand
+boxes count s1 s2 s3 s4 = take count (s1 ∷ s2 ∷ s3 ∷ s4 ∷ [])
+
+-- the outputs of the sum: those of box 1
+abbrev pub outputsOf : List Summand → ℕ
+outputsOf [] = 0
+outputsOf (s ∷ ss) = s .outputs
+
+-- whether the boxes have as many outputs as box 1
+abbrev pub sameOutputs : List Summand → Bool
+sameOutputs [] = true
+sameOutputs (s ∷ ss) = every (λ t. eqb (t .outputs) (s .outputs)) ss
+
+-- the checks of one box
+abbrev pub checksOf : Summand → List Check
+checksOf s = boxChecks (s .inputs) (s .outputs) (s .rows)
+
+-- the checks: the number of boxes, each box's own in box order, the output widths, and the limit
+unfoldable pub sumChecks : ℕ → List Summand → ℕ → List Check
+unfolding each
+sumChecks count ss i =
+    (BoxCount unless inRange 1 4 count)
+    ∷ (each ss checksOf ++ (
+    (OutputWidths unless sameOutputs ss)
+    ∷ (Parameter unless inRange 1 (outputsOf ss) i)
+    ∷ []))
+
+-- what the call replies, of a number of boxes and those that are read: figure, c, a mask for each box, b; or the number of the refusal
+abbrev pub sumReply : ℕ → List Summand → ℕ → Reply
+sumReply count ss i = replyAfter (first (sumChecks count ss i)) (shown (sumNonlinearity ss (components (outputsOf ss) i)))

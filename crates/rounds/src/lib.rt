@@ -1,0 +1,356 @@
+// Boxes added together: the outputs of one to four boxes, each fed by its own input bits, XORed. It stands above the analyser and uses
+// of its figures only the spectrum of a component.
+use refusals::Checked;
+use refusals::Refusal;
+ghost use mathlib.Core.Path.{_≡_};
+ghost use mathlib.Core.Bool.{true, _&&_};
+ghost use lib.Dec.{ltb};
+ghost use lib.IntN.{natAbs};
+ghost use Prim.Native.Nat.{_+_, _-_, _/_, _^_, _≤_, _<_};
+ghost use lib.ListN.{length};
+ghost use Rattle.boolean.specs.Sums.{each, largestBelow};
+ghost use Rattle.boolean.specs.Functions.{components, valueAt};
+ghost use Rattle.refusals.specs.Table.{first, Box};
+ghost use Rattle.rounds.specs.Round.{boxOf, checksOf, sumChecks, sumReply};
+ghost use Rattle.rounds.specs.Spectra.{peak, product, largestProduct};
+ghost use Rattle.rounds.specs.Calls.{read, leastSum, checksIf, sameIf, inputsIf, sizeIf, Round, foundCandidate, Highest, TopOf, TopIf, WitnessOf};
+
+// The inputs and outputs of the four boxes that are handed over.
+pub struct Widths {
+    pub n1: u32,
+    pub m1: u32,
+    pub n2: u32,
+    pub m2: u32,
+    pub n3: u32,
+    pub m3: u32,
+    pub n4: u32,
+    pub m4: u32,
+}
+
+// The first mask of the largest magnitude of a spectrum, and the sign bit of the value there.
+pub struct Top {
+    pub mask: u32,
+    pub sign: u32,
+}
+
+// A mask for each box, 0 for a box past the number given, and b.
+pub struct Witness {
+    pub w1: u32,
+    pub w2: u32,
+    pub w3: u32,
+    pub w4: u32,
+    pub b: u32,
+}
+
+// The best component so far, with the product of the boxes' largest magnitudes.
+pub struct Found {
+    pub size: u64,
+    pub c: u32,
+}
+
+// The answer of the call: the figure, c, a mask for each box (0 past the number given) and b.
+pub enum LeastSum {
+    Reached {
+        figure: u32,
+        c: u32,
+        w1: u32,
+        w2: u32,
+        w3: u32,
+        w4: u32,
+        b: u32,
+    },
+    Declined(Refusal),
+}
+
+// The largest magnitude of some values.
+fn largest(values: &[i32]) -> u32
+    ensures { λ r. ⌜ r ≡ largestBelow (length (now (values .entry))) (λ w. natAbs (valueAt (now (values .entry)) w)) ⌝ }
+{
+    let mut size = 0;
+    let mut w = 0;
+    while w < values.len() {
+        let next = boolean::magnitude(values[w]);
+        if size < next {
+            size = next;
+        }
+        w += 1;
+    }
+    size
+}
+
+// The same of the spectrum of component c of a box, with an array for the spectrum lent.
+fn size_in(n: u32, m: u32, rows: &[u32], c: u32, values: &mut [i32]) -> u32
+    requires { ⌜ Box n m (now rows) × (1 ≤ c) × (c < 2 ^ m) × (length (now values) ≡ 2 ^ n) ⌝ }
+    ensures { λ r. ⌜ (r ≡ peak (boxOf n m (now (rows .entry))) c .figure) × (r ≤ 256) ⌝ }
+{
+    linear::spectrum_of_component(n, m, rows, c, values);
+    largest(values)
+}
+
+// The same for a box that the sum has, and else a factor of 1.
+fn size_if(used: bool, n: u32, m: u32, rows: &[u32], c: u32) -> u32
+    requires { ⌜ (used ≡ true → Box n m (now rows) × (c < 2 ^ m)) × (1 ≤ c) ⌝ }
+    ensures { λ r. ⌜ (r ≡ sizeIf used (boxOf n m (now (rows .entry))) c) × (r ≤ 256) ⌝ }
+{
+    if used {
+        let mut values = [0i32; 256];
+        let size = rows.len();
+        size_in(n, m, rows, c, &mut values[..size])
+    } else {
+        1
+    }
+}
+
+// The product of the boxes' largest magnitudes at component c.
+fn product_at(
+    count: u32,
+    widths: Widths,
+    rows1: &[u32],
+    rows2: &[u32],
+    rows3: &[u32],
+    rows4: &[u32],
+    c: u32,
+) -> u64
+    requires { ⌜ Round count (widths .m1) (read count widths (now rows1) (now rows2) (now rows3) (now rows4)) × (1 ≤ c) × (c < 2 ^ widths .m1) ⌝ }
+    ensures { λ r. ⌜ r ≡ product (read count widths (now (rows1 .entry)) (now (rows2 .entry)) (now (rows3 .entry)) (now (rows4 .entry))) c ⌝ }
+{
+    let size1 = size_if(true, widths.n1, widths.m1, rows1, c);
+    let size2 = size_if(1 < count, widths.n2, widths.m2, rows2, c);
+    let size3 = size_if(2 < count, widths.n3, widths.m3, rows3, c);
+    let size4 = size_if(3 < count, widths.n4, widths.m4, rows4, c);
+    let last = size3 as u64 * size4 as u64;
+    let others = size2 as u64 * last;
+    size1 as u64 * others
+}
+
+// Every component within the limit in turn; the first of the largest product is kept.
+fn sweep(
+    count: u32,
+    widths: Widths,
+    rows1: &[u32],
+    rows2: &[u32],
+    rows3: &[u32],
+    rows4: &[u32],
+    i: u32,
+) -> Found
+    requires { ⌜ Round count (widths .m1) (read count widths (now rows1) (now rows2) (now rows3) (now rows4)) × (1 ≤ i) ⌝ }
+    ensures { λ r. ⌜ foundCandidate r ≡ largestProduct (read count widths (now (rows1 .entry)) (now (rows2 .entry)) (now (rows3 .entry)) (now (rows4 .entry))) (components (widths .m1) i) ⌝ }
+{
+    let masks = boolean::power_of_two(widths.m1) as u64;
+    let mut found = Found { size: 0, c: 0 };
+    let mut c: u64 = 1;
+    while c < masks {
+        let mask = c as u32;
+        let size = product_at(count, widths, rows1, rows2, rows3, rows4, mask);
+        if found.size < size {
+            found = Found { size, c: mask };
+        }
+        c = masks::next_mask(i, c);
+    }
+    found
+}
+
+// The first place of the largest magnitude of some values, and the sign there.
+fn highest(values: &[i32]) -> Top
+    requires { ⌜ (0 < length (now values)) × (length (now values) ≤ 256) ⌝ }
+    ensures { λ r. ⌜ Highest (now (values .entry)) r ⌝ }
+{
+    let mut most = boolean::magnitude(values[0]);
+    let mut place = 0;
+    let mut w = 1;
+    while w < values.len() {
+        let next = boolean::magnitude(values[w]);
+        if most < next {
+            most = next;
+            place = w;
+        }
+        w += 1;
+    }
+    let sign = boolean::sign_bit(values[place]);
+    Top {
+        mask: place as u32,
+        sign: sign as u32,
+    }
+}
+
+// The same of the spectrum of component c of a box, with an array for the spectrum lent.
+fn top_in(n: u32, m: u32, rows: &[u32], c: u32, spectrum: &mut [i32]) -> Top
+    requires { ⌜ Box n m (now rows) × (1 ≤ c) × (c < 2 ^ m) × (length (now spectrum) ≡ 2 ^ n) ⌝ }
+    ensures { λ r. ⌜ TopOf (boxOf n m (now (rows .entry))) c r ⌝ }
+{
+    linear::spectrum_of_component(n, m, rows, c, spectrum);
+    highest(spectrum)
+}
+
+// The same for a box that the sum has, and else the mask 0, with no sign.
+fn top_if(used: bool, n: u32, m: u32, rows: &[u32], c: u32) -> Top
+    requires { ⌜ (used ≡ true → Box n m (now rows) × (c < 2 ^ m)) × (1 ≤ c) ⌝ }
+    ensures { λ r. ⌜ TopIf used (boxOf n m (now (rows .entry))) c r ⌝ }
+{
+    if used {
+        let mut values = [0i32; 256];
+        let size = rows.len();
+        top_in(n, m, rows, c, &mut values[..size])
+    } else {
+        Top { mask: 0, sign: 0 }
+    }
+}
+
+// The witness of component c: each box's own first mask, and the sign of the product of the values there.
+fn witness_at(
+    count: u32,
+    widths: Widths,
+    rows1: &[u32],
+    rows2: &[u32],
+    rows3: &[u32],
+    rows4: &[u32],
+    c: u32,
+) -> Witness
+    requires { ⌜ Round count (widths .m1) (read count widths (now rows1) (now rows2) (now rows3) (now rows4)) × (1 ≤ c) × (c < 2 ^ widths .m1) ⌝ }
+    ensures { λ r. ⌜ WitnessOf (read count widths (now (rows1 .entry)) (now (rows2 .entry)) (now (rows3 .entry)) (now (rows4 .entry))) count c r ⌝ }
+{
+    let t1 = top_if(true, widths.n1, widths.m1, rows1, c);
+    let t2 = top_if(1 < count, widths.n2, widths.m2, rows2, c);
+    let t3 = top_if(2 < count, widths.n3, widths.m3, rows3, c);
+    let t4 = top_if(3 < count, widths.n4, widths.m4, rows4, c);
+    Witness {
+        w1: t1.mask,
+        w2: t2.mask,
+        w3: t3.mask,
+        w4: t4.mask,
+        b: t1.sign ^ (t2.sign ^ (t3.sign ^ t4.sign)),
+    }
+}
+
+// The checks of a box that the sum has.
+fn check_if(used: bool, n: u32, m: u32, rows: &[u32]) -> Checked
+    ensures { λ r. ⌜ r ≡ first (checksIf used (boxOf n m (now (rows .entry)))) ⌝ }
+{
+    if used {
+        refusals::check_box(n, m, rows)
+    } else {
+        Checked::Accepted
+    }
+}
+
+// Each box's own checks, in box order.
+fn check_boxes(
+    count: u32,
+    widths: Widths,
+    rows1: &[u32],
+    rows2: &[u32],
+    rows3: &[u32],
+    rows4: &[u32],
+) -> Checked
+    requires { ⌜ (1 ≤ count) × (count ≤ 4) ⌝ }
+    ensures { λ r. ⌜ r ≡ first (each (read count widths (now (rows1 .entry)) (now (rows2 .entry)) (now (rows3 .entry)) (now (rows4 .entry))) checksOf) ⌝ }
+{
+    if let Checked::Refused(e) = refusals::check_box(widths.n1, widths.m1, rows1) {
+        return Checked::Refused(e);
+    }
+    if let Checked::Refused(e) = check_if(1 < count, widths.n2, widths.m2, rows2) {
+        return Checked::Refused(e);
+    }
+    if let Checked::Refused(e) = check_if(2 < count, widths.n3, widths.m3, rows3) {
+        return Checked::Refused(e);
+    }
+    check_if(3 < count, widths.n4, widths.m4, rows4)
+}
+
+// Whether a box that the sum has has as many outputs as box 1.
+fn same_if(used: bool, a: u32, b: u32) -> bool
+    ensures { λ r. ⌜ r ≡ sameIf used a b ⌝ }
+{
+    if used { b == a } else { true }
+}
+
+// Whether all boxes have as many outputs as box 1.
+fn same_outputs(count: u32, m1: u32, m2: u32, m3: u32, m4: u32) -> bool
+    ensures { λ r. ⌜ r ≡ (sameIf (ltb 1 count) m1 m2 && (sameIf (ltb 2 count) m1 m3 && sameIf (ltb 3 count) m1 m4)) ⌝ }
+{
+    if !same_if(1 < count, m1, m2) {
+        return false;
+    }
+    if !same_if(2 < count, m1, m3) {
+        return false;
+    }
+    same_if(3 < count, m1, m4)
+}
+
+// The checks of the call: the number of boxes, each box's own, the output widths, the limit.
+pub fn check_sum(
+    count: u32,
+    widths: Widths,
+    rows1: &[u32],
+    rows2: &[u32],
+    rows3: &[u32],
+    rows4: &[u32],
+    i: u32,
+) -> Checked
+    ensures { λ r. ⌜ r ≡ first (sumChecks count (read count widths (now (rows1 .entry)) (now (rows2 .entry)) (now (rows3 .entry)) (now (rows4 .entry))) i) ⌝ }
+{
+    if !refusals::in_range(1, 4, count) {
+        return Checked::Refused(Refusal::BoxCount);
+    }
+    let found = check_boxes(count, widths, rows1, rows2, rows3, rows4);
+    if let Checked::Refused(e) = found {
+        return Checked::Refused(e);
+    }
+    if !same_outputs(count, widths.m1, widths.m2, widths.m3, widths.m4) {
+        return Checked::Refused(Refusal::OutputWidths);
+    }
+    if !refusals::in_range(1, widths.m1, i) {
+        return Checked::Refused(Refusal::Parameter);
+    }
+    Checked::Accepted
+}
+
+// The inputs of a box that the sum has.
+fn inputs_if(used: bool, n: u32) -> u32
+    requires { ⌜ (used ≡ true → n ≤ 8) ⌝ }
+    ensures { λ r. ⌜ (r ≡ inputsIf used n) × (r ≤ 8) ⌝ }
+{
+    if used { n } else { 0 }
+}
+
+// 2^(N − 1) less half the product.
+fn figure_of(inputs: u32, size: u64) -> u32
+    requires { ⌜ (1 ≤ inputs) × (inputs ≤ 32) × (size ≤ 2 ^ inputs) ⌝ }
+    ensures { λ r. ⌜ r ≡ 2 ^ (inputs - 1) - size / 2 ⌝ }
+{
+    let half = 1u64 << (inputs - 1);
+    (half - size / 2) as u32
+}
+
+// The nonlinearity of the sum of one to four boxes, as a box whose inputs are all their inputs, over its combinations of at most i outputs, with the
+// first pair that reaches it. Boxes past the number given are not read.
+pub fn sum_nonlinearity(
+    count: u32,
+    widths: Widths,
+    rows1: &[u32],
+    rows2: &[u32],
+    rows3: &[u32],
+    rows4: &[u32],
+    i: u32,
+) -> LeastSum
+    ensures { λ r. ⌜ leastSum count r ≡ sumReply count (read count widths (now (rows1 .entry)) (now (rows2 .entry)) (now (rows3 .entry)) (now (rows4 .entry))) i ⌝ }
+{
+    let checked = check_sum(count, widths, rows1, rows2, rows3, rows4, i);
+    if let Checked::Refused(e) = checked {
+        return LeastSum::Declined(e);
+    }
+    let found = sweep(count, widths, rows1, rows2, rows3, rows4, i);
+    let c = found.c;
+    let witness = witness_at(count, widths, rows1, rows2, rows3, rows4, c);
+    let last = inputs_if(2 < count, widths.n3) + inputs_if(3 < count, widths.n4);
+    let others = inputs_if(1 < count, widths.n2) + last;
+    LeastSum::Reached {
+        figure: figure_of(widths.n1 + others, found.size),
+        c,
+        w1: witness.w1,
+        w2: witness.w2,
+        w3: witness.w3,
+        w4: witness.w4,
+        b: witness.b,
+    }
+}

@@ -1,0 +1,78 @@
+-- `satmegwo::satmegwo_sum_nonlinearity` meets its contract: that of the call, with its figures in the lent array, whose length is looked at before the
+-- sweep. Assumes nothing.
+use mathlib.Core.Path.{_≡_, ap, _∙_}
+use mathlib.Core.List.{List}
+use Rattle.boolean.specs.Functions.{components}
+use Rattle.boolean.specs.Selection.{shown}
+use Rattle.refusals.specs.Table.{first}
+use Rattle.rounds.specs.Round.{Summand, boxOf, boxes, outputsOf, sumNonlinearity, sumChecks}
+use Rattle.rounds.proofs.Reported.{figures-number}
+use Rattle.satmegwo.specs.Exports.{roomNumber}
+use Rattle.satmegwo.proofs.Giving.{gives-same, room-first}
+use borrow.Author.Needs.{needs}
+use Rattle.satmegwo.proofs.satmegwo_sum_nonlinearity.Statement.{statement}
+use Rattle.satmegwo.proofs.satmegwo_sum_nonlinearity.Tie as tie
+
+-- the four boxes, and those that are read
+abbrev box1 : tie.Start → Summand
+box1 s = let a = s .args in boxOf (a .n1) (a .m1) (a .rows1 .now)
+
+abbrev box2 : tie.Start → Summand
+box2 s = let a = s .args in boxOf (a .n2) (a .m2) (a .rows2 .now)
+
+abbrev box3 : tie.Start → Summand
+box3 s = let a = s .args in boxOf (a .n3) (a .m3) (a .rows3 .now)
+
+abbrev box4 : tie.Start → Summand
+box4 s = let a = s .args in boxOf (a .n4) (a .m4) (a .rows4 .now)
+
+abbrev summed : tie.Start → List Summand
+summed s = boxes (s .args .count) (box1 s) (box2 s) (box3 s) (box4 s)
+
+add-if1 : tie.Need-add-if1
+add-if1 c = search needs
+
+check-sum-requires : tie.Need-check-sum-requires
+check-sum-requires c κs = search needs
+
+number-for-room-requires : tie.Need-number-for-room-requires
+number-for-room-requires c κs = search needs
+
+returns : tie.Need-returns
+returns c =
+    let checked = c .before in
+    let then = checked .before in
+    let s = then .before .before .before .before .before .before in
+    let a = s .args in
+    let g = room-first (first (sumChecks (a .count) (summed s) (a .i))) (shown (sumNonlinearity (summed s) (components (outputsOf (summed s)) (a .i)))) (a .figures .now)
+    (λ accepted e. then .if1 .taken (e ∙ figures-number (a .count) (box1 s) (box2 s) (box3 s) (box4 s) (a .i) accepted)) in
+    (c .number-for-room .ensures ∙ ap roomNumber (checked .check-sum .ensures) ∙ g .0, g .1)
+
+sum-nonlinearity-requires : tie.Need-sum-nonlinearity-requires
+sum-nonlinearity-requires c κs = search needs
+
+give-sum-requires : tie.Need-give-sum-requires
+give-sum-requires c κs = search needs
+
+same-length : tie.Need-same-length
+same-length c = search needs
+
+returns-2 : tie.Need-returns-2
+returns-2 c =
+    let given = c .before .before in
+    let called = given .before .before in
+    let s = called .before .before .before .before .before .before .before in
+    gives-same (s .args .figures .now) (called .sum-nonlinearity .ensures) (given .give-sum .ensures)
+
+pub satmegwo-sum-nonlinearity-spec : {M : Type 1} → statement M
+satmegwo-sum-nonlinearity-spec =
+    tie.close
+    (tie.spec
+    add-if1
+    check-sum-requires
+    number-for-room-requires
+    returns
+    sum-nonlinearity-requires
+    give-sum-requires
+    same-length
+    returns-2)

@@ -1,0 +1,275 @@
+//! The sum of one to four boxes, each fed by its own input bits (document 02, section 4): its
+//! nonlinearity, from the definition and by the rule of products.
+//!
+//! An input of the sum is one input for each box: box 1 takes the lowest bits, box 2 the next
+//! ones, and so on. The sum's row there is the XOR of the boxes' rows.
+use crate::combinations::within;
+use crate::fast;
+use crate::model::{bearable, check_box, check_parameter, check_written, parity, refuse_when, Answer};
+
+/// The refusals' numbers.
+pub const BOX_COUNT: u32 = 11;
+pub const OUTPUT_WIDTHS: u32 = 12;
+
+/// The most boxes that are added.
+pub const MOST: usize = 4;
+
+/// One box as it is handed over; nothing in it needs to be right.
+#[derive(Clone, Debug)]
+pub struct Summand {
+    pub n: u32,
+    pub m: u32,
+    pub rows: Vec<u32>,
+}
+
+/// N: how many inputs the sum of boxes has.
+fn all_inputs(boxes: &[Summand]) -> u32 {
+    boxes.iter().map(|one| one.n).sum()
+}
+
+/// All rows of the sum, in the order of its 2^N inputs.
+pub fn rows_of_sum(boxes: &[Summand]) -> Vec<u32> {
+    let row_at = |x: u64| {
+        let (mut rest, mut row) = (x, 0);
+        for one in boxes {
+            row ^= one.rows[(rest % (1 << one.n)) as usize];
+            rest >>= one.n;
+        }
+        row
+    };
+    (0..1 << all_inputs(boxes)).map(row_at).collect()
+}
+
+/// All lists of one mask for each box, in ascending order of box 1's mask, then of box 2's, ..
+fn lists_of_masks(boxes: &[Summand]) -> Vec<Vec<u32>> {
+    let Some((first, others)) = boxes.split_first() else {
+        return vec![Vec::new()];
+    };
+    let behind = lists_of_masks(others);
+    let begun_with = |w: u32| behind.iter().map(move |list| [&[w], &list[..]].concat());
+    (0..1 << first.n).flat_map(begun_with).collect()
+}
+
+/// The mask on the sum's inputs that has box 1's mask in the lowest bits, and so on.
+fn put_together(boxes: &[Summand], masks: &[u32]) -> u64 {
+    let (mut whole, mut below) = (0, 0);
+    for (one, &w) in boxes.iter().zip(masks) {
+        whole |= u64::from(w) << below;
+        below += one.n;
+    }
+    whole
+}
+
+/// At how many of all inputs combination c of the sum differs from the affine function (w, b).
+fn count_of_differing(rows: &[u32], c: u32, w: u64, b: u32) -> u64 {
+    let differs = |(x, &row): (usize, &u32)| u64::from(parity(row & c) ^ parity((w & x as u64) as u32) != b as u8);
+    rows.iter().enumerate().map(differs).sum()
+}
+
+/// The least count over all inputs with its first witness: figure, c, one mask for each box, b.
+pub fn by_definition(boxes: &[Summand], i: u32) -> Vec<u32> {
+    let rows = rows_of_sum(boxes);
+    let lists = lists_of_masks(boxes);
+    let (mut least, mut witness) = (u64::MAX, Vec::new());
+    for c in within(boxes[0].m, i) {
+        for masks in &lists {
+            for b in 0..2 {
+                let differing = count_of_differing(&rows, c, put_together(boxes, masks), b);
+                if differing < least {
+                    (least, witness) = (differing, [&[c], &masks[..], &[b]].concat());
+                }
+            }
+        }
+    }
+    [&[least as u32], &witness[..]].concat()
+}
+
+/// The first place of the largest magnitude in the spectrum of one box's combination, this
+/// magnitude, and whether the value there is below 0.
+fn top(one: &Summand, c: u32) -> (u32, u64, bool) {
+    let values = fast::spectrum(&one.rows, c);
+    let largest = values.iter().map(|value| value.unsigned_abs()).max().expect("there are values");
+    let place = values.iter().position(|value| value.unsigned_abs() == largest).expect("it was reached");
+    (place as u32, u64::from(largest), values[place] < 0)
+}
+
+/// 2^(N-1) less half the largest product of the boxes' largest magnitudes. The first
+/// combination with that product, each box's first place, and b = 1 where the product of the
+/// values there is below 0.
+pub fn by_products(boxes: &[Summand], i: u32) -> Vec<u32> {
+    let mut best = (0, Vec::new());
+    for c in within(boxes[0].m, i) {
+        let tops: Vec<(u32, u64, bool)> = boxes.iter().map(|one| top(one, c)).collect();
+        let product = tops.iter().map(|top| top.1).product();
+        if product > best.0 {
+            let masks: Vec<u32> = tops.iter().map(|top| top.0).collect();
+            let below_0 = tops.iter().filter(|top| top.2).count() as u32;
+            best = (product, [&[c], &masks[..], &[below_0 % 2]].concat());
+        }
+    }
+    let figure = ((1u64 << all_inputs(boxes)) - best.0) / 2;
+    [&[figure as u32], &best.1[..]].concat()
+}
+
+/// The call. Figures: the figure, c, one mask for each box that is read, b.
+pub fn sum_nonlinearity(number: u32, boxes: &[Summand; MOST], i: u32, figures_len: usize) -> Answer<Vec<u32>> {
+    refuse_when(number < 1 || number > MOST as u32, BOX_COUNT)?;
+    let read = &boxes[..number as usize];
+    for one in read {
+        check_box(one.n, one.m, &one.rows)?;
+    }
+    let m = read[0].m;
+    refuse_when(read.iter().any(|one| one.m != m), OUTPUT_WIDTHS)?;
+    check_parameter(i, 1, m)?;
+    check_written(figures_len, 3 + read.len())?;
+    let inputs = all_inputs(read);
+    Ok(if inputs <= 12 && bearable(inputs, m, i) { by_definition(read, i) } else { by_products(read, i) })
+}
+
+#[cfg(test)]
+mod tests {
+    use super::*;
+    use crate::boxes::{of_kind, random_rows, KINDS};
+    use crate::model::nonlinearity_by_definition;
+    use crate::random::Random;
+
+    fn summand(n: u32, m: u32, rows: &[u32]) -> Summand {
+        Summand { n, m, rows: rows.to_vec() }
+    }
+
+    fn nothing() -> Summand {
+        summand(0, 0, &[])
+    }
+
+    fn call(boxes: &[Summand], i: u32) -> Answer<Vec<u32>> {
+        let mut four = [nothing(), nothing(), nothing(), nothing()];
+        four[..boxes.len()].clone_from_slice(boxes);
+        sum_nonlinearity(boxes.len() as u32, &four, i, 3 + boxes.len())
+    }
+
+    fn random_summands(random: &mut Random, number: usize, most_inputs: u32, m: u32) -> Vec<Summand> {
+        let one = |random: &mut Random| {
+            let (kind, n) = (random.below(KINDS), random.between(1, most_inputs));
+            Summand { n, m, rows: of_kind(kind, n, m, random) }
+        };
+        (0..number).map(|_| one(random)).collect()
+    }
+
+    #[test]
+    fn box_1_takes_the_lowest_bits() {
+        let boxes = [summand(1, 3, &[0, 1]), summand(2, 3, &[0, 2, 4, 6])];
+        assert_eq!(rows_of_sum(&boxes), [0, 1, 2, 3, 4, 5, 6, 7]);
+        assert_eq!(put_together(&boxes, &[1, 2]), 5);
+        let lists = lists_of_masks(&boxes);
+        assert_eq!((lists.len(), &lists[1][..], &lists[4][..]), (8, &[0, 1][..], &[1, 0][..]));
+    }
+
+    /// x1·x2 XOR x3·x4 is bent: 6 of 16 at least.
+    #[test]
+    fn two_small_bent_functions() {
+        let and = summand(2, 1, &[0, 0, 0, 1]);
+        assert_eq!(call(&[and.clone(), and.clone()], 1), Ok(vec![6, 1, 0, 0, 0]));
+        assert_eq!(call(&[and.clone(), and.clone(), and], 1), Ok(vec![28, 1, 0, 0, 0, 0]));
+    }
+
+    /// The masks stand in the order of the boxes, and one sign is left over.
+    #[test]
+    fn two_columns_that_are_affine() {
+        let line = summand(1, 1, &[1, 0]);
+        let and = summand(2, 1, &[0, 0, 0, 1]);
+        assert_eq!(call(&[line.clone(), and.clone()], 1), Ok(vec![2, 1, 1, 0, 1]));
+        assert_eq!(call(&[and, line.clone()], 1), Ok(vec![2, 1, 0, 1, 1]));
+        assert_eq!(call(&[line.clone(), line], 1), Ok(vec![0, 1, 1, 1, 0]));
+    }
+
+    /// Small products and all four boxes, with signs: the rule of products is the definition.
+    #[test]
+    fn products_are_the_definition() {
+        let mut random = Random::new(5);
+        for round in 0..400 {
+            let number = 1 + round % MOST;
+            let m = random.between(1, 4);
+            let i = random.between(1, m);
+            let boxes = random_summands(&mut random, number, [6, 3, 2, 2][number - 1], m);
+            assert_eq!(by_products(&boxes, i), by_definition(&boxes, i), "i = {i}, {boxes:?}");
+        }
+    }
+
+    /// Twelve inputs, as four boxes of three, three of four and two of six.
+    #[test]
+    fn products_are_the_definition_at_twelve_inputs() {
+        let mut random = Random::new(6);
+        for (number, n) in [(4, 3), (3, 4), (2, 6)] {
+            let boxes: Vec<Summand> = (0..number).map(|_| Summand { n, m: 2, rows: random_rows(n, 2, &mut random) }).collect();
+            assert_eq!(by_products(&boxes, 1), by_definition(&boxes, 1), "{boxes:?}");
+        }
+    }
+
+    /// The figure is that of the sum as one box, whatever the order of its masks.
+    #[test]
+    fn the_figure_is_that_of_the_sum_as_a_box() {
+        let mut random = Random::new(7);
+        for round in 0..60 {
+            let m = random.between(1, 3);
+            let boxes = random_summands(&mut random, 1 + round % MOST, 2, m);
+            let whole = nonlinearity_by_definition(all_inputs(&boxes), m, &rows_of_sum(&boxes), m);
+            assert_eq!(by_products(&boxes, m)[0], whole[0], "{boxes:?}");
+        }
+    }
+
+    #[test]
+    fn one_box_has_its_own_nonlinearity() {
+        let mut random = Random::new(8);
+        for _ in 0..100 {
+            let m = random.between(1, 5);
+            let i = random.between(1, m);
+            let boxes = random_summands(&mut random, 1, 6, m);
+            let wanted = nonlinearity_by_definition(boxes[0].n, m, &boxes[0].rows, i);
+            assert_eq!(call(&boxes, i), Ok(wanted.to_vec()));
+        }
+    }
+
+    /// A product of 2^32, and a figure of 2^31 - 2^15.
+    #[test]
+    fn thirty_two_inputs() {
+        let constant = summand(8, 32, &[0; 256]);
+        let zero = [constant.clone(), constant.clone(), constant.clone(), constant];
+        assert_eq!(call(&zero, 1), Ok(vec![0, 1, 0, 0, 0, 0, 0]));
+        let bent: Vec<u32> = (0..256u32).map(|x| u32::from(parity(x & (x >> 4) & 15))).collect();
+        let one = summand(8, 1, &bent);
+        assert_eq!(call(&[one.clone(), one.clone(), one.clone(), one], 1), Ok(vec![(1 << 31) - (1 << 15), 1, 0, 0, 0, 0, 0]));
+    }
+
+    #[test]
+    fn the_order_of_checks() {
+        let good = summand(1, 2, &[0, 3]);
+        let bad_row = summand(1, 2, &[0, 4]);
+        let wider = summand(1, 3, &[0, 4]);
+        let ask = |number, boxes: [&Summand; 4], i, len| sum_nonlinearity(number, &boxes.map(Clone::clone), i, len);
+        let all_good = [&good; 4];
+        assert_eq!(ask(0, [&bad_row; 4], 0, 0), Err(11));
+        assert_eq!(ask(5, [&bad_row; 4], 0, 0), Err(11));
+        assert_eq!(ask(2, [&bad_row, &wider, &good, &good], 0, 0), Err(4));
+        assert_eq!(ask(2, [&wider, &bad_row, &good, &good], 0, 0), Err(4));
+        assert_eq!(ask(2, [&good, &wider, &good, &good], 0, 0), Err(12));
+        assert_eq!(ask(1, [&good, &wider, &bad_row, &good], 0, 0), Err(6));
+        assert_eq!(ask(4, all_good, 3, 0), Err(6));
+        assert_eq!(ask(4, all_good, 2, 6), Err(7));
+        assert_eq!(ask(1, [&good, &bad_row, &bad_row, &bad_row], 2, 4), Ok(vec![0, 1, 1, 0]));
+    }
+
+    /// All four checks of box 1 come before the first one of box 2.
+    #[test]
+    fn the_checks_of_one_box_after_those_of_another() {
+        let good = summand(1, 2, &[0, 3]);
+        let faulty = [summand(9, 2, &[0, 3]), summand(1, 33, &[0, 3]), summand(1, 2, &[0]), summand(1, 2, &[0, 4])];
+        for one in &faulty {
+            for other in &faulty {
+                let first = call(&[one.clone(), good.clone()], 1);
+                assert_eq!(call(&[one.clone(), other.clone()], 1), first);
+                assert_eq!(call(&[good.clone(), one.clone(), other.clone()], 0), first);
+                assert_eq!(call(&[good.clone(), good.clone(), good.clone(), one.clone()], 0), first);
+            }
+        }
+    }
+}

@@ -1,0 +1,251 @@
+//! Sums of one to four boxes: every kind of box, every refusal and the order of the checks,
+//! with nonsense in place of the boxes that are not read.
+use crate::calls::Run;
+use crate::library;
+use second_model::boxes::{self, KINDS};
+use second_model::combinations::quick_limit;
+use second_model::model::all_outputs;
+use second_model::random::Random;
+use second_model::rounds::{self, Summand, MOST};
+
+pub fn all(run: &mut Run, count: u64) {
+    small_sums(run);
+    twelve_inputs(run);
+    wide_sums(run);
+    largest_products(run);
+    single_boxes(run);
+    numbers_of_boxes(run);
+    faults_in_order(run);
+    limits_and_lengths(run);
+    for _ in 0..count {
+        damaged(run);
+    }
+}
+
+/// The call made to the library and to the model, and compared.
+fn compare(run: &mut Run, number: u32, four: &[Summand; MOST], i: u32, figures_len: usize) {
+    let mut figures = run.lend(figures_len);
+    let lent = four.each_ref().map(|one| (one.n, one.m, &one.rows[..]));
+    let code = library::sum_nonlinearity(number, lent, i, figures.part());
+    let wanted = rounds::sum_nonlinearity(number, four, i, figures_len);
+    run.judge(code, &figures, &wanted, || {
+        format!("sum_nonlinearity number = {number}, boxes = {four:?}, i = {i}, figures_len = {figures_len}")
+    });
+}
+
+/// The boxes of a sum, with nonsense behind them up to four.
+fn four_of(random: &mut Random, read: &[Summand]) -> [Summand; MOST] {
+    let mut four: Vec<Summand> = read.to_vec();
+    while four.len() < MOST {
+        four.push(nonsense(random));
+    }
+    four.try_into().expect("four of them")
+}
+
+/// What nobody may look at: widths and lengths out of every range, and rows of any size.
+fn nonsense(random: &mut Random) -> Summand {
+    let widths = [0, 1, 2, 8, 9, 33, 256 + 3, 65536 + 3, u32::MAX];
+    let (n, m) = (random.pick(&widths), random.pick(&widths));
+    let length = random.below(20);
+    Summand { n, m, rows: (0..length).map(|_| random.draw() as u32).collect() }
+}
+
+/// A sum with nothing to refuse.
+fn ask(run: &mut Run, read: &[Summand], i: u32) {
+    let four = four_of(&mut run.random, read);
+    compare(run, read.len() as u32, &four, i, 3 + read.len());
+}
+
+fn of_kind(random: &mut Random, kind: u32, n: u32, m: u32) -> Summand {
+    Summand { n, m, rows: boxes::of_kind(kind, n, m, random) }
+}
+
+fn random_sum(random: &mut Random, number: usize, most_inputs: u32, m: u32) -> Vec<Summand> {
+    let one = |_| {
+        let (kind, n) = (random.below(KINDS), random.between(1, most_inputs));
+        of_kind(random, kind, n, m)
+    };
+    (0..number).map(one).collect()
+}
+
+/// Counted over all inputs by the model.
+fn small_sums(run: &mut Run) {
+    for round in 0..800 {
+        let number = 1 + round % MOST;
+        let m = run.random.between(1, 5);
+        let i = run.random.between(1, m);
+        let read = random_sum(&mut run.random, number, [7, 4, 3, 2][number - 1], m);
+        ask(run, &read, i);
+    }
+}
+
+/// As many inputs as can still be counted over in a bearable time.
+fn twelve_inputs(run: &mut Run) {
+    for (number, n) in [(2, 6), (3, 4), (4, 3)] {
+        let read: Vec<Summand> = (0..number).map(|kind| of_kind(&mut run.random, kind, n, 1)).collect();
+        ask(run, &read, 1);
+    }
+}
+
+/// Up to 32 inputs and 32 outputs, by the rule of products.
+fn wide_sums(run: &mut Run) {
+    for round in 0..120 {
+        let number = 1 + round % MOST;
+        let m = run.random.between(1, 32);
+        let i = run.random.between(1, quick_limit(8, m));
+        let read = random_sum(&mut run.random, number, 8, m);
+        ask(run, &read, i);
+    }
+    for (m, i) in [(16, 16), (32, 4)] {
+        let read: Vec<Summand> = (0..4).map(|_| of_kind(&mut run.random, 0, 8, m)).collect();
+        ask(run, &read, i);
+    }
+}
+
+/// Constant boxes have the product 2^N, up to 2^32; where all are bent it is the least there is.
+fn largest_products(run: &mut Run) {
+    for number in 1..=MOST {
+        for kind in [1, 2, 3, 4] {
+            let read: Vec<Summand> = (0..number).map(|_| of_kind(&mut run.random, kind, 8, 8)).collect();
+            ask(run, &read, 8);
+            ask(run, &read, 1);
+        }
+    }
+}
+
+/// One box alone has the figures of the nonlinearity call, refusals too.
+fn single_boxes(run: &mut Run) {
+    for _ in 0..200 {
+        let (kind, n, m) = (run.random.below(KINDS), run.random.between(1, 8), run.random.between(1, 32));
+        let one = of_kind(&mut run.random, kind, n, m);
+        let i = run.random.between(0, quick_limit(n, m));
+        let four = four_of(&mut run.random, &[one.clone()]);
+        let lent = four.each_ref().map(|one| (one.n, one.m, &one.rows[..]));
+        let (mut sum, mut alone) = ([0; 4], [0; 4]);
+        let codes = (library::sum_nonlinearity(1, lent, i, &mut sum), library::nonlinearity(n, m, &one.rows, i, &mut alone));
+        run.count(codes.0 == codes.1 && sum == alone, || {
+            format!("one box: the sum gives {codes:?} {sum:?}, the nonlinearity {alone:?} for n = {n}, m = {m}, i = {i}, rows = {:?}", one.rows)
+        });
+    }
+}
+
+/// 11 comes first, whatever else is wrong; and each box up to the number is read.
+fn numbers_of_boxes(run: &mut Run) {
+    for number in [0, 1, 2, 3, 4, 5, 6, 256 + 1, 65536 + 2, (1 << 31) + 4, u32::MAX] {
+        for m in [1, 3] {
+            let read = random_sum(&mut run.random, 4, 3, m);
+            let four = four_of(&mut run.random, &read);
+            let bad: [Summand; MOST] = std::array::from_fn(|_| nonsense(&mut run.random));
+            for figures_len in [0, 3 + number.min(9) as usize, 7] {
+                compare(run, number, &four, 1, figures_len);
+                compare(run, number, &bad, 0, figures_len);
+            }
+        }
+    }
+}
+
+/// Boxes with one fault each: the refusals 1 to 4, from both sides.
+fn faulty_boxes(random: &mut Random) -> Vec<Summand> {
+    let good = of_kind(random, 0, 2, 3);
+    let mut with_a_large_row = good.clone();
+    with_a_large_row.rows[random.below(4) as usize] = 8;
+    let width = |n, m| Summand { n, m, rows: good.rows.clone() };
+    let length = |length: usize| Summand { n: 2, m: 3, rows: vec![0; length] };
+    vec![width(0, 3), width(9, 3), width(2, 0), width(2, 33), length(3), length(5), length(0), with_a_large_row]
+}
+
+/// A fault in one box, and a second one further on in the order of the checks, which must not
+/// be told: in a later box, in the output widths, in the limit, in the array for the figures.
+fn faults_in_order(run: &mut Run) {
+    let good = of_kind(&mut run.random, 0, 2, 3);
+    let wider = of_kind(&mut run.random, 0, 2, 4);
+    let faulty = faulty_boxes(&mut run.random);
+    for number in 1..=MOST {
+        for place in 0..MOST {
+            for fault in &faulty {
+                let mut read = vec![good.clone(); MOST];
+                read[place] = fault.clone();
+                compare_with_later_faults(run, number as u32, &read, place, &wider);
+                for later in place + 1..MOST {
+                    let mut two = read.clone();
+                    two[later] = faulty[run.random.below(faulty.len() as u32) as usize].clone();
+                    compare_with_later_faults(run, number as u32, &two, place, &wider);
+                }
+            }
+        }
+        widths_that_differ(run, number as u32, &good, &wider);
+    }
+}
+
+fn compare_with_later_faults(run: &mut Run, number: u32, read: &[Summand], place: usize, wider: &Summand) {
+    let four = four_of(&mut run.random, read);
+    let right = 3 + number as usize;
+    compare(run, number, &four, 1, right);
+    compare(run, number, &four, 0, right);
+    compare(run, number, &four, 4, right + 1);
+    // Another width before or behind the fault is told only where nothing is wrong with a box.
+    let mut other = four.clone();
+    other[(place + 1) % MOST] = wider.clone();
+    compare(run, number, &other, 0, right);
+}
+
+fn widths_that_differ(run: &mut Run, number: u32, good: &Summand, wider: &Summand) {
+    for pattern in 0..1u32 << MOST {
+        let one = |place: usize| if pattern >> place & 1 == 0 { good.clone() } else { wider.clone() };
+        let four: [Summand; MOST] = std::array::from_fn(one);
+        for i in [0, 1, 3, 4, 5] {
+            for figures_len in [3 + number as usize, 2, 8] {
+                compare(run, number, &four, i, figures_len);
+            }
+        }
+    }
+}
+
+/// The limit from both sides, and every length of the array for the figures.
+fn limits_and_lengths(run: &mut Run) {
+    for number in 1..=MOST {
+        for m in [1, 2, 5, 31, 32] {
+            let read = random_sum(&mut run.random, number, 3, m);
+            let four = four_of(&mut run.random, &read);
+            for i in [0, 1, 2, m - 1, m, m + 1, 256 + 1, 65536 + 1, (1 << 31) + m, u32::MAX] {
+                if i > m || i <= quick_limit(3, m) {
+                    compare(run, number as u32, &four, i, 3 + number);
+                }
+            }
+            for figures_len in 0..10 {
+                compare(run, number as u32, &four, 1, figures_len);
+            }
+        }
+    }
+}
+
+/// Several faults at once, at random.
+fn damaged(run: &mut Run) {
+    let random = &mut run.random;
+    let (number, m) = (random.between(1, 4), random.between(1, 4));
+    let mut four: [Summand; MOST] = std::array::from_fn(|_| damaged_box(random, m));
+    if random.one_in(3) {
+        four[random.below(4) as usize] = nonsense(random);
+    }
+    let number = if random.one_in(8) { random.pick(&[0, 5, 256 + 4, u32::MAX]) } else { number };
+    let i = if random.one_in(6) { random.pick(&[0, m + 1, m + 65536, u32::MAX]) } else { random.between(1, m) };
+    let right = 3 + number.min(4) as usize;
+    let figures_len = if random.one_in(6) { random.pick(&[0, right - 1, right + 1, 7, 4]) } else { right };
+    compare(run, number, &four, i, figures_len);
+}
+
+/// A box that is sound eight times in ten.
+fn damaged_box(random: &mut Random, m: u32) -> Summand {
+    let (kind, n) = (random.below(KINDS), random.between(1, 3));
+    let mut one = of_kind(random, kind, n, m);
+    match random.below(50) {
+        0 => one.n = random.pick(&[0, n + 1, 9, 256 + n, u32::MAX]),
+        1 => one.m = random.pick(&[0, 33, 256 + m, u32::MAX]),
+        2 => one.rows.push(0),
+        3 => drop(one.rows.pop()),
+        4 => one.rows[0] = all_outputs(m) + 1,
+        5..=9 => one.m = m + 1,
+        _ => {}
+    }
+    one
+}
