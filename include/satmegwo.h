@@ -10,6 +10,10 @@
  * has 1 to i ones. With i = m these are all. A call over combinations visits each of those
  * within its limit: 41,448 at 32 outputs with i = 4, and 4,294,967,295 with i = 32.
  *
+ * FIRST. Among equal figures the combination of fewer outputs comes first, and of those
+ * with equally many the smaller c: 1, 2, 4, 3, 5, 6, 7 with three outputs. "The first
+ * combination" below is meant in this order.
+ *
  * ARRAYS. Every array is a pointer and its number of elements (not bytes). An array that
  * is written must not overlap any other array of the same call. An empty array may have
  * any pointer that is not null. The library keeps no pointer once a call has returned.

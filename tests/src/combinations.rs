@@ -1,21 +1,29 @@
-//! The combinations of at most i outputs: which they are, and how many.
+//! The combinations of at most i outputs: which they are, in which order, and how many.
 
-/// All combinations of 1 to i of the outputs 1 to m, ascending.
+/// All combinations of 1 to i of the outputs 1 to m, those of fewer outputs first, and the
+/// smaller first among those of equally many.
 pub fn within(m: u32, i: u32) -> Vec<u32> {
-    // The first choice is 0, which is no combination.
-    choices(m, i).split_off(1)
+    (1..=i.min(m)).flat_map(|k| choices(m, k)).collect()
 }
 
-/// All ways to choose at most i of the outputs 1 to m, ascending: those without output m,
-/// then those with it.
-fn choices(m: u32, i: u32) -> Vec<u32> {
-    if m == 0 || i == 0 {
+/// All ways to choose k of the outputs 1 to m, ascending: those without output m, then those
+/// with it.
+fn choices(m: u32, k: u32) -> Vec<u32> {
+    if k == 0 {
         return vec![0];
     }
-    let mut all = choices(m - 1, i);
-    let with_output_m = choices(m - 1, i - 1).into_iter().map(|c| c | 1 << (m - 1));
+    if k > m {
+        return Vec::new();
+    }
+    let mut all = choices(m - 1, k);
+    let with_output_m = choices(m - 1, k - 1).into_iter().map(|c| c | 1 << (m - 1));
     all.extend(with_output_m);
     all
+}
+
+/// Whether combination c comes before d: it has fewer outputs, or as many and is the smaller.
+pub fn before(c: u32, d: u32) -> bool {
+    (c.count_ones(), c) < (d.count_ones(), d)
 }
 
 /// How many combinations of 1 to i of m outputs there are.
@@ -39,21 +47,37 @@ mod tests {
     use super::*;
 
     #[test]
-    fn they_are_the_numbers_with_at_most_i_ones_in_ascending_order() {
+    fn they_are_the_numbers_with_at_most_i_ones_and_fewest_ones_come_first() {
         for m in 1..=12 {
             for i in 1..=m {
-                let wanted: Vec<u32> = (1..1u32 << m).filter(|c| c.count_ones() <= i).collect();
+                let mut wanted: Vec<u32> = (1..1u32 << m).filter(|c| c.count_ones() <= i).collect();
+                // A sort that leaves equals in their order, the ascending one.
+                wanted.sort_by_key(|c| c.count_ones());
                 assert_eq!(within(m, i), wanted, "m = {m}, i = {i}");
             }
         }
     }
 
     #[test]
+    fn the_combinations_of_three_outputs() {
+        assert_eq!(within(3, 3), [1, 2, 4, 3, 5, 6, 7]);
+        assert_eq!(within(3, 2), [1, 2, 4, 3, 5, 6]);
+        assert_eq!(within(3, 1), [1, 2, 4]);
+    }
+
+    #[test]
+    fn which_of_two_comes_before() {
+        assert!(before(4, 3) && !before(3, 4));
+        assert!(before(3, 5) && !before(5, 3));
+        assert!(!before(6, 6));
+    }
+
+    #[test]
     fn there_are_41448_of_at_most_4_of_32_outputs() {
         let all = within(32, 4);
         assert_eq!(all.len(), 41448);
-        assert!(all.is_sorted_by(|c, next| c < next));
-        assert_eq!((all[0], all[41447]), (1, 0xF000_0000));
+        assert!(all.is_sorted_by(|&c, &next| before(c, next)));
+        assert_eq!((all[0], all[31], all[32], all[41447]), (1, 1 << 31, 3, 0xF000_0000));
     }
 
     #[test]

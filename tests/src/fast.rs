@@ -3,6 +3,7 @@
 //! The boxes and limits given here have been checked. Buffers lie on the stack and are used
 //! again for many combinations. No combination outside the limit is visited, and each one's
 //! truth table is made by adding a single column to that of another one.
+use crate::combinations::before;
 use std::ops::{Add, Sub};
 
 /// The most inputs a box can have, as a number of rows.
@@ -61,7 +62,8 @@ fn columns_of(m: u32, rows: &[u32]) -> Vec<Table> {
 }
 
 /// Calls `visit` with every combination of at most i outputs and its truth table, in
-/// ascending order.
+/// ascending order. Among equal figures the order that counts is another one (`before`), so
+/// whoever keeps the best looks at both combinations where two figures are equal.
 fn visit_combinations(m: u32, rows: &[u32], i: u32, mut visit: impl FnMut(u32, &[u8])) {
     let nothing = [0; ROWS];
     add_outputs(&columns_of(m, rows), 0, &nothing[..rows.len()], i, &mut visit);
@@ -99,7 +101,7 @@ fn signs_16(table: &[u8], signs: &mut [i16]) {
     }
 }
 
-/// Keeps the largest figure, and among equals the one that was offered first.
+/// Keeps the largest figure, and among equals the combination that comes before the others.
 struct Best {
     figure: i32,
     c: u32,
@@ -111,7 +113,7 @@ impl Best {
     }
 
     fn offer(&mut self, figure: i32, c: u32) {
-        if figure > self.figure {
+        if figure > self.figure || (figure == self.figure && before(c, self.c)) {
             *self = Best { figure, c };
         }
     }
@@ -202,12 +204,18 @@ pub fn autocorrelation(n: u32, m: u32, rows: &[u32], i: u32) -> [u32; 3] {
         let largest = values[1..].iter().fold(0, |most, value| most.max(value.abs()));
         best.offer(largest, c);
     });
-    let mut table = [0; ROWS];
-    let table = &mut table[..1 << n];
+    let s = correlation_witness(n, rows, &best, 1..1 << n);
+    [best.figure as u32, best.c, s]
+}
+
+/// The first of the given changes at which the combination that was found reaches its figure.
+fn correlation_witness(n: u32, rows: &[u32], best: &Best, changes: impl IntoIterator<Item = u32>) -> u32 {
+    let (mut table, mut values) = ([0; ROWS], [0; ROWS]);
+    let (table, values) = (&mut table[..1 << n], &mut values[..1 << n]);
     combination(rows, best.c, table);
     correlations(n, table, values);
-    let s = (1..values.len()).find(|&s| values[s].abs() == best.figure).expect("it was reached");
-    [best.figure as u32, best.c, s as u32]
+    let reached = |s: &u32| values[*s as usize].abs() == best.figure;
+    changes.into_iter().find(reached).expect("it was reached")
 }
 
 /// Figures: the doubled figure, c, d. An input changes the sum r(d) by -1 where f changes and
@@ -216,17 +224,14 @@ pub fn dynamic_distance(n: u32, m: u32, rows: &[u32], i: u32, j: u32) -> [u32; 3
     let mut buffer = [0; ROWS];
     let values = &mut buffer[..1 << n];
     let changes: Vec<u32> = (1..1u32 << n).filter(|d| d.count_ones() <= j).collect();
-    let mut best: Option<[u32; 3]> = None;
+    let mut best = Best::none();
     visit_combinations(m, rows, i, |c, table| {
         correlations(n, table, values);
-        for &d in &changes {
-            let figure = values[d as usize].unsigned_abs() / 2;
-            if best.is_none_or(|b| figure > b[0]) {
-                best = Some([figure, c, d]);
-            }
-        }
+        let largest = changes.iter().fold(0, |most, &d| most.max(values[d as usize].abs()));
+        best.offer(largest, c);
     });
-    best.expect("c = 1 and d = 1 always exist")
+    let d = correlation_witness(n, rows, &best, changes);
+    [best.figure as u32 / 2, best.c, d]
 }
 
 /// The normal forms of all columns at once: XOR does not mix the bits of a row.
@@ -314,6 +319,8 @@ mod tests {
                     assert_eq!(table, model::combination(&rows, c), "m = {m}, c = {c}");
                     visited.push(c);
                 });
+                assert!(visited.is_sorted_by(|c, next| c < next), "m = {m}, i = {i}");
+                visited.sort_by_key(|c| c.count_ones());
                 assert_eq!(visited, within(m, i), "m = {m}, i = {i}");
             }
         }
@@ -381,7 +388,7 @@ mod tests {
             let all = within(m, i);
             for _ in 0..40 {
                 let c = random.pick(&all);
-                assert!(of(c) > least || (of(c) == least && c >= first), "c = {c}, {rows:?}");
+                assert!(of(c) > least || (of(c) == least && !before(c, first)), "c = {c}, {rows:?}");
             }
         }
     }

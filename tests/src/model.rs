@@ -123,7 +123,8 @@ fn count_of_differing(f: &[u8], line: &[u8], b: u32) -> u32 {
     f.iter().zip(line).map(|(&v, &l)| u32::from(v != l ^ b as u8)).sum()
 }
 
-/// The least count with its first witness: d, c, w, b.
+/// The least count with its first witness: d, c, w, b. Here and below, the combinations come
+/// in the order of `within`: those of fewer outputs first, then the smaller.
 pub fn nonlinearity_by_definition(n: u32, m: u32, rows: &[u32], i: u32) -> [u32; 4] {
     let lines: Vec<Vec<u8>> = (0..1 << n).map(|w| linear(n, w)).collect();
     let mut best = [u32::MAX, 0, 0, 0];
@@ -542,7 +543,7 @@ mod tests {
     fn case_9_a_box_enlarged() {
         let wide = enlarge_box(3, &F, &[1, 0, 0, 0, 1, 1, 0, 1], 1, 16).unwrap();
         assert_eq!(wide, [11, 1, 4, 0, 10, 13, 6, 15, 9, 3, 8, 12, 5, 2, 7, 14]);
-        assert_eq!(nonlinearity(4, 4, &wide, 4, 4), Ok([0, 7, 15, 0]));
+        assert_eq!(nonlinearity(4, 4, &wide, 4, 4), Ok([0, 12, 1, 1]));
         assert_eq!(bijective(4, 4, &wide, 1), Ok([1]));
         assert_eq!(dynamic_distance(4, 4, &wide, 1, 1, 3).unwrap()[0], 0);
     }
@@ -613,6 +614,37 @@ mod tests {
         assert_eq!(autocorrelation(2, 2, &rows, 1, 3), Ok([0, 1, 1]));
         assert_eq!(autocorrelation(2, 2, &rows, 2, 3), Ok([4, 3, 1]));
         assert_eq!(dynamic_distance(2, 2, &rows, 2, 1, 3), Ok([2, 3, 1]));
+    }
+
+    /// Document 02, section 6: c = 4 is preferred to c = 3. Columns 1 and 2 are x1·x2 and
+    /// x1·x2 XOR x1, so their sum is x1; column 3 is x2.
+    #[test]
+    fn one_output_comes_before_two() {
+        let rows = [0, 2, 4, 5];
+        assert_eq!(nonlinearity(2, 3, &rows, 3, 4), Ok([0, 4, 2, 0]));
+        assert_eq!(autocorrelation(2, 3, &rows, 3, 3), Ok([4, 4, 1]));
+        assert_eq!(dynamic_distance(2, 3, &rows, 3, 2, 3), Ok([2, 4, 1]));
+        assert_eq!(degree(2, 3, &rows, 3, 2), Ok([1, 4]));
+    }
+
+    /// Of equally many outputs the smaller combination comes first: the columns are bent, and
+    /// each sum of two of them is affine.
+    #[test]
+    fn the_smaller_of_two_pairs_of_outputs_comes_first() {
+        let rows = [0, 2, 4, 1];
+        assert_eq!([3, 5, 6].map(|c| degree_of_function(&combination(&rows, c))), [1, 1, 1]);
+        assert_eq!(nonlinearity(2, 3, &rows, 3, 4), Ok([0, 3, 1, 0]));
+        assert_eq!(autocorrelation(2, 3, &rows, 3, 3), Ok([4, 3, 1]));
+        assert_eq!(dynamic_distance(2, 3, &rows, 2, 2, 3), Ok([2, 3, 1]));
+        assert_eq!(degree(2, 3, &rows, 3, 2), Ok([1, 3]));
+    }
+
+    /// Where every figure is 0, the witness is the first there is.
+    #[test]
+    fn a_bent_box_has_the_first_witness() {
+        let rows = [0, 2, 0, 1];
+        assert_eq!(autocorrelation(2, 2, &rows, 1, 3), Ok([0, 1, 1]));
+        assert_eq!(dynamic_distance(2, 2, &rows, 1, 2, 3), Ok([0, 1, 1]));
     }
 
     #[test]
@@ -709,7 +741,8 @@ mod tests {
     fn a_constant_combination_has_degree_0() {
         assert_eq!(degree(2, 2, &[0, 0, 0, 3], 2, 2), Ok([0, 3]));
         assert_eq!(degree(2, 2, &[2, 2, 2, 1], 2, 2), Ok([0, 3]));
-        assert_eq!(degree(2, 3, &[4, 4, 4, 7], 3, 2), Ok([0, 3]));
+        // Column 3 is constant by itself and comes before columns 1 and 2 together.
+        assert_eq!(degree(2, 3, &[4, 4, 4, 7], 3, 2), Ok([0, 4]));
     }
 
     /// Columns made of x1·x2, x1, 1 and, in the last box, of x3 too.

@@ -221,8 +221,8 @@ fn aes_round_row(s: u32) -> u32 {
 }
 
 /// The 32 outputs are linear in the eight of the box, and no two of its outputs give the same
-/// row, so the XOR table has the same counts. Three outputs together are constant: the two
-/// lowest bits of 2·S and the lowest bit of S.
+/// row, so the XOR table has the same counts. Two outputs together are constant: bit 3 of 2·S
+/// is bit 2 of S.
 fn aes_round() -> Published {
     Published {
         name: "aes-round".to_string(),
@@ -305,15 +305,17 @@ mod tests {
         }
     }
     /// The first rows of the table as it is printed in programs for AES, and the witnesses: the
-    /// three columns 1, 2 and 9, which are combination 1 + 2 + 256, sum up to 0.
+    /// two columns 3 and 10, which are combination 4 + 512, are equal. The three columns 1, 2
+    /// and 9 sum up to 0 too, and their combination, 1 + 2 + 256, is smaller but has more ones.
     #[test]
     fn the_round_table_of_aes() {
         let rows = aes_round().rows;
         assert_eq!(rows[..4], [0xA563_63C6, 0x847C_7CF8, 0x9977_77EE, 0x8D7B_7BF6]);
         assert_eq!(model::combination(&rows, 259), [0; 256]);
-        assert_eq!(model::nonlinearity(8, 32, &rows, 4, 4), Ok([0, 259, 0, 0]));
-        assert_eq!(model::autocorrelation(8, 32, &rows, 4, 3), Ok([256, 259, 1]));
-        assert_eq!(model::degree(8, 32, &rows, 4, 2), Ok([0, 259]));
+        assert_eq!(model::combination(&rows, 516), [0; 256]);
+        assert_eq!(model::nonlinearity(8, 32, &rows, 4, 4), Ok([0, 516, 0, 0]));
+        assert_eq!(model::autocorrelation(8, 32, &rows, 4, 3), Ok([256, 516, 1]));
+        assert_eq!(model::degree(8, 32, &rows, 4, 2), Ok([0, 516]));
     }
 
     /// One or two outputs of the table are as good as those of the box, or constant together.

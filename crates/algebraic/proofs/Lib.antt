@@ -4,6 +4,8 @@ pub mod FallingOnes
 pub mod Basis
 pub mod Gathering
 pub mod Scanning
+pub mod Preferring
+pub mod Passing
 pub mod Sweeping
 pub mod Bijections
 pub mod Theorems

@@ -1,5 +1,7 @@
 -- The components within a limit with their degrees, in the components' order, and the sweep over them.
-use mathlib.Core.Path.{_≡_, refl, sym, ap, _∙_, subst}
+use mathlib.Core.Path.{_≡_, refl, ap, ap₂, _∙_}
+use mathlib.Core.Bool.{false}
+use mathlib.Core.Logic.{inr}
 use mathlib.Core.List.{List, [], _∷_, List·Memᴰ, List·Memᴰ·head, List·Memᴰ·not-nil, List·Memᴰ·eq-of-singleton}
 use Prim.Native.Nat.{ℕ, _+_, _^_, _<_, _≤_}
 use native.Mathlib.Decide.{decLt}
@@ -9,19 +11,22 @@ use lib.Count.{ones, ones-le}
 use lib.ListN.{length}
 use Rattle.boolean.specs.Bits.{dot}
 use Rattle.boolean.specs.Sums.{each}
-use Rattle.boolean.specs.Functions.{at, Within, components, normalForm}
-use Rattle.boolean.specs.Selection.{Candidate, best, lower, firstLeast, Ascending}
-use Rattle.boolean.proofs.Components.{in-components, mem-components, ascending-components, first-mask}
+use Rattle.boolean.specs.Functions.{at, Within, components, maskRank, normalForm}
+use Rattle.boolean.specs.Selection.{Candidate, best, lower, firstLeast, ranked, Ascending}
+use Rattle.boolean.proofs.Components.{masksBelow, in-components, mem-components, ascending-components, first-mask}
 use Rattle.boolean.proofs.Degrees.{most-le, degree-read}
 use Rattle.boolean.proofs.Kept.{each-cong}
-use Rattle.boolean.proofs.Lists.{mem-each, in-each, ascending-each}
-use Rattle.boolean.proofs.OneBit.{ones-power}
-use Rattle.boolean.proofs.Selection.{firstLeast-from}
-use Rattle.masks.specs.Masks.{Next}
-use Rattle.masks.proofs.Walk.{Walk, walk-starts, walk-next, masksBelow, best-starts, best-next, best-ends}
+use Rattle.boolean.proofs.Lists.{some-member, mem-each, in-each, ascending-each}
+use Rattle.boolean.proofs.OneBit.{ones-none, ones-power}
+use Rattle.masks.specs.Masks.{Next, outputs}
+use Rattle.masks.proofs.Fewest.{Blocks, least-swept}
+use Rattle.masks.proofs.Walk.{Walk, walk-starts, walk-next, best-starts, best-next, best-passes, best-ends}
 use Rattle.algebraic.specs.Algebraic.{degrees, boxDegree}
-use Rattle.algebraic.specs.Calls.{degreeAt, degreeOf, degreesOf, Swept}
+use Rattle.algebraic.specs.Calls.{degreeAt, candidate, degreeOf, degreesOf, Bar, FirstBelow, Swept}
+use Rattle.algebraic.specs.declared.Met.{Met}
+use Rattle.algebraic.specs.declared.Weakest.{Weakest}
 use Rattle.algebraic.specs.Statements.{degreeRank}
+use Rattle.algebraic.proofs.Preferring.{not-below}
 
 -- the components with the degrees that a rule gives them
 module _ (d : ℕ → ℕ) where
@@ -40,25 +45,26 @@ module _ (d : ℕ → ℕ) where
         let t = mem-each (components m i) withRule p k in
         (t .0, mem-components m i (t .0) (t .1), List·Memᴰ·eq-of-singleton (t .2))
 
-    pub ascending-degrees : Ascending degreeRank (degreesBy m i)
+    pub ascending-degrees : Ascending (degreeRank m) (degreesBy m i)
     ascending-degrees =
-        ascending-each (λ c. c) degreeRank (components m i) withRule (ascending-components m i) (λ c k. (λ p j. absurd (List·Memᴰ·not-nil j), tt))
-        (λ b c k j l p q u v. omega (arith, ap degreeRank (List·Memᴰ·eq-of-singleton u), ap degreeRank (List·Memᴰ·eq-of-singleton v)))
+        ascending-each (maskRank m) (degreeRank m) (components m i) withRule (ascending-components m i) (λ c k. (λ p j. absurd (List·Memᴰ·not-nil j), tt))
+        (λ b c k j l p q u v. omega (arith, ap (degreeRank m) (List·Memᴰ·eq-of-singleton u), ap (degreeRank m) (List·Memᴰ·eq-of-singleton v)))
 
     pub degrees-nonempty : 1 ≤ m → 1 ≤ i → (p : Candidate) × (ps : List Candidate) × (degreesBy m i ≡ p ∷ ps)
-    degrees-nonempty h l = go (degreesBy m i) (in-degrees 1 (first-mask m i h l))
-      where
-        go : (l : List Candidate) → List·Memᴰ (degreeAt (d 1) 1) l → (p : Candidate) × (ps : List Candidate) × (l ≡ p ∷ ps)
-        go [] k = absurd (List·Memᴰ·not-nil k)
-        go (p ∷ ps) k = (p, ps, refl)
+    degrees-nonempty h l = some-member (degreesBy m i) (in-degrees 1 (first-mask m i h l))
 
-    -- from a degree that no component has, all of them give the first that is least
-    pub best-degrees : (start : Candidate) → 1 ≤ m → 1 ≤ i → ((c : ℕ) → d c < start .figure) → best lower start (degreesBy m i) ≡ firstLeast (degreesBy m i)
-    best-degrees start h l high =
-        let t = degrees-nonempty h l in
-        let s = mem-degrees (t .0) (subst (λ (l : List Candidate). List·Memᴰ (t .0) l) (sym (t .2)) (List·Memᴰ·head refl)) in
-        ap (best lower start) (t .2) ∙ firstLeast-from start (t .0) (t .1) (omega (arith, ap (λ (p : Candidate). p .figure) (s .2), high (s .0)))
-        ∙ ap firstLeast (sym (t .2))
+  -- a block of one for each mask
+  rule-blocks : Blocks withRule
+  rule-blocks = record {
+    some = λ c. (degreeAt (d c) c, [], refl);
+    names = λ c p k. ap (λ (p : Candidate). at (p .witness) 0) (List·Memᴰ·eq-of-singleton k);
+  }
+
+  -- visited in ascending order, from a degree that no component has, the weakest of the fewest outputs is the first that is least
+  pub best-degrees : (m i : ℕ) (start : Candidate) → 1 ≤ m → 1 ≤ i → d 1 < start .figure
+      → best (ranked lower outputs) start (each (masksBelow i (2 ^ m)) withRule) ≡ firstLeast (degreesBy m i)
+  unfolding firstLeast best
+  best-degrees m i start h l high = least-swept rule-blocks m i h l start high
 
 -- ---- by the words of the rows' normal form
 pub by-words : (n m : ℕ) (rows : List ℕ) (i : ℕ) (words : List ℕ) → words ≡ normalForm n (at rows) → firstLeast (degreesOf m words i) ≡ boxDegree n m rows i
@@ -66,7 +72,7 @@ unfolding degreesOf degreeOf boxDegree degrees
 by-words n m rows i words e = ap firstLeast (each-cong (components m i) _ _ (λ c. ap (λ (d : ℕ). degreeAt d c ∷ []) (degree-read n rows c words e)))
 
 -- ---- the loop
-degree-high : (n : ℕ) (words : List ℕ) (c : ℕ) → length words ≡ 2 ^ n → degreeOf words c ≤ n
+pub degree-high : (n : ℕ) (words : List ℕ) (c : ℕ) → length words ≡ 2 ^ n → degreeOf words c ≤ n
 unfolding degreeOf
 degree-high n words c e = most-le (length words) n (λ u. dot (at words u) c) (λ u l odd. ones-le n u (omega arith))
 
@@ -81,21 +87,73 @@ next-whole m i c low whole l = record { above = omega arith; few = few (decLt (c
 -- the invariant: the weakest of the components before c
 pub record Sweeping (m : ℕ) (words : List ℕ) (i : ℕ) (start found : Candidate) (c : ℕ) : Type 0 where
   pub walk : Walk m i c
-  pub so-far : found ≡ best lower start (each (masksBelow i c) (withRule (degreeOf words)))
+  pub so-far : found ≡ best (ranked lower outputs) start (each (masksBelow i c) (withRule (degreeOf words)))
 
 pub sweep-starts : (m : ℕ) (words : List ℕ) (i : ℕ) (start : Candidate) → 1 ≤ i → Sweeping m words i start start 1
-sweep-starts m words i start limit = record { walk = walk-starts m i limit; so-far = best-starts lower (withRule (degreeOf words)) start i }
+sweep-starts m words i start limit = record { walk = walk-starts m i limit; so-far = best-starts (ranked lower outputs) (withRule (degreeOf words)) start i }
 
 module _ {m : ℕ} {words : List ℕ} {i : ℕ} {start found : Candidate} {c : ℕ} (s : Sweeping m words i start found c) where
-  pub sweep-next : {new : Candidate} {degree next : ℕ} → c < 2 ^ m → Next i c next → degree ≡ degreeOf words c → new ≡ best lower found (degreeAt degree c ∷ [])
+  pub sweep-next : {new : Candidate} {degree next : ℕ} → c < 2 ^ m → Next i c next → degree ≡ degreeOf words c → new ≡ best (ranked lower outputs) found (degreeAt degree c ∷ [])
       → Sweeping m words i start new next
   sweep-next l after e q = record {
     walk = walk-next (s .walk) after l;
-    so-far = best-next (s .walk) lower (withRule (degreeOf words)) start after (s .so-far) (q ∙ ap (λ (d : ℕ). best lower found (degreeAt d c ∷ [])) e);
+    so-far = best-next (s .walk) (ranked lower outputs) (withRule (degreeOf words)) start after (s .so-far)
+        (q ∙ ap (λ (d : ℕ). best (ranked lower outputs) found (degreeAt d c ∷ [])) e);
   }
+
+  -- up to the next mask whose degree is below the bar
+  pub sweep-passes : (degree mask bar : ℕ) {met : Met} → found ≡ degreeAt degree mask → Bar degree mask bar → FirstBelow m words i bar c met
+      → Sweeping m words i start found (met .c)
+  sweep-passes degree mask bar {met} is barred first = record {
+    walk = record { limit = s .walk .limit; c-low = omega (arith, s .walk .c-low, first .low); c-high = first .high; few = first .few };
+    so-far = best-passes (ranked lower outputs) (withRule (degreeOf words)) start found i c (met .c) (s .walk .c-low) (first .low) stays (s .so-far);
+  }
+    where
+      stays : (x : ℕ) → c ≤ x → x < met .c → ones x ≤ i → (p : Candidate) → List·Memᴰ p (withRule (degreeOf words) x) → ranked lower outputs p found ≡ false
+      stays x l h f p k =
+          ap₂ (λ (p b : Candidate). ranked lower outputs p b) (List·Memᴰ·eq-of-singleton k) is
+          ∙ not-below degree mask bar barred (degreeOf words x) x (first .none-before x l h f) (omega (arith, s .walk .c-low))
 
   pub sweep-ends : {n : ℕ} → Swept n m words i → n < start .figure → 2 ^ m ≤ c → found ≡ firstLeast (degreesOf m words i)
   unfolding degreesOf
   sweep-ends {n} t high end =
-      best-ends (s .walk) lower (withRule (degreeOf words)) start end (s .so-far)
-      ∙ best-degrees (degreeOf words) m i start (t .m-low) (t .i-low) (λ c. omega (arith, degree-high n words c (t .size)))
+      best-ends (s .walk) (ranked lower outputs) (withRule (degreeOf words)) start end (s .so-far)
+      ∙ best-degrees (degreeOf words) m i start (t .m-low) (t .i-low) (omega (arith, degree-high n words 1 (t .size)))
+
+-- ---- what the loop keeps: the weakest of the components before the mask that it meets next, with the bar, and that mask's degree
+pub record Meeting (m : ℕ) (words : List ℕ) (i : ℕ) (start : Candidate) (found : Weakest) (met : Met) : Type 0 where
+  pub sweeping : Sweeping m words i start (candidate found) (met .c)
+  pub degree-is : met .c < 2 ^ m → met .degree ≡ degreeOf words (met .c)
+  pub barred : Bar (found .degree) (found .c) (found .bar)
+
+module _ {n m : ℕ} {words : List ℕ} {i : ℕ} (t : Swept n m words i) where
+  pub first-walk : Walk m i 1
+  first-walk = walk-starts m i (t .i-low)
+
+  -- from a degree that no component has, and the mask 0
+  pub meeting-starts : {met : Met} → FirstBelow m words i (n + 1) 1 met
+      → Meeting m words i (degreeAt (n + 1) 0) (record { degree = n + 1; c = 0; bar = n + 1 }) met
+  meeting-starts first =
+      let barred : Bar (n + 1) 0 (n + 1) = inr (refl, omega (arith, ones-none)) in
+      record {
+        sweeping = sweep-passes (sweep-starts m words i (degreeAt (n + 1) 0) (t .i-low)) (n + 1) 0 (n + 1) refl barred first;
+        degree-is = λ l. first .reached l .0;
+        barred = barred;
+      }
+
+  -- a degree is no larger than the number of inputs
+  pub meeting-low : {start : Candidate} {found : Weakest} {met : Met} → Meeting m words i start found met → met .c < 2 ^ m → met .degree ≤ 8
+  meeting-low {met = met} s l = omega (arith, s .degree-is l, degree-high n words (met .c) (t .size), t .n-high)
+
+module _ {m : ℕ} {words : List ℕ} {i : ℕ} {start : Candidate} {found : Weakest} {met : Met} (s : Meeting m words i start found met) where
+  pub meeting-walk : {next : ℕ} → met .c < 2 ^ m → Next i (met .c) next → Walk m i next
+  meeting-walk l after = walk-next (s .sweeping .walk) after l
+
+  pub meeting-next : {new : Weakest} {next : ℕ} {later : Met} → met .c < 2 ^ m → Next i (met .c) next
+      → candidate new ≡ best (ranked lower outputs) (candidate found) (degreeAt (met .degree) (met .c) ∷ []) → Bar (new .degree) (new .c) (new .bar)
+      → FirstBelow m words i (new .bar) next later → Meeting m words i start new later
+  meeting-next {new} l after e barred first = record {
+    sweeping = sweep-passes (sweep-next (s .sweeping) l after (s .degree-is l) e) (new .degree) (new .c) (new .bar) refl barred first;
+    degree-is = λ h. first .reached h .0;
+    barred = barred;
+  }

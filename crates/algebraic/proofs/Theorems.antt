@@ -12,9 +12,10 @@ use borrow.Author.Tests.{eqb-true, eq-eqb}
 use lib.Dec.{eqb}
 use lib.ListN.{length, List·getD-eq-default}
 use Rattle.boolean.specs.Sums.{each, distinct}
-use Rattle.boolean.specs.Functions.{at, Within, component, components, degree, normalForm}
+use Rattle.boolean.specs.Functions.{at, Within, component, components, MaskBefore, degree, normalForm}
 use Rattle.boolean.specs.Selection.{Candidate, shown, lower, firstBest, firstLeast, SameMembers, ranked, First}
 use Rattle.boolean.proofs.AffineForms.{constant-degree, degree-constant, degree-affine, affine-degree, distance-none, distance-same}
+use Rattle.boolean.proofs.Components.{rank-of-before}
 use Rattle.boolean.proofs.Degrees.{length-normal-form, at-normal-form, normal-form-twice, degree-le}
 use Rattle.boolean.proofs.Digits.{component-lt}
 use Rattle.boolean.proofs.Distinct.{distinct-at, distinct-of}
@@ -73,13 +74,13 @@ module _ (n m : ℕ) (rows : List ℕ) (i : ℕ) where
   -- "Combinations may be visited in any order without effect on any answer." Over any list with the members of `degrees`, in any order and some of
   -- them more than once, the least degree, and of those that have it the one of the lowest rank, is the degree with its witness.
   pub degree-any-order : (visited : List Candidate) → SameMembers visited (degrees n m rows i)
-      → firstBest (ranked lower degreeRank) visited ≡ boxDegree n m rows i
+      → firstBest (ranked lower (degreeRank m)) visited ≡ boxDegree n m rows i
   unfolding boxDegree degrees
-  degree-any-order visited = firstLeast-any-order degreeRank (degreesBy degreeOfMask m i) visited (ascending-degrees degreeOfMask m i)
+  degree-any-order visited = firstLeast-any-order (degreeRank m) (degreesBy degreeOfMask m i) visited (ascending-degrees degreeOfMask m i)
 
   -- so where the components are visited in any order, each with its degree
   pub degree-any-component-order : (order : List ℕ) → SameMembers order (components m i)
-      → firstBest (ranked lower degreeRank) (each order (λ c. withDegree n rows c ∷ [])) ≡ boxDegree n m rows i
+      → firstBest (ranked lower (degreeRank m)) (each order (λ c. withDegree n rows c ∷ [])) ≡ boxDegree n m rows i
   unfolding degrees
   degree-any-component-order order same =
       degree-any-order (each order (λ c. withDegree n rows c ∷ [])) (each-same order (components m i) (λ c. withDegree n rows c ∷ []) same)
@@ -100,13 +101,13 @@ module _ (n m : ℕ) (rows : List ℕ) (i : ℕ) where
         mem-degrees degreeOfMask m i (boxDegree n m rows i) (subst (λ (l : List Candidate). List·Memᴰ (firstLeast l) l) (sym (t .2)) (firstLeast-mem (t .0) (t .1)))
 
     -- and each combination before it has a higher one
-    higher : (c : ℕ) → boxDegree n m rows i ≡ withDegree n rows c → (c′ : ℕ) → Within i (2 ^ m) c′ → c′ < c → boxDegree n m rows i .figure < degree n (component rows c′)
+    higher : (c : ℕ) → boxDegree n m rows i ≡ withDegree n rows c → (c′ : ℕ) → Within i (2 ^ m) c′ → MaskBefore c′ c → boxDegree n m rows i .figure < degree n (component rows c′)
     unfolding boxDegree degrees
     higher c e c′ w l =
         let t = nonempty in
-        first-ranked degreeRank (λ r p. r .figure < p .figure) (ascending-degrees degreeOfMask m i)
+        first-ranked (degreeRank m) (λ r p. r .figure < p .figure) (ascending-degrees degreeOfMask m i)
         (subst (λ (l : List Candidate). First (λ r p. r .figure < p .figure) (firstLeast l) l) (sym (t .2)) (firstLeast-first (t .0) (t .1)))
-        (withDegree n rows c′) (in-degrees degreeOfMask m i c′ w) (omega (arith, ap degreeRank e))
+        (withDegree n rows c′) (in-degrees degreeOfMask m i c′ w) (omega (arith, ap (degreeRank m) e, rank-of-before m c′ c (w .high) l))
 
     -- Document 02: "The box's degree becomes that least value, with the first combination that has it." Of the "combinations of at most i outputs".
     pub degree-reported : DegreeReported n m rows i (boxDegree n m rows i .figure)

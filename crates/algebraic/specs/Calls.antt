@@ -15,6 +15,7 @@ use Rattle.boolean.specs.Selection.{Candidate, shown}
 use Rattle.refusals.specs.Table.{first, boxChecks, limitChecks, Reply, figures, refusal, number, replyAfter, asFigure}
 use Rattle.algebraic.specs.Algebraic.{boxDegree, bijective}
 use Rattle.algebraic.specs.declared.Weakest.{Weakest}
+use Rattle.algebraic.specs.declared.Met.{Met}
 use Rattle.algebraic.specs.declared.DegreeFound.{DegreeFound}
 use Rattle.algebraic.specs.declared.DegreeFound.the-variants.{Reached, Declined}
 
@@ -57,6 +58,19 @@ degreeOf words c = largestBelow (length words) (λ u. cond (eqb (dot (at words u
 unfoldable pub degreesOf : ℕ → List ℕ → ℕ → List Candidate
 unfolding each components degreeOf
 degreesOf m words i = each (components m i) (λ c. degreeAt (degreeOf words c) c ∷ [])
+
+-- A degree below the bar may be preferred to this degree at the mask c, and no other is: the bar is above the degree, or it is the degree itself and c
+-- has a single output.
+abbrev pub Bar : (degree c bar : ℕ) → Type 0
+Bar degree c bar = (degree < bar) ⊎ ((degree ≡ bar) × (ones c ≤ 1))
+
+-- the first mask from c on, within the limit i, whose degree is below the bar, with its degree; or 2^m, where there is none
+pub record FirstBelow (m : ℕ) (words : List ℕ) (i bar c : ℕ) (r : Met) : Type 0 where
+  pub low : c ≤ r .c
+  pub high : r .c ≤ 2 ^ m
+  pub few : ones (r .c) ≤ i
+  pub none-before : (x : ℕ) → c ≤ x → x < r .c → ones x ≤ i → bar ≤ degreeOf words x
+  pub reached : r .c < 2 ^ m → (r .degree ≡ degreeOf words (r .c)) × (r .degree < bar)
 
 -- a table of all inputs of 8 bits, those with the most ones first
 pub record ByOnes (table : List ℕ) : Type 0 where

@@ -2,23 +2,24 @@
 use Prim.Native.Nat.{ℕ, _^_, _<_, _≤_}
 use mathlib.Core.Path.{_≡_}
 use mathlib.Core.List.{List, [], _∷_}
-use Rattle.boolean.specs.Functions.{at, component, degree, Within}
+use Rattle.boolean.specs.Functions.{at, component, degree, Within, MaskBefore, maskRank}
 use Rattle.boolean.specs.Selection.{Candidate}
 use Rattle.refusals.specs.Table.{figures}
 use Rattle.algebraic.specs.Calls.{boxDegreeReply}
 
--- what is reported of an accepted box and limit i: the degree d, and the combination c, which is the first within the limit that has it
+-- what is reported of an accepted box and limit i: the degree d, and the combination c, which is the first within the limit that has it, fewest
+-- outputs first
 pub record DegreeReported (n m : ℕ) (rows : List ℕ) (i d : ℕ) : Type 0 where
   pub c : ℕ
   pub reply : boxDegreeReply n m rows i ≡ figures (d ∷ c ∷ [])
   pub least : (c′ : ℕ) → Within i (2 ^ m) c′ → d ≤ degree n (component rows c′)
   pub c-within : Within i (2 ^ m) c
   pub reached : degree n (component rows c) ≡ d
-  pub higher-before : (c′ : ℕ) → Within i (2 ^ m) c′ → c′ < c → d < degree n (component rows c′)
+  pub higher-before : (c′ : ℕ) → Within i (2 ^ m) c′ → MaskBefore c′ c → d < degree n (component rows c′)
 
 -- a component's number in the components' order
-abbrev pub degreeRank : Candidate → ℕ
-degreeRank p = at (p .witness) 0
+abbrev pub degreeRank : ℕ → Candidate → ℕ
+degreeRank m p = maskRank m (at (p .witness) 0)
 
 -- a function of n inputs is constant
 abbrev pub Constant : ℕ → (ℕ → ℕ) → Type 0

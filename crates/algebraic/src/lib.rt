@@ -15,16 +15,23 @@ ghost use lib.ListN.{length};
 ghost use Rattle.boolean.specs.Bits.{dot};
 ghost use Rattle.boolean.specs.Sums.{every, distinct};
 ghost use Rattle.boolean.specs.Functions.{at, normalForm};
-ghost use Rattle.boolean.specs.Selection.{best, lower, firstLeast};
+ghost use Rattle.boolean.specs.Selection.{best, lower, firstLeast, ranked};
 ghost use Rattle.refusals.specs.Table.{tableCallChecks, first, replyAfter, contentAfter, written, verdict, Box, Table};
-ghost use Rattle.masks.specs.Masks.{Next};
+ghost use Rattle.masks.specs.Masks.{Next, outputs};
 ghost use Rattle.algebraic.specs.Algebraic.{boxDegree};
-ghost use Rattle.algebraic.specs.Calls.{degreeReply, boxDegreeReply, bijectiveReply, degreeAt, candidate, degreeOf, degreesOf, Added, Staircase, PutIn, Gathered, Swept};
+ghost use Rattle.algebraic.specs.Calls.{degreeReply, boxDegreeReply, bijectiveReply, degreeAt, candidate, degreeOf, degreesOf, Added, Staircase, PutIn, Gathered, Swept, Bar, FirstBelow};
 
-// The weakest component so far: its degree and its mask.
+// The weakest component so far: its degree, its mask, and the bar that another degree must be below to matter.
 pub struct Weakest {
     pub degree: u32,
     pub c: u32,
+    pub bar: u32,
+}
+
+// A mask that a sweep meets, with its component's degree.
+pub struct Met {
+    pub c: u64,
+    pub degree: u32,
 }
 
 // The answer of the degree.
@@ -231,17 +238,6 @@ fn component_degree(words: &[u32], inputs: &[u8], count: usize, c: u32) -> u32
     0
 }
 
-// The weakest component so far, with the one at the mask c.
-fn weaker(found: Weakest, degree: u32, c: u32) -> Weakest
-    ensures { λ r. ⌜ candidate r ≡ best lower (candidate found) (degreeAt degree c ∷ []) ⌝ }
-{
-    if degree < found.degree {
-        Weakest { degree, c }
-    } else {
-        found
-    }
-}
-
 // The mask that comes next within the limit. Where the limit leaves no combination out it is c + 1, without a count of the ones of c, which
 // takes longer than most degrees do.
 fn next_within(m: u32, i: u32, c: u64) -> u64
@@ -255,8 +251,60 @@ fn next_within(m: u32, i: u32, c: u64) -> u64
     }
 }
 
-// Every component within the limit in turn. It starts from a degree that no component has. The walk ends at 2^m itself, so that != tells its
-// end; < a power of two would be compiled to a shift in each turn.
+// The first mask from c on, within the limit, whose degree is below the bar, or 2^m. Nearly all masks are passed over here, so that this loop has no
+// other test than the bar. The walk ends at 2^m itself, so that != tells its end; < a power of two would be compiled to a shift in each turn.
+fn next_below(
+    n: u32,
+    m: u32,
+    words: &[u32],
+    i: u32,
+    inputs: &[u8],
+    count: usize,
+    bar: u32,
+    c: u64,
+) -> Met
+    requires { ⌜ Swept n m (now words) i × Gathered (now words) (now inputs) count × (1 ≤ c) × (c ≤ 2 ^ m) × (ones c ≤ i) ⌝ }
+    ensures { λ r. ⌜ FirstBelow m (now (words .entry)) i bar c r ⌝ }
+{
+    let masks = boolean::power_of_two(m) as u64;
+    let mut at: u64 = c;
+    while at != masks {
+        let degree = component_degree(words, inputs, count, at as u32);
+        if degree < bar {
+            return Met { c: at, degree };
+        }
+        at = next_within(m, i, at);
+    }
+    Met { c: at, degree: 0 }
+}
+
+// The bar for the components after one of this degree at the mask c: a mask of one output gives way only to a lower degree, a mask of several to
+// the same degree too.
+fn bar_of(degree: u32, c: u32) -> u32
+    requires { ⌜ degree ≤ 8 ⌝ }
+    ensures { λ r. ⌜ Bar degree c r ⌝ }
+{
+    if u32::count_ones(c) <= 1 {
+        degree
+    } else {
+        degree + 1
+    }
+}
+
+// The weakest component so far, or the one at the mask c: by the degree, and among equal degrees by fewer outputs.
+fn weaker(found: Weakest, degree: u32, c: u32) -> Weakest
+    requires { ⌜ (degree ≤ 8) × Bar (found .degree) (found .c) (found .bar) ⌝ }
+    ensures { λ r. ⌜ (candidate r ≡ best (ranked lower outputs) (candidate found) (degreeAt degree c ∷ [])) × Bar (r .degree) (r .c) (r .bar) ⌝ }
+{
+    if masks::is_preferred(degree, found.degree, c, found.c) {
+        let bar = bar_of(degree, c);
+        Weakest { degree, c, bar }
+    } else {
+        found
+    }
+}
+
+// Every component within the limit in turn. It starts from a degree that no component has.
 fn sweep(n: u32, m: u32, words: &[u32], i: u32, inputs: &[u8], count: usize) -> Weakest
     requires { ⌜ Swept n m (now words) i × Gathered (now words) (now inputs) count ⌝ }
     ensures { λ r. ⌜ candidate r ≡ firstLeast (degreesOf m (now (words .entry)) i) ⌝ }
@@ -265,13 +313,13 @@ fn sweep(n: u32, m: u32, words: &[u32], i: u32, inputs: &[u8], count: usize) -> 
     let mut found = Weakest {
         degree: n + 1,
         c: 0,
+        bar: n + 1,
     };
-    let mut c: u64 = 1;
-    while c != masks {
-        let mask = c as u32;
-        let degree = component_degree(words, inputs, count, mask);
-        found = weaker(found, degree, mask);
-        c = next_within(m, i, c);
+    let mut met = next_below(n, m, words, i, inputs, count, found.bar, 1);
+    while met.c != masks {
+        found = weaker(found, met.degree, met.c as u32);
+        let next = next_within(m, i, met.c);
+        met = next_below(n, m, words, i, inputs, count, found.bar, next);
     }
     found
 }

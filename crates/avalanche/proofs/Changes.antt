@@ -1,50 +1,38 @@
--- The list of changes: which it has, that they stand in the order of c, then s, and that (1, 1) is the first.
+-- The list of changes: which it has, that they stand in the order of c, fewest ones first, then s, and that (1, 1) is the first.
 use mathlib.Core.Path.{_≡_, refl, ap, _∙_}
 use mathlib.Core.List.{List, [], _∷_, _++_, List·Memᴰ, List·Memᴰ·head, List·Memᴰ·not-nil, List·Memᴰ·eq-of-singleton}
 use Prim.Native.Nat.{ℕ, suc, _+_, _*_, _-_, _^_, _<_, _≤_}
-use native.Mathlib.Nat.{le-trans, le-of-eq, suc-mul}
+use native.Mathlib.Nat.{suc-mul}
 use native.Mathlib.Omega.{arith}
-use borrow.Author.Tests.{le-leb}
-use lib.Count.{ones}
-use lib.Pow.{pow-mono}
-use Rattle.boolean.specs.Sums.{listFrom, each, keep}
-use Rattle.boolean.specs.Functions.{Within, components}
+use lib.Pow.{pow-pos}
+use Rattle.boolean.specs.Sums.{each}
+use Rattle.boolean.specs.Functions.{Within, components, maskRank}
 use Rattle.boolean.specs.Selection.{Candidate, Ascending, SameMembers}
-use Rattle.boolean.proofs.Lists.{mem-each, in-each, each-same, ascending-each, ascending-blocks}
-use Rattle.boolean.proofs.Kept.{keep-takes, each-cong}
-use Rattle.boolean.proofs.Components.{limited, mem-components, in-components, ascending-components}
-use Rattle.boolean.proofs.OneBit.{ones-one}
+use Rattle.boolean.proofs.Lists.{some-member, mem-each, in-each, each-same, ascending-each, ascending-blocks}
+use Rattle.boolean.proofs.Kept.{each-cong}
+use Rattle.boolean.proofs.Components.{mem-masksBelow, in-masksBelow, ascending-masksBelow, first-masksBelow, mem-components, in-components, ascending-components, first-component, first-mask}
 use Rattle.avalanche.specs.Avalanche.{shifts, atMost, measured}
 use Rattle.avalanche.specs.Calls.{change, changesOf}
 use Rattle.avalanche.specs.Statements.{changeRank}
 
--- ---- the changes of at most j inputs: they are numbered as the components within a limit are
+-- ---- the changes of at most j inputs, in ascending order
 module _ (n j : ℕ) where
   mem-shifts : (s : ℕ) → List·Memᴰ s (atMost j (shifts n)) → Within j (2 ^ n) s
-  unfolding atMost shifts components
-  mem-shifts = mem-components n j
+  unfolding atMost shifts
+  mem-shifts = mem-masksBelow j (2 ^ n) (pow-pos n)
 
   in-shifts : (s : ℕ) → Within j (2 ^ n) s → List·Memᴰ s (atMost j (shifts n))
-  unfolding atMost shifts components
-  in-shifts = in-components n j
+  unfolding atMost shifts
+  in-shifts = in-masksBelow j (2 ^ n) (pow-pos n)
 
   ascending-shifts : Ascending (λ s. s) (atMost j (shifts n))
-  unfolding atMost shifts components
-  ascending-shifts = ascending-components n j
+  unfolding atMost shifts
+  ascending-shifts = ascending-masksBelow j (2 ^ n)
 
--- 1 is the first of either
-components-first : (m i : ℕ) → 1 ≤ m → 1 ≤ i → (rest : List ℕ) × (components m i ≡ 1 ∷ rest)
-unfolding components listFrom
-components-first m i lm li =
-    let more : 2 ^ m - 1 ≡ suc (2 ^ m - 2) = omega (arith, pow-mono {i = 1} {j = m} lm) in (
-      keep (limited i) (listFrom 2 (2 ^ m - 2) (λ c. c)),
-      ap (λ (z : ℕ). keep (limited i) (listFrom 1 z (λ c. c))) more
-          ∙ keep-takes (limited i) 1 (listFrom 2 (2 ^ m - 2) (λ c. c)) (le-leb (ones 1) i (le-trans (le-of-eq ones-one) li)),
-    )
-
-shifts-first : (n j : ℕ) → 1 ≤ n → 1 ≤ j → (rest : List ℕ) × (atMost j (shifts n) ≡ 1 ∷ rest)
-unfolding atMost shifts components
-shifts-first = components-first
+  -- 1 is the first
+  shifts-first : 1 ≤ n → 1 ≤ j → (rest : List ℕ) × (atMost j (shifts n) ≡ 1 ∷ rest)
+  unfolding atMost shifts
+  shifts-first = first-masksBelow j n
 
 -- ---- the changes of one component
 module _ (n j : ℕ) (figure : ℕ → ℕ → ℕ) (c : ℕ) where
@@ -58,12 +46,23 @@ module _ (n j : ℕ) (figure : ℕ → ℕ → ℕ) (c : ℕ) where
       let t = mem-each (atMost j (shifts n)) (λ s. change figure c s ∷ []) p h in
       (t .0, mem-shifts n j (t .0) (t .1), List·Memᴰ·eq-of-singleton (t .2))
 
-  pub ascending-changesOf : Ascending (changeRank n) (changesOf n j figure c)
+  pub ascending-changesOf : (m : ℕ) → Ascending (changeRank n m) (changesOf n j figure c)
   unfolding changesOf
-  ascending-changesOf =
-      ascending-each (λ s. s) (changeRank n) (atMost j (shifts n)) (λ s. change figure c s ∷ []) (ascending-shifts n j)
-      (λ s m. (λ d k. absurd (List·Memᴰ·not-nil k), tt))
-      (λ s t m k l p q u v. omega (arith, ap (changeRank n) (List·Memᴰ·eq-of-singleton u), ap (changeRank n) (List·Memᴰ·eq-of-singleton v)))
+  ascending-changesOf m =
+      ascending-each (λ s. s) (changeRank n m) (atMost j (shifts n)) (λ s. change figure c s ∷ []) (ascending-shifts n j)
+      (λ s k. (λ d h. absurd (List·Memᴰ·not-nil h), tt))
+      (λ s t k h l p q u v. omega (arith, ap (changeRank n m) (List·Memᴰ·eq-of-singleton u), ap (changeRank n m) (List·Memᴰ·eq-of-singleton v)))
+
+  -- with an input there is one
+  pub changesOf-some : 1 ≤ n → 1 ≤ j → (p : Candidate) × (ps : List Candidate) × (changesOf n j figure c ≡ p ∷ ps)
+  changesOf-some ln lj = some-member (changesOf n j figure c) (in-changesOf 1 (first-mask n j ln lj))
+
+  -- and (c, 1) is the first
+  pub changesOf-first : 1 ≤ n → 1 ≤ j → (rest : List Candidate) × (changesOf n j figure c ≡ change figure c 1 ∷ rest)
+  unfolding changesOf each
+  changesOf-first ln lj =
+      let ss = shifts-first n j ln lj in
+      (each (ss .0) (λ s. change figure c s ∷ []), ap (λ (l : List ℕ). each l (λ s. change figure c s ∷ [])) (ss .1))
 
 -- ---- all changes
 module _ (n m i j : ℕ) (figure : ℕ → ℕ → ℕ) where
@@ -82,25 +81,24 @@ module _ (n m i j : ℕ) (figure : ℕ → ℕ → ℕ) where
       let u = mem-changesOf n j figure (t .0) p (t .2) in
       (t .0, u .0, mem-components m i (t .0) (t .1), u .1, u .2)
 
-  pub ascending-measured : Ascending (changeRank n) (measured n m i j figure)
+  pub ascending-measured : Ascending (changeRank n m) (measured n m i j figure)
   unfolding measured changesOf
   ascending-measured =
-      ascending-blocks 0 (2 ^ n) (λ c. c) (changeRank n) (components m i) (changesOf n j figure) (ascending-components m i)
-      (λ c k. ascending-changesOf n j figure c) (λ c k p h. inside c p (mem-changesOf n j figure c p h))
+      ascending-blocks 0 (2 ^ n) (maskRank m) (changeRank n m) (components m i) (changesOf n j figure) (ascending-components m i)
+      (λ c k. ascending-changesOf n j figure c m) (λ c k p h. inside c p (mem-changesOf n j figure c p h))
     where
       inside : (c : ℕ) (p : Candidate) → (s : ℕ) × Within j (2 ^ n) s × (p ≡ change figure c s)
-          → (0 + c * 2 ^ n ≤ changeRank n p) × (changeRank n p < 0 + suc c * 2 ^ n)
-      inside c p t = omega (arith, ap (changeRank n) (t .2), t .1 .high, suc-mul c (2 ^ n))
+          → (0 + maskRank m c * 2 ^ n ≤ changeRank n m p) × (changeRank n m p < 0 + suc (maskRank m c) * 2 ^ n)
+      inside c p t = omega (arith, ap (changeRank n m) (t .2), t .1 .high, suc-mul (maskRank m c) (2 ^ n))
 
   -- (1, 1) is the first
   pub measured-first : 1 ≤ n → 1 ≤ m → 1 ≤ i → 1 ≤ j → (rest : List Candidate) × (measured n m i j figure ≡ change figure 1 1 ∷ rest)
-  unfolding measured each
+  unfolding measured changesOf each
   measured-first ln lm li lj =
-      let cs = components-first m i lm li in
-      let ss = shifts-first n j ln lj in (
-        each (ss .0) (λ s. change figure 1 s ∷ []) ++ each (cs .0) (λ c. each (atMost j (shifts n)) (λ s. change figure c s ∷ [])),
-        ap (λ (l : List ℕ). each l (λ c. each (atMost j (shifts n)) (λ s. change figure c s ∷ []))) (cs .1)
-            ∙ ap (λ (l : List ℕ). each l (λ s. change figure 1 s ∷ []) ++ each (cs .0) (λ c. each (atMost j (shifts n)) (λ s. change figure c s ∷ []))) (ss .1),
+      let cs = first-component m i lm li in
+      let ps = changesOf-first n j figure 1 ln lj in (
+        ps .0 ++ each (cs .0) (changesOf n j figure),
+        ap (λ (l : List ℕ). each l (changesOf n j figure)) (cs .1) ∙ ap (λ (l : List Candidate). l ++ each (cs .0) (changesOf n j figure)) (ps .1),
       )
 
   -- the components in any order

@@ -10,9 +10,9 @@ use lib.Bits.{bitXor, xor-lt}
 use lib.IntN.{ℤ, pos, negsuc, _+ℤ_, _-ℤ_, natAbs, +ℤ-idl, +ℤ-invr, -ℤ-+ℤ-cancel}
 use lib.Pow.{pow-pos, pow-lt}
 use Rattle.boolean.specs.Sums.{each}
-use Rattle.boolean.specs.Functions.{Within, changes, component, components, column}
+use Rattle.boolean.specs.Functions.{Within, changes, component, components, column, maskRank}
 use Rattle.boolean.specs.Selection.{Candidate, higher, firstBest, firstLargest, SameMembers, ranked, First}
-use Rattle.boolean.proofs.Components.{whole-within}
+use Rattle.boolean.proofs.Components.{whole-within, rank-of-before}
 use Rattle.boolean.proofs.Correlation.{changes-cong}
 use Rattle.boolean.proofs.FirstLargest.{firstLargest-none}
 use Rattle.boolean.proofs.Digits.{component-xor}
@@ -27,9 +27,9 @@ use Rattle.avalanche.specs.Statements.{Before, changeRank, Widest, dista
 use Rattle.avalanche.proofs.Changes.{in-measured, mem-measured, ascending-measured, measured-first, measured-same}
 
 -- a change before another has a lower number
-before-rank : (n c′ s′ c s : ℕ) → s′ < 2 ^ n → Before c′ s′ c s → c′ * 2 ^ n + s′ < c * 2 ^ n + s
-before-rank n c′ s′ c s h (inl l) = omega (arith, suc-mul c′ (2 ^ n), mul-le-mul-right (2 ^ n) l)
-before-rank n c′ s′ c s h (inr l) = omega (arith, ap (λ (z : ℕ). z * 2 ^ n) (l .0))
+before-rank : (n m c′ s′ c s : ℕ) → c′ < 2 ^ m → s′ < 2 ^ n → Before c′ s′ c s → maskRank m c′ * 2 ^ n + s′ < maskRank m c * 2 ^ n + s
+before-rank n m c′ s′ c s hc hs (inl l) = omega (arith, suc-mul (maskRank m c′) (2 ^ n), mul-le-mul-right (2 ^ n) (rank-of-before m c′ c hc l))
+before-rank n m c′ s′ c s hc hs (inr l) = omega (arith, ap (λ (z : ℕ). maskRank m z * 2 ^ n) (l .0))
 
 module _ (n m i j : ℕ) (figure : ℕ → ℕ → ℕ) (n-low : 1 ≤ n) (m-low : 1 ≤ m) (i-low : 1 ≤ i) (j-low : 1 ≤ j) where
   widest : Widest n m i j figure (firstLargest (measured n m i j figure))
@@ -45,10 +45,10 @@ module _ (n m i j : ℕ) (figure : ℕ → ℕ → ℕ) (n-low : 1 ≤ n) (m-low
         s-within = found .3;
         reached = found .4;
         first = λ c′ s′ hc hs l.
-            first-ranked (changeRank n) (λ r p. p .figure < r .figure) (ascending-measured n m i j figure)
+            first-ranked (changeRank n m) (λ r p. p .figure < r .figure) (ascending-measured n m i j figure)
             (subst (λ (l : List Candidate). First (λ r p. p .figure < r .figure) (firstLargest l) l) (sym (head .1)) (firstLargest-first (change figure 1 1) (head .0)))
             (change figure c′ s′) (in-measured n m i j figure c′ s′ hc hs)
-            (omega (arith, ap (changeRank n) (found .4), before-rank n c′ s′ (found .0) (found .1) (hs .high) l));
+            (omega (arith, ap (changeRank n m) (found .4), before-rank n m c′ s′ (found .0) (found .1) (hc .high) (hs .high) l));
         none = λ e.
             ap (λ (p : Candidate). p .witness)
             (ap firstLargest (head .1) ∙ firstLargest-none (change figure 1 1) (head .0) (sym (ap (λ (l : List Candidate). firstLargest l .figure) (head .1)) ∙ e));
@@ -58,25 +58,25 @@ module _ (n m i j : ℕ) (figure : ℕ → ℕ → ℕ) (n-low : 1 ≤ n) (m-low
 -- of them more than once, the largest figure, and of its changes the one of the lowest rank, is the box's figure with its witness.
 module _ (n m : ℕ) (rows : List ℕ) (i : ℕ) where
   pub autocorrelation-any-order : (visited : List Candidate) → SameMembers visited (measured n m i n (correlated n rows))
-      → firstBest (ranked higher (changeRank n)) visited ≡ boxAutocorrelation n m rows i
+      → firstBest (ranked higher (changeRank n m)) visited ≡ boxAutocorrelation n m rows i
   unfolding boxAutocorrelation
   autocorrelation-any-order visited =
-      firstLargest-any-order (changeRank n) (measured n m i n (correlated n rows)) visited (ascending-measured n m i n (correlated n rows))
+      firstLargest-any-order (changeRank n m) (measured n m i n (correlated n rows)) visited (ascending-measured n m i n (correlated n rows))
 
   pub distance-any-order : (j : ℕ) (visited : List Candidate) → SameMembers visited (measured n m i j (distanceOf n rows))
-      → firstBest (ranked higher (changeRank n)) visited ≡ dynamicDistance n m rows i j
+      → firstBest (ranked higher (changeRank n m)) visited ≡ dynamicDistance n m rows i j
   unfolding dynamicDistance
   distance-any-order j visited =
-      firstLargest-any-order (changeRank n) (measured n m i j (distanceOf n rows)) visited (ascending-measured n m i j (distanceOf n rows))
+      firstLargest-any-order (changeRank n m) (measured n m i j (distanceOf n rows)) visited (ascending-measured n m i j (distanceOf n rows))
 
   -- so where the components within the limit are visited in any order, each with its changes
   pub autocorrelation-any-component-order : (order : List ℕ) → SameMembers order (components m i)
-      → firstBest (ranked higher (changeRank n)) (each order (changesOf n n (correlated n rows))) ≡ boxAutocorrelation n m rows i
+      → firstBest (ranked higher (changeRank n m)) (each order (changesOf n n (correlated n rows))) ≡ boxAutocorrelation n m rows i
   autocorrelation-any-component-order order same =
       autocorrelation-any-order (each order (changesOf n n (correlated n rows))) (measured-same n m i n (correlated n rows) order same)
 
   pub distance-any-component-order : (j : ℕ) (order : List ℕ) → SameMembers order (components m i)
-      → firstBest (ranked higher (changeRank n)) (each order (changesOf n j (distanceOf n rows))) ≡ dynamicDistance n m rows i j
+      → firstBest (ranked higher (changeRank n m)) (each order (changesOf n j (distanceOf n rows))) ≡ dynamicDistance n m rows i j
   distance-any-component-order j order same =
       distance-any-order j (each order (changesOf n j (distanceOf n rows))) (measured-same n m i j (distanceOf n rows) order same)
 

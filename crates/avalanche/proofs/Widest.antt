@@ -1,23 +1,35 @@
 -- The best change of a component from its autocorrelation, which is given 2^n times.
-use mathlib.Core.Path.{_≡_, sym, ap, _∙_, subst}
-use mathlib.Core.Bool.{true}
+use mathlib.Core.Path.{_≡_, refl, sym, ap, _∙_, subst}
+use mathlib.Core.Bool.{Bool, true, false, _&&_, _||_, false≢true}
 use mathlib.Core.List.{List, [], _∷_, List·Memᴰ}
 use Prim.Native.Nat.{ℕ, _*_, _/_, _^_, _<_, _≤_}
-use native.Mathlib.Nat.{le-trans, le-of-eq, mul-comm, mul-div-right, le-div-iff-mul-le, div-le-self}
+use native.Mathlib.Nat.{le-trans, le-of-eq, le-antisymm, mul-comm, mul-div-right, le-div-iff-mul-le, div-le-self}
 use native.Mathlib.Omega.{arith}
 use native.Mathlib.Decide.{decLt}
-use borrow.Author.Tests.{lt-ltb, le-ltb}
+use borrow.Author.Tests.{lt-ltb, le-ltb, ltb-true, eqb-true}
+use lib.Count.{ones}
+use lib.Dec.{ltb, eqb}
 use lib.Pow.{pow-pos}
 use lib.IntN.{ℤ, pos, _*ℤ_, natAbs}
 use lib.ListN.{length}
-use Rattle.boolean.specs.Functions.{valueAt, component, autocorrelation, Within}
-use Rattle.boolean.specs.Selection.{Candidate, best, higher}
+use Rattle.boolean.specs.Functions.{at, valueAt, component, autocorrelation, Within}
+use Rattle.boolean.specs.Selection.{Candidate, best, higher, firstLargest, ranked}
 use Rattle.boolean.proofs.Lists.{length-listBelow, getD-listBelow}
 use Rattle.boolean.proofs.Products.{abs-multiple}
-use Rattle.boolean.proofs.Selection.{best-stays, best-is, ranked-first}
+use Rattle.boolean.proofs.OneBit.{ones-pos}
+use Rattle.boolean.proofs.Selection.{best-takes, best-keeps, first-is, firstLargest-ge, firstLargest-mem, ranked-first}
+use Rattle.masks.specs.Masks.{outputs, preferred}
+use Rattle.masks.proofs.Fewest.{Blocks, largest-names, higher-test}
 use Rattle.avalanche.specs.Calls.{correlations, correlated, change, changesOf, LargestWithin, FirstWithin}
 use Rattle.avalanche.specs.Statements.{changeRank}
-use Rattle.avalanche.proofs.Changes.{in-changesOf, mem-changesOf, ascending-changesOf}
+use Rattle.avalanche.proofs.Changes.{in-changesOf, mem-changesOf, changesOf-some, ascending-changesOf}
+
+-- the changes come in blocks, one for each component, and the loop keeps the first best of each
+pub blocks : (n : ℕ) (rows : List ℕ) (j : ℕ) → 1 ≤ n → 1 ≤ j → Blocks (changesOf n j (correlated n rows))
+blocks n rows j ln lj = record {
+  some = λ c. changesOf-some n j (correlated n rows) c ln lj;
+  names = λ c p k. ap (λ (p : Candidate). at (p .witness) 0) (mem-changesOf n j (correlated n rows) c p k .2);
+}
 
 module _ (n : ℕ) (rows : List ℕ) (c j : ℕ) {values : List ℤ} (e : values ≡ correlations n rows c) where
   pub values-length : length values ≡ 2 ^ n
@@ -30,6 +42,10 @@ module _ (n : ℕ) (rows : List ℕ) (c j : ℕ) {values : List ℤ} (e : values
       ap natAbs
       (ap (λ (vs : List ℤ). valueAt vs s) e ∙ getD-listBelow (2 ^ n) (λ s. pos (2 ^ n) *ℤ autocorrelation n (component rows c) s) s (pos 0) l)
       ∙ abs-multiple (2 ^ n) (autocorrelation n (component rows c) s)
+
+  -- a magnitude's share
+  share-at : {largest : ℕ} (s : ℕ) → s < 2 ^ n → natAbs (valueAt values s) ≡ largest → largest / 2 ^ n ≡ correlated n rows c s
+  share-at s l has = ap (λ (k : ℕ). k / 2 ^ n) (sym has ∙ size-is s l) ∙ mul-div-right (correlated n rows c s) (pow-pos n)
 
   inside : {s : ℕ} → Within j (2 ^ n) s → Within j (length values) s
   inside {s} w = subst (λ (k : ℕ). Within j k s) (sym values-length) w
@@ -46,49 +62,88 @@ module _ (n : ℕ) (rows : List ℕ) (c j : ℕ) {values : List ℤ} (e : values
         (le-trans (le-of-eq (ap (λ (r : Candidate). r .figure * 2 ^ n) (t .2) ∙ mul-comm (correlated n rows c (t .0)) (2 ^ n)))
         (le-trans (le-of-eq (sym (size-is (t .0) (t .1 .high)))) (top .bounds (t .0) (inside (t .1)))))
 
-    module _ {figure : ℕ} (share : figure ≡ largest / 2 ^ n) (b : Candidate) where
-      -- the best so far is kept
-      pub stays : figure ≤ b .figure → b ≡ best higher b (changesOf n j (correlated n rows) c)
-      stays h = sym (best-stays higher b (changesOf n j (correlated n rows) c) (λ q k. le-ltb (b .figure) (q .figure) (omega (arith, most q k))))
-
-      -- or the first that has the largest takes its place; then it is not 0
-      pub largest-some : b .figure < figure → 0 < largest
-      largest-some h = omega (arith, div-le-self largest (2 ^ n))
-
-      pub replaced : b .figure < figure → {s : ℕ} → FirstWithin values j largest s
-          → record { figure = figure; witness = c ∷ s ∷ [] } ≡ best higher b (changesOf n j (correlated n rows) c)
-      replaced h {s} place = ap (λ (k : ℕ). record { figure = k; witness = c ∷ s ∷ [] }) figure-is ∙ sym widest
+    module _ (n-low : 1 ≤ n) (j-low : 1 ≤ j) where
+      -- so that is the largest figure
+      largest-figure : firstLargest (changesOf n j (correlated n rows) c) .figure ≡ largest / 2 ^ n
+      largest-figure = le-antisymm (most (firstLargest (changesOf n j (correlated n rows) c)) mem) (reached (decLt 0 largest))
         where
-          w : Within j (2 ^ n) s
-          w = outside (place .within)
+          mem : List·Memᴰ (firstLargest (changesOf n j (correlated n rows) c)) (changesOf n j (correlated n rows) c)
+          mem =
+              let t = changesOf-some n j (correlated n rows) c n-low j-low in
+              subst (λ (l : List Candidate). List·Memᴰ (firstLargest l) l) (sym (t .2)) (firstLargest-mem (t .0) (t .1))
 
-          figure-is : figure ≡ correlated n rows c s
-          figure-is = share ∙ ap (λ (k : ℕ). k / 2 ^ n) (sym (place .has) ∙ size-is s (w .high)) ∙ mul-div-right (correlated n rows c s) (pow-pos n)
+          reached : Dec (0 < largest) → largest / 2 ^ n ≤ firstLargest (changesOf n j (correlated n rows) c) .figure
+          reached (yes l) =
+              let t = top .reached l in
+              let w = outside (t .1) in
+              le-trans (le-of-eq (share-at (t .0) (w .high) (t .2)))
+              (firstLargest-ge (changesOf n j (correlated n rows) c) (change (correlated n rows) c (t .0)) (in-changesOf n j (correlated n rows) c (t .0) w))
+          reached (no l) = omega (arith, div-le-self largest (2 ^ n))
 
-          r : Candidate
-          r = change (correlated n rows) c s
+      module _ {figure : ℕ} (share : figure ≡ largest / 2 ^ n) (b : Candidate) where
+        test : preferred (b .figure) figure c (at (b .witness) 0) ≡ ranked higher outputs (firstLargest (changesOf n j (correlated n rows) c)) b
+        test = higher-test (firstLargest (changesOf n j (correlated n rows) c)) b (share ∙ sym largest-figure) (sym (largest-names (blocks n rows j n-low j-low) c))
 
-          no-more : (t : ℕ) → Within j (2 ^ n) t → correlated n rows c t ≤ correlated n rows c s
-          no-more t u = omega (arith, figure-is, most (change (correlated n rows) c t) (in-changesOf n j (correlated n rows) c t u))
+        -- the best so far is kept
+        pub stays : preferred (b .figure) figure c (at (b .witness) 0) ≡ false → b ≡ best (ranked higher outputs) b (firstLargest (changesOf n j (correlated n rows) c) ∷ [])
+        unfolding best
+        stays h = sym (best-keeps (ranked higher outputs) b (firstLargest (changesOf n j (correlated n rows) c)) [] (sym test ∙ h))
 
-          earlier : (t : ℕ) → Within j (2 ^ n) t → t < s → correlated n rows c t < correlated n rows c s
-          earlier t u l = pick (decLt (correlated n rows c t) (correlated n rows c s))
-            where
-              pick : Dec (correlated n rows c t < correlated n rows c s) → correlated n rows c t < correlated n rows c s
-              pick (yes k) = k
-              pick (no k) =
-                  let low : correlated n rows c t ≤ correlated n rows c s = no-more t u in
-                  let same : correlated n rows c t ≡ correlated n rows c s = omega arith in
-                  absurd (place .first t l (inside u) (size-is t (u .high) ∙ ap (λ (k : ℕ). 2 ^ n * k) same ∙ sym (size-is s (w .high)) ∙ place .has))
+        -- or the first that has the largest takes its place; then it is not 0, for at the figure 0 no component has fewer outputs than the best
+        pub largest-some : 1 ≤ c → (b .figure ≡ 0 → outputs b ≤ 1) → preferred (b .figure) figure c (at (b .witness) 0) ≡ true → 0 < largest
+        largest-some c-low single h = pick (decLt 0 figure)
+          where
+            pick : Dec (0 < figure) → 0 < largest
+            pick (yes l) = omega (arith, div-le-self largest (2 ^ n))
+            pick (no l) = absurd (wrong (ltb (b .figure) figure) (eqb (b .figure) figure) (ltb (ones c) (outputs b)) refl refl refl h)
+              where
+                wrong : (x y z : Bool) → ltb (b .figure) figure ≡ x → eqb (b .figure) figure ≡ y → ltb (ones c) (outputs b) ≡ z → (x || (y && z)) ≡ true → ⊥
+                wrong true y z p q r t = omega (arith, ltb-true (b .figure) figure p)
+                wrong false true true p q r t =
+                    let e = eqb-true (b .figure) figure q in
+                    let few = single (omega arith) in
+                    omega (arith, ltb-true (ones c) (outputs b) r, ones-pos c c-low)
+                wrong false true false p q r t = false≢true t
+                wrong false false z p q r t = false≢true t
 
-          before : (q : Candidate) → List·Memᴰ q (changesOf n j (correlated n rows) c) → changeRank n q < changeRank n r → q .figure < r .figure
-          before q k l =
-              let t = mem-changesOf n j (correlated n rows) c q k in
-              omega (arith, ap (λ (r : Candidate). r .figure) (t .2), earlier (t .0) (t .1) (omega (arith, ap (changeRank n) (t .2))))
+        pub replaced : preferred (b .figure) figure c (at (b .witness) 0) ≡ true → {s : ℕ} → FirstWithin values j largest s
+            → record { figure = figure; witness = c ∷ s ∷ [] } ≡ best (ranked higher outputs) b (firstLargest (changesOf n j (correlated n rows) c) ∷ [])
+        unfolding best firstLargest
+        replaced h {s} place =
+            ap (λ (k : ℕ). record { figure = k; witness = c ∷ s ∷ [] }) figure-is ∙ sym widest
+            ∙ sym (best-takes (ranked higher outputs) b (firstLargest (changesOf n j (correlated n rows) c)) [] (sym test ∙ h))
+          where
+            w : Within j (2 ^ n) s
+            w = outside (place .within)
 
-          widest : best higher b (changesOf n j (correlated n rows) c) ≡ r
-          widest =
-              best-is higher b r (lt-ltb (b .figure) (r .figure) (omega (arith, figure-is)))
-              (ranked-first (changeRank n) (λ r q. higher r q ≡ true) r (changesOf n j (correlated n rows) c) (ascending-changesOf n j (correlated n rows) c)
-              (in-changesOf n j (correlated n rows) c s w) (λ q k l. lt-ltb (q .figure) (r .figure) (before q k l)))
-              (λ q k. le-ltb (r .figure) (q .figure) (omega (arith, figure-is, most q k)))
+            figure-is : figure ≡ correlated n rows c s
+            figure-is = share ∙ share-at s (w .high) (place .has)
+
+            r : Candidate
+            r = change (correlated n rows) c s
+
+            no-more : (t : ℕ) → Within j (2 ^ n) t → correlated n rows c t ≤ correlated n rows c s
+            no-more t u = omega (arith, figure-is, most (change (correlated n rows) c t) (in-changesOf n j (correlated n rows) c t u))
+
+            earlier : (t : ℕ) → Within j (2 ^ n) t → t < s → correlated n rows c t < correlated n rows c s
+            earlier t u l = pick (decLt (correlated n rows c t) (correlated n rows c s))
+              where
+                pick : Dec (correlated n rows c t < correlated n rows c s) → correlated n rows c t < correlated n rows c s
+                pick (yes k) = k
+                pick (no k) =
+                    let low : correlated n rows c t ≤ correlated n rows c s = no-more t u in
+                    let same : correlated n rows c t ≡ correlated n rows c s = omega arith in
+                    absurd (place .first t l (inside u) (size-is t (u .high) ∙ ap (λ (k : ℕ). 2 ^ n * k) same ∙ sym (size-is s (w .high)) ∙ place .has))
+
+            -- (within one component the ranks rise whatever m is)
+            before : (q : Candidate) → List·Memᴰ q (changesOf n j (correlated n rows) c) → changeRank n 0 q < changeRank n 0 r → q .figure < r .figure
+            before q k l =
+                let t = mem-changesOf n j (correlated n rows) c q k in
+                omega (arith, ap (λ (r : Candidate). r .figure) (t .2), earlier (t .0) (t .1) (omega (arith, ap (changeRank n 0) (t .2))))
+
+            widest : firstLargest (changesOf n j (correlated n rows) c) ≡ r
+            widest =
+                first-is higher r
+                (ranked-first (changeRank n 0) (λ r q. higher r q ≡ true) r (changesOf n j (correlated n rows) c) (ascending-changesOf n j (correlated n rows) c 0)
+                (in-changesOf n j (correlated n rows) c s w) (λ q k l. lt-ltb (q .figure) (r .figure) (before q k l)))
+                (λ q k. le-ltb (r .figure) (q .figure) (omega (arith, figure-is, most q k)))

@@ -10,7 +10,7 @@ use lib.ListN.{length}
 use Rattle.boolean.specs.Sums.{listBelow, each}
 use Rattle.boolean.specs.Functions.{valueAt, autocorrelation, component, Within}
 use Rattle.boolean.specs.Selection.{Candidate, shown}
-use Rattle.refusals.specs.Table.{Check, _unless_, first, inRange, boxChecks, limitChecks, Reply, figures, refusal, number, replyAfter, asFigure}
+use Rattle.refusals.specs.Table.{Check, _unless_, first, inRange, boxChecks, limitChecks, Reply, figures, refusal, number, replyAfter, asFigure, Box}
 use Rattle.refusals.specs.declared.Refusal.the-variants.{Parameter}
 use Rattle.avalanche.specs.Avalanche.{shifts, atMost, boxAutocorrelation, dynamicDistance, complete}
 use Rattle.avalanche.specs.declared.FoundChange.{FoundChange}
@@ -64,6 +64,15 @@ change figure c s = record { figure = figure c s; witness = c ∷ s ∷ [] }
 
 unfoldable pub changesOf : ℕ → ℕ → (ℕ → ℕ → ℕ) → ℕ → List Candidate
 changesOf n j figure c = each (atMost j (shifts n)) (λ s. change figure c s ∷ [])
+
+-- the correlations of component c, to be compared with the best so far. A best of figure 0 has a single output, so that no component is preferred to
+-- it for fewer outputs.
+pub record Compared (n m : ℕ) (rows : List ℕ) (j : ℕ) (found : FoundChange) (c : ℕ) (values : List ℤ) : Type 0 where
+  pub box : Box n m rows
+  pub j-low : 1 ≤ j
+  pub c-low : 1 ≤ c
+  pub values-are : values ≡ correlations n rows c
+  pub single : found .figure ≡ 0 → ones (found .c) ≤ 1
 
 -- the magnitude of a value at s, or 0 where s has more than j ones
 unfoldable pub sizeWithin : ℕ → ℕ → ℤ → ℕ

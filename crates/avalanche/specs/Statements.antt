@@ -3,18 +3,18 @@ use Prim.Native.Nat.{ℕ, _+_, _*_, _^_, _<_, _≤_}
 use mathlib.Core.Path.{_≡_}
 use mathlib.Core.Logic.{_⊎_}
 use mathlib.Core.List.{List, [], _∷_}
-use Rattle.boolean.specs.Functions.{at, component, Within}
+use Rattle.boolean.specs.Functions.{at, component, Within, MaskBefore, maskRank}
 use Rattle.boolean.specs.Selection.{Candidate}
 use Rattle.avalanche.specs.Avalanche.{imbalance}
 use Rattle.avalanche.specs.Calls.{change}
 
--- (c′, s′) comes before (c, s): by c, then s
+-- (c′, s′) comes before (c, s): by c in the components' order, then s
 abbrev pub Before : (c′ s′ c s : ℕ) → Type 0
-Before c′ s′ c s = (c′ < c) ⊎ ((c′ ≡ c) × (s′ < s))
+Before c′ s′ c s = MaskBefore c′ c ⊎ ((c′ ≡ c) × (s′ < s))
 
 -- a change's number in that order
-abbrev pub changeRank : ℕ → Candidate → ℕ
-changeRank n p = at (p .witness) 0 * 2 ^ n + at (p .witness) 1
+abbrev pub changeRank : ℕ → ℕ → Candidate → ℕ
+changeRank n m p = maskRank m (at (p .witness) 0) * 2 ^ n + at (p .witness) 1
 
 -- r is the first of the largest figures over components with at most i ones and changes with at most j
 pub record Widest (n m i j : ℕ) (figure : ℕ → ℕ → ℕ) (r : Candidate) : Type 0 where

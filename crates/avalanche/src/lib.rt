@@ -4,6 +4,7 @@ use refusals::Refusal;
 use refusals::Verdict;
 ghost use mathlib.Core.Path.{_≡_};
 ghost use mathlib.Core.Bool.{not};
+ghost use mathlib.Core.List.{[], _∷_};
 ghost use Prim.Native.Nat.{ℕ, _*_, _^_, _≤_, _<_};
 ghost use lib.Dec.{eqb};
 ghost use lib.IntN.{_*ℤ_, natAbs};
@@ -11,14 +12,15 @@ ghost use lib.ListN.{length};
 ghost use Rattle.boolean.specs.Bits.{bit};
 ghost use Rattle.boolean.specs.Sums.{listFrom, listBelow, every};
 ghost use Rattle.boolean.specs.Functions.{valueAt, changes, column};
-ghost use Rattle.boolean.specs.Selection.{best, higher, firstLargest};
+ghost use Rattle.boolean.specs.Selection.{best, higher, firstLargest, ranked};
 ghost use Rattle.refusals.specs.Table.{first, verdict, Box};
 ghost use Rattle.walsh.specs.Work.{Spectra};
+ghost use Rattle.masks.specs.Masks.{outputs};
 ghost use Rattle.masks.specs.Steps.{Stepping};
 ghost use Rattle.linear.specs.Calls.{Swept};
 ghost use Rattle.avalanche.specs.Avalanche.{measured};
 ghost use Rattle.avalanche.specs.Avalanche as spec;
-ghost use Rattle.avalanche.specs.Calls.{distanceChecks, changeReply, autocorrelationReply, distanceReply, completeReply, candidate, truthTable, correlations, correlated, changesOf, sizeWithin, LargestWithin, FirstWithin};
+ghost use Rattle.avalanche.specs.Calls.{distanceChecks, changeReply, autocorrelationReply, distanceReply, completeReply, candidate, truthTable, correlations, correlated, changesOf, sizeWithin, Compared, LargestWithin, FirstWithin};
 
 // The best so far.
 pub struct FoundChange {
@@ -170,7 +172,8 @@ fn first_within(values: &[i32], j: u32, largest: u32) -> u32
     place
 }
 
-// The best change so far, with those of component c, whose autocorrelation is given 2^n times. It is divided once, after the scan.
+// The best change so far, or the first best of component c, whose autocorrelation is given 2^n times: by the figure, and among equal figures by fewer
+// outputs. The figure is divided once, after the scan, and its change is looked for only where it is taken.
 fn with_correlation(
     found: FoundChange,
     n: u32,
@@ -180,12 +183,12 @@ fn with_correlation(
     c: u32,
     values: &[i32],
 ) -> FoundChange
-    requires { ⌜ Box n m (now rows) × (now values ≡ correlations n (now rows) c) ⌝ }
-    ensures { λ r. ⌜ candidate r ≡ best higher (candidate found) (changesOf n j (correlated n (now (rows .entry))) c) ⌝ }
+    requires { ⌜ Compared n m (now rows) j found c (now values) ⌝ }
+    ensures { λ r. ⌜ candidate r ≡ best (ranked higher outputs) (candidate found) (firstLargest (changesOf n j (correlated n (now (rows .entry))) c) ∷ []) ⌝ }
 {
     let largest = largest_within(n, values, j);
     let figure = largest / rows.len() as u32;
-    if found.figure < figure {
+    if masks::is_preferred(found.figure, figure, c, found.c) {
         let s = first_within(values, j, largest);
         FoundChange { figure, c, s }
     } else {

@@ -1,25 +1,13 @@
--- The first largest: from a start of figure 0, where all figures are 0, and after a change of the figures that keeps their order.
-use mathlib.Core.Path.{_≡_, refl, sym, ap, ap₂, _∙_}
+-- The first largest: where all figures are 0, and after a change of the figures that keeps their order.
+use mathlib.Core.Path.{_≡_, refl, sym, ap, _∙_}
 use mathlib.Core.Bool.{Bool}
 use mathlib.Core.List.{List, [], _∷_}
-use Prim.Native.Nat.{ℕ, zero, suc, _<_}
+use Prim.Native.Nat.{ℕ, _<_}
 use native.Mathlib.Omega.{arith}
-use borrow.Author.Tests.{lt-ltb, le-ltb}
 use lib.Dec.{ltb}
 use Rattle.boolean.specs.Sums.{each}
 use Rattle.boolean.specs.Selection.{Candidate, best, higher, firstLargest, First, here, there}
 use Rattle.boolean.proofs.Selection.{best-takes, best-keeps, best-step, firstLargest-first}
-
--- a loop starts from the figure 0 with the first candidate's witness
-pub firstLargest-start : (b c : Candidate) (cs : List Candidate) → b .figure ≡ 0 → b .witness ≡ c .witness → best higher b (c ∷ cs) ≡ firstLargest (c ∷ cs)
-unfolding firstLargest
-firstLargest-start b c cs z w = go (c .figure) refl
-  where
-    go : (k : ℕ) → c .figure ≡ k → best higher b (c ∷ cs) ≡ best higher c cs
-    go zero e =
-        best-keeps higher b c cs (le-ltb (b .figure) (c .figure) (omega arith))
-        ∙ ap (λ (d : Candidate). best higher d cs) (ap₂ (λ (k : ℕ) (l : List ℕ). record { figure = k; witness = l }) (z ∙ sym e) w)
-    go (suc k) e = best-takes higher b c cs (lt-ltb (b .figure) (c .figure) (omega arith))
 
 -- a largest figure of 0 is the first candidate's
 pub firstLargest-none : (c : Candidate) (cs : List Candidate) → firstLargest (c ∷ cs) .figure ≡ 0 → firstLargest (c ∷ cs) ≡ c

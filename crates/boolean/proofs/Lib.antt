@@ -13,6 +13,7 @@ pub mod Counted
 pub mod Largest
 pub mod Selection
 pub mod FirstLargest
+pub mod Blocks
 pub mod Lists
 pub mod Kept
 pub mod Components

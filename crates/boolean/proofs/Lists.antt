@@ -63,6 +63,11 @@ module _ {A : Type 0} where
   unfolding listBelow
   listBelow-more k g = listFrom-more 0 k g ∙ ap (λ (z : ℕ). listFrom 0 k g ++ (g z ∷ [])) (zero-add k)
 
+  -- a list with a member has a first one
+  pub some-member : {x : A} (l : List A) → List·Memᴰ x l → (y : A) × (ys : List A) × (l ≡ y ∷ ys)
+  some-member [] m = absurd (List·Memᴰ·not-nil m)
+  some-member (y ∷ ys) m = (y, ys, refl)
+
   -- the members are the elements
   pub mem-listFrom : (i k : ℕ) (g : ℕ → A) (x : A) → List·Memᴰ x (listFrom i k g) → (j : ℕ) × (i ≤ j) × (j < i + k) × (x ≡ g j)
   unfolding listFrom

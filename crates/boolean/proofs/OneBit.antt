@@ -3,6 +3,7 @@ use mathlib.Core.Path.{_≡_, refl, sym, ap, _∙_}
 use Prim.Native.Nat.{ℕ, zero, suc, _+_, _*_, _/_, _%_, _^_, _<_, _≤_}
 use native.Mathlib.Nat.{add-zero, one-mul, mod-lt, zero-lt-suc, two-pow-succ}
 use native.Mathlib.Omega.{arith}
+use lib.Arith.{bin-ind}
 use lib.Pow.{pow-pos}
 use lib.Count.{ones, onesIn, ones-step, ones-cat}
 use Rattle.boolean.proofs.Dots.{bit-cases}
@@ -19,6 +20,14 @@ pub ones-power : (p : ℕ) → ones (2 ^ p) ≡ 1
 ones-power p =
     ap ones (sym (add-zero (1 * 2 ^ p) ∙ one-mul (2 ^ p))) ∙ ones-cat p 1 0 (pow-pos p)
     ∙ ap (λ (k : ℕ). ones 1 + k) ones-none ∙ ap (λ (k : ℕ). k + 0) ones-one
+
+-- what is not 0 has a 1
+pub ones-pos : (n : ℕ) → 0 < n → 0 < ones n
+ones-pos = bin-ind (λ n. 0 < n → 0 < ones n) (λ h. absurd (omega arith))
+    (λ n ih h. bit-cases (λ b. n % 2 ≡ b → 0 < ones n)
+    (λ e. omega (arith, ones-step n, ih (omega arith)))
+    (λ e. omega (arith, ones-step n))
+    (n % 2) (mod-lt n (zero-lt-suc 1)) refl)
 
 -- a number with no 1 is 0
 no-ones : (k v : ℕ) → v < 2 ^ k → ones v ≡ 0 → v ≡ 0

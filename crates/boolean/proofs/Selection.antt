@@ -64,6 +64,24 @@ module _ {C : Type 0} (beats : C → C → Bool) where
   best-is b r t (there {c} {cs} s f) h =
       best-step (λ z. z ≡ r) b c cs (λ e. best-is c r s f (λ d m. h d (List·Memᴰ·tail m))) (λ e. best-is b r t f (λ d m. h d (List·Memᴰ·tail m)))
 
+  -- a start that the first candidate equals, or that it beats, leaves no trace
+  pub best-from : (b c : C) (cs : List C) → (b ≡ c) ⊎ (beats c b ≡ true) → best beats b (c ∷ cs) ≡ best beats c cs
+  best-from b c cs (inl e) = best-step (λ z. z ≡ best beats c cs) b c cs (λ t. refl) (λ t. ap (λ (z : C). best beats z cs) e)
+  best-from b c cs (inr t) = best-takes b c cs t
+
+-- along rising ranks, two comparisons that agree on a candidate and one of a lower rank choose the same
+pub best-agrees : {C : Type 0} (beats other : C → C → Bool) (rank : C → ℕ) (b : C) (cs : List C) → Ascending rank (b ∷ cs)
+    → ((x y : C) → List·Memᴰ y cs → rank x < rank y → beats y x ≡ other y x) → best beats b cs ≡ best other b cs
+unfolding best
+best-agrees beats other rank b [] a h = refl
+best-agrees beats other rank b (c ∷ cs) a h =
+    let same = h b c (List·Memᴰ·head refl) (a .0 c (List·Memᴰ·head refl)) in
+    best-step beats (λ z. z ≡ best other b (c ∷ cs)) b c cs
+    (λ e. best-agrees beats other rank c cs (a .1) (λ x y m. h x y (List·Memᴰ·tail m)) ∙ sym (best-takes other b c cs (sym same ∙ e)))
+    (λ e.
+    best-agrees beats other rank b cs (λ d m. a .0 d (List·Memᴰ·tail m), a .1 .1) (λ x y m. h x y (List·Memᴰ·tail m))
+    ∙ sym (best-keeps other b c cs (sym same ∙ e)))
+
 -- a comparison that goes by an order: R, at least as good as; S, better than
 pub record Ordered {C : Type 0} (beats : C → C → Bool) (R S : C → C → Type 0) : Type 0 where
   pub same : (a : C) → R a a
@@ -200,6 +218,12 @@ firstLargest-above b (x ∷ cs) e c m l =
     let z = ltb-false (b .figure) (x .figure) t in
     best-same b x cs (omega arith) c (of-cons (λ d. 0 < d .figure → List·Memᴰ d cs) (λ k. absurd (omega arith)) (λ n k. n) m l) (omega arith))
 
+-- the first best is r where r beats each candidate before it, and none beats r
+pub first-is : (beats : Candidate → Candidate → Bool) (r : Candidate) {cs : List Candidate} → First (λ r c. beats r c ≡ true) r cs
+    → ((c : Candidate) → List·Memᴰ c cs → beats c r ≡ false) → firstBest beats cs ≡ r
+first-is beats r (here {cs}) h = best-stays beats r cs (λ d m. h d (List·Memᴰ·tail m))
+first-is beats r (there {c} {cs} s f) h = best-is beats c r s f (λ d m. h d (List·Memᴰ·tail m))
+
 -- ---- ties broken by a rank
 -- along rising ranks, no two of one rank
 pub ascending-one : {C : Type 0} (rank : C → ℕ) (cs : List C) → Ascending rank cs → (x y : C) → List·Memᴰ x cs → List·Memᴰ y cs → rank x ≡ rank y → x ≡ y
@@ -221,18 +245,9 @@ module _ (beats : Candidate → Candidate → Bool) (rank : Candidate → ℕ) w
       tidy false true = refl
       tidy false false = refl
 
-  best-is-ranked : (b : Candidate) (cs : List Candidate) → Ascending rank (b ∷ cs) → best beats b cs ≡ best (ranked beats rank) b cs
-  unfolding best
-  best-is-ranked b [] a = refl
-  best-is-ranked b (c ∷ cs) a =
-      let same = agree b c (a .0 c (List·Memᴰ·head refl)) in
-      best-step beats (λ z. z ≡ best (ranked beats rank) b (c ∷ cs)) b c cs
-      (λ e. best-is-ranked c cs (a .1) ∙ sym (best-takes (ranked beats rank) b c cs (same ∙ e)))
-      (λ e. best-is-ranked b cs (λ d m. a .0 d (List·Memᴰ·tail m), a .1 .1) ∙ sym (best-keeps (ranked beats rank) b c cs (same ∙ e)))
-
   pub first-is-ranked : (cs : List Candidate) → Ascending rank cs → firstBest beats cs ≡ firstBest (ranked beats rank) cs
   first-is-ranked [] a = refl
-  first-is-ranked (c ∷ cs) a = best-is-ranked c cs a
+  first-is-ranked (c ∷ cs) a = best-agrees beats (ranked beats rank) rank c cs a (λ x y m l. sym (agree x y l))
 
 -- an order of candidates that goes by their figures alone
 pub record ByFigure (R S : Candidate → Candidate → Type 0) : Type 0 where
@@ -240,10 +255,10 @@ pub record ByFigure (R S : Candidate → Candidate → Type 0) : Type 0 where
   pub unequal : (a b : Candidate) → R a b → (a .figure ≡ b .figure → ⊥) → S a b
   pub strict : (a b : Candidate) → S a b → R b a → ⊥
 
-by-least : ByFigure Le Lt
+pub by-least : ByFigure Le Lt
 by-least = omega arith
 
-by-largest : ByFigure Ge Gt
+pub by-largest : ByFigure Ge Gt
 by-largest = omega arith
 
 module _ {beats : Candidate → Candidate → Bool} {R S : Candidate → Candidate → Type 0} (o : Ordered beats R S) (f : ByFigure R S) (rank : Candidate → ℕ) where
@@ -286,6 +301,11 @@ module _ {beats : Candidate → Candidate → Bool} {R S : Candidate → Candida
     wins = lex-wins;
     loses = lex-loses;
   }
+
+  -- the ranked choice is better than each candidate, or has its figure and no higher rank
+  pub ranked-all : (b : Candidate) (cs : List Candidate) (c : Candidate) → List·Memᴰ c (b ∷ cs)
+      → S (best (ranked beats rank) b cs) c ⊎ ((best (ranked beats rank) b cs .figure ≡ c .figure) × (rank (best (ranked beats rank) b cs) ≤ rank c))
+  ranked-all = best-all ranked-ordered
 
   -- the same candidates in any order, repeated or not, no two of one rank
   pub ranked-order : (cs ds : List Candidate) → ((x y : Candidate) → List·Memᴰ x cs → List·Memᴰ y cs → rank x ≡ rank y → x ≡ y) → SameMembers cs ds

@@ -6,11 +6,11 @@ use mathlib.Core.Bool.{Bool, true, false, not, cond, _&&_}
 use mathlib.Core.List.{List, [], _∷_}
 use lib.Bits.{bitAnd, bitXor}
 use lib.Count.{ones}
-use lib.Dec.{eqb, leb}
+use lib.Dec.{eqb}
 use lib.ListN.{getD}
 use lib.IntN.{ℤ, pos, negsuc, _*ℤ_, negℤ, natAbs}
 use Rattle.boolean.specs.Bits.{parity, dot, affine, bit, within}
-use Rattle.boolean.specs.Sums.{sumBelow, countBelow, xorBelow, largestBelow, listFrom, listBelow, keep}
+use Rattle.boolean.specs.Sums.{sumBelow, countBelow, xorBelow, largestBelow, listFrom, listBelow, each, keep}
 
 -- every value of f at an input of n bits is 0 or 1
 abbrev pub Boolean : ℕ → (ℕ → ℕ) → Type 0
@@ -90,10 +90,19 @@ pub record Within (k end v : ℕ) : Type 0 where
   pub high : v < end
   pub few : ones v ≤ k
 
--- the masks of a box's components within the limit i, in the order in which they come: from 1 to 2^m − 1, those with at most i ones
+-- the masks of a box's components within the limit i, in the order in which they come: for k = 1, 2, .., i those from 1 to 2^m − 1 that have
+-- k ones, so that fewer ones come first, and of as many ones the smaller mask
 unfoldable pub components : ℕ → ℕ → List ℕ
-unfolding keep listFrom
-components m i = keep (λ c. leb (ones c) i) (listFrom 1 (2 ^ m - 1) (λ c. c))
+unfolding each keep listFrom
+components m i = each (listFrom 1 i (λ k. k)) (λ k. keep (λ c. eqb (ones c) k) (listFrom 1 (2 ^ m - 1) (λ c. c)))
+
+-- the mask c′ comes before c in that order (for theorems; no contract needs it)
+abbrev pub MaskBefore : ℕ → ℕ → Type 0
+MaskBefore c′ c = (ones c′ < ones c) ⊎ ((ones c′ ≡ ones c) × (c′ < c))
+
+-- a number for each mask below 2^m that rises along that order (for theorems too)
+abbrev pub maskRank : ℕ → ℕ → ℕ
+maskRank m c = ones c * 2 ^ m + c
 
 -- a truth value as a sign: 0 is +1, and 1 is −1
 unfoldable pub sign : ℕ → ℤ

@@ -45,6 +45,10 @@ unfoldable pub firstLargest : List Candidate → Candidate
 unfolding best
 firstLargest cs = firstBest higher cs
 
+-- c beats b, or has the same figure and a lower rank: with a rank of its own for each candidate, the order of visiting does not matter
+abbrev pub ranked : (Candidate → Candidate → Bool) → (Candidate → ℕ) → Candidate → Candidate → Bool
+ranked beats rank c b = beats c b || (eqb (c .figure) (b .figure) && ltb (rank c) (rank b))
+
 -- What the laws of a selection and the theorems on figures say; no contract needs it.
 
 -- the ranks rise along a list
@@ -55,10 +59,6 @@ Ascending {C} rank (c ∷ cs) = ((d : C) → List·Memᴰ d cs → rank c < rank
 -- the same members, in any order, once or more often
 abbrev pub SameMembers : {C : Type 0} → List C → List C → Type 0
 SameMembers {C} xs ys = (x : C) → List·Memᴰ x xs ↔ List·Memᴰ x ys
-
--- c beats b, or has the same figure and a lower rank: with ranks, the order of visiting does not matter
-abbrev pub ranked : (Candidate → Candidate → Bool) → (Candidate → ℕ) → Candidate → Candidate → Bool
-ranked beats rank c b = beats c b || (eqb (c .figure) (b .figure) && ltb (rank c) (rank b))
 
 -- r stands in the list, and S holds of it and each candidate before it
 pub data First {C : Type 0} (S : C → C → Type 0) (r : C) : List C → Type 0 where

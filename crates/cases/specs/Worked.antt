@@ -157,7 +157,7 @@ cases =
     ∷ (holds (drop 8 (columnOf 3 case8 1 1 sixteen)) is holds (0 ∷ 0 ∷ 1 ∷ 1 ∷ 0 ∷ 1 ∷ 0 ∷ 1 ∷ []))
     -- 9
     ∷ (holds case9 is holds (11 ∷ 1 ∷ 4 ∷ 0 ∷ 10 ∷ 13 ∷ 6 ∷ 15 ∷ 9 ∷ 3 ∷ 8 ∷ 12 ∷ 5 ∷ 2 ∷ 7 ∷ 14 ∷ []))
-    ∷ (nonlinearityOf 4 4 (11 ∷ 1 ∷ 4 ∷ 0 ∷ 10 ∷ 13 ∷ 6 ∷ 15 ∷ 9 ∷ 3 ∷ 8 ∷ 12 ∷ 5 ∷ 2 ∷ 7 ∷ 14 ∷ []) 4 is says (figures (0 ∷ 7 ∷ 15 ∷ 0 ∷ [])))
+    ∷ (nonlinearityOf 4 4 (11 ∷ 1 ∷ 4 ∷ 0 ∷ 10 ∷ 13 ∷ 6 ∷ 15 ∷ 9 ∷ 3 ∷ 8 ∷ 12 ∷ 5 ∷ 2 ∷ 7 ∷ 14 ∷ []) 4 is says (figures (0 ∷ 12 ∷ 1 ∷ 1 ∷ [])))
     -- 10
     ∷ (holds case10 is holds (0 ∷ 0 ∷ 0 ∷ 0 ∷ 0 ∷ 1 ∷ 0 ∷ 1 ∷ 0 ∷ 0 ∷ 1 ∷ 1 ∷ 0 ∷ 1 ∷ 1 ∷ 0 ∷ []))
     ∷ (nonlinearityOf 4 1 (0 ∷ 0 ∷ 0 ∷ 0 ∷ 0 ∷ 1 ∷ 0 ∷ 1 ∷ 0 ∷ 0 ∷ 1 ∷ 1 ∷ 0 ∷ 1 ∷ 1 ∷ 0 ∷ []) 1 is says (figures (6 ∷ 1 ∷ 0 ∷ 0 ∷ [])))
@@ -205,6 +205,11 @@ bounds =
     ∷ (nonlinearityOf 3 3 case9Rows 3 is says (figures (0 ∷ 7 ∷ 7 ∷ 0 ∷ [])))
     ∷ (degreeOf 3 3 case9Rows 2 is says (figures (2 ∷ 1 ∷ [])))
     ∷ (degreeOf 3 3 case9Rows 3 is says (figures (1 ∷ 7 ∷ [])))
+    -- fewest outputs first: column 3 of this box is affine, and so are columns 1 and 2 together; c = 4 is preferred to c = 3
+    ∷ (nonlinearityOf 2 3 (0 ∷ 2 ∷ 4 ∷ 5 ∷ []) 3 is says (figures (0 ∷ 4 ∷ 2 ∷ 0 ∷ [])))
+    ∷ (autocorrelationOf 2 3 (0 ∷ 2 ∷ 4 ∷ 5 ∷ []) 3 is says (figures (4 ∷ 4 ∷ 1 ∷ [])))
+    ∷ (distanceOf 2 3 (0 ∷ 2 ∷ 4 ∷ 5 ∷ []) 3 2 is says (figures (2 ∷ 4 ∷ 1 ∷ [])))
+    ∷ (degreeOf 2 3 (0 ∷ 2 ∷ 4 ∷ 5 ∷ []) 3 is says (figures (1 ∷ 4 ∷ [])))
     -- enlarging a column: the width, the input, the constant, and the written array
     ∷ (columnReply 7 (zeros 7) 7 0 (zeros 8) is says (figures []))
     ∷ (columnReply 8 (zeros 8) 7 0 (zeros 9) is says (refusal 1))

@@ -30,13 +30,13 @@ module _ (n m : ℕ) (rows : List ℕ) (i : ℕ) where
   -- "Combinations may be visited in any order without effect on any answer." Over any list with the members of `pairs`, in any order and some of
   -- them more than once, the pair that differs at the fewest inputs, and of those the one of the lowest rank, is the nonlinearity with its witness.
   pub nonlinearity-any-order : (visited : List Candidate) → SameMembers visited (pairs n m rows i)
-      → firstBest (ranked lower (pairRank n)) visited ≡ nonlinearity n m rows i
+      → firstBest (ranked lower (pairRank n m)) visited ≡ nonlinearity n m rows i
   unfolding nonlinearity
-  nonlinearity-any-order visited = firstLeast-any-order (pairRank n) (pairs n m rows i) visited (ascending-pairs n m rows i)
+  nonlinearity-any-order visited = firstLeast-any-order (pairRank n m) (pairs n m rows i) visited (ascending-pairs n m rows i)
 
   -- so where the components are visited in any order, each with its pairs
   pub nonlinearity-any-component-order : (order : List ℕ) → SameMembers order (components m i)
-      → firstBest (ranked lower (pairRank n)) (each order (pairsOf n rows)) ≡ nonlinearity n m rows i
+      → firstBest (ranked lower (pairRank n m)) (each order (pairsOf n rows)) ≡ nonlinearity n m rows i
   unfolding pairs
   nonlinearity-any-component-order order same =
       nonlinearity-any-order (each order (pairsOf n rows)) (each-same order (components m i) (pairsOf n rows) same)
@@ -55,10 +55,10 @@ module _ (n m : ℕ) (rows : List ℕ) (i : ℕ) where
     unfolding nonlinearity
     first c w b e c′ w′ b′ h l =
         let t = pairs-nonempty n m rows i m-low i-low in
-        first-ranked (pairRank n) (λ r p. r .figure < p .figure) (ascending-pairs n m rows i)
+        first-ranked (pairRank n m) (λ r p. r .figure < p .figure) (ascending-pairs n m rows i)
         (subst (λ (l : List Candidate). First (λ r p. r .figure < p .figure) (firstLeast l) l) (sym (t .2)) (firstLeast-first (t .0) (t .1)))
         (pair n rows c′ w′ b′) (in-pairs n m rows i c′ w′ b′ h)
-        (omega (arith, ap (pairRank n) e, before-rank n c′ w′ b′ c w b (h .w-high) (h .b-high) l))
+        (omega (arith, ap (pairRank n m) e, before-rank n m c′ w′ b′ c w b (h .mask .high) (h .w-high) (h .b-high) l))
 
     -- ---- the covering bound
     boolean : (c x : ℕ) → x < 2 ^ n → component rows c x < 2

@@ -3,14 +3,15 @@ use refusals::Checked;
 use refusals::Refusal;
 use refusals::Written;
 ghost use mathlib.Core.Path.{_≡_};
-ghost use mathlib.Core.List.{[]};
+ghost use mathlib.Core.List.{[], _∷_};
 ghost use Prim.Native.Nat.{_*_, _^_, _≤_, _<_};
 ghost use lib.ListN.{length};
 ghost use Rattle.boolean.specs.Sums.{listBelow};
 ghost use Rattle.boolean.specs.Functions.{component, spectrum};
-ghost use Rattle.boolean.specs.Selection.{best, lower};
+ghost use Rattle.boolean.specs.Selection.{best, lower, firstLeast, ranked};
 ghost use Rattle.refusals.specs.Table.{first, replyAfter, contentAfter, written, Box};
 ghost use Rattle.walsh.specs.Work.{Spectra};
+ghost use Rattle.masks.specs.Masks.{outputs};
 ghost use Rattle.masks.specs.Steps.{Stepping};
 ghost use Rattle.linear.specs.Nonlinearity.{pairsOf, nonlinearityReply};
 ghost use Rattle.linear.specs.Nonlinearity as spec;
@@ -127,15 +128,15 @@ fn first_place(values: &[i32], size: u32) -> usize
     w
 }
 
-// The best pair so far, with those of component c, whose spectrum is given. The largest magnitude has the fewest differing inputs, and
-// its sign decides b.
+// The best pair so far, or the first nearest pair of component c, whose spectrum is given: by the count, and among equal counts by fewer outputs.
+// The largest magnitude has the fewest differing inputs, and its sign decides b. Its place is looked for only where the pair is taken.
 fn with_spectrum(found: Found, n: u32, m: u32, rows: &[u32], c: u32, values: &[i32]) -> Found
     requires { ⌜ Box n m (now rows) × (now values ≡ spectrum n (component (now rows) c)) ⌝ }
-    ensures { λ r. ⌜ candidate r ≡ best lower (candidate found) (pairsOf n (now (rows .entry)) c) ⌝ }
+    ensures { λ r. ⌜ candidate r ≡ best (ranked lower outputs) (candidate found) (firstLeast (pairsOf n (now (rows .entry)) c) ∷ []) ⌝ }
 {
     let largest = largest_magnitude(values);
     let count = (rows.len() as u32 - largest) / 2;
-    if count < found.count {
+    if masks::is_preferred(count, found.count, c, found.c) {
         let w = first_place(values, largest);
         let b = boolean::sign_bit(values[w]);
         Found {

@@ -4,4 +4,5 @@ pub mod NextMask
 pub mod Runs
 pub mod Stepped
 pub mod Walk
+pub mod Fewest
 pub mod Boxes

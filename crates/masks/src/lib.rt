@@ -7,7 +7,7 @@ ghost use lib.ListN.{length};
 ghost use Rattle.boolean.specs.Bits.{dot};
 ghost use Rattle.boolean.specs.Sums.{listBelow};
 ghost use Rattle.boolean.specs.Functions.{at, component};
-ghost use Rattle.masks.specs.Masks.{Next, Raised};
+ghost use Rattle.masks.specs.Masks.{Next, Raised, preferred};
 ghost use Rattle.masks.specs.Steps.{run, Steps, Stepping};
 
 // The next mask with at most `limit` ones: c + 1 where c has fewer, and else c with its lowest one added.
@@ -19,6 +19,21 @@ pub fn next_mask(limit: u32, c: u64) -> u64
         c + 1
     } else {
         c + (1u64 << u64::trailing_zeros(c))
+    }
+}
+
+// Whether mask c is to be preferred to the best so far: by its figure, and among equal figures by fewer ones. Where `low` is the figure of c and
+// `high` that of the best, the lower figure is the better one; the other way round, the higher. The masks come in ascending order, so that of as
+// many ones the first that came is kept. No ones are counted unless the figures are equal.
+pub fn is_preferred(low: u32, high: u32, c: u32, best: u32) -> bool
+    ensures { λ r. ⌜ r ≡ preferred low high c best ⌝ }
+{
+    if low < high {
+        true
+    } else if low == high {
+        u32::count_ones(c) < u32::count_ones(best)
+    } else {
+        false
     }
 }
 

@@ -7,16 +7,16 @@ use Prim.Native.Nat.{ℕ, suc, _+_, _-_, _/_, _^_, _<_, _≤_}
 use native.Mathlib.Nat.{lt-of-le-of-lt, mul-le-mul-left, mul-lt-mul-of-pos-left, mul-lt-mul-of-pos-right}
 use native.Mathlib.Omega.{arith}
 use lib.ListN.{length, length-append, length-take}
-use Rattle.boolean.specs.Functions.{component, components, distance, signBit}
+use Rattle.boolean.specs.Functions.{component, components, distance, maskRank, signBit}
 use Rattle.boolean.specs.Selection.{Candidate, best, shown, Ascending}
-use Rattle.boolean.proofs.Components.{mem-components, in-components, ascending-components, first-mask}
+use Rattle.boolean.proofs.Components.{mem-components, in-components, ascending-components, first-mask, rank-of-before}
 use Rattle.boolean.proofs.Selection.{best-first, first-ranked}
 use Rattle.refusals.specs.Table.{Reply, figures, refusal, first}
 use Rattle.refusals.specs.declared.Checked.the-variants.{Accepted}
 use Rattle.refusals.proofs.Checks.{reply-accepted}
 use Rattle.rounds.specs.Round.{Summand, inputsOf, boxes, outputsOf, sumRows, joined, sumNonlinearity, sumChecks}
 use Rattle.rounds.specs.Spectra.{product, places, signAt, bySpectra, larger}
-use Rattle.rounds.specs.Statements.{Fits, productAt, Lex, Before, rank, Reported}
+use Rattle.rounds.specs.Statements.{Fits, productAt, Lex, Before, Reported}
 use Rattle.rounds.proofs.Peaks.{sizeOf, sizeAt, Peaks, peaks-fit, peak-positive, peaks-positive, peaks-bound, size-next}
 use Rattle.rounds.proofs.Nearest.{away, near, signed}
 use Rattle.rounds.proofs.Spectra.{places-peaks, product-is, sign-is, spectra-half}
@@ -35,6 +35,15 @@ lex-less (s ∷ ss) c (w ∷ ws) p (v ∷ vs) f (inl l) =
 lex-less (s ∷ ss) c (w ∷ ws) p (v ∷ vs) f (inr t) =
     rw (size-next s ss c v vs, size-next s ss c w ws, t .0) (mul-lt-mul-of-pos-left (lex-less ss c ws (p .1) vs (f .1) (t .1)) (peak-positive s c w (p .0)))
 
+-- before, by any ranks of the components
+abbrev BeforeBy : (ℕ → ℕ) → ℕ → List ℕ → ℕ → ℕ → List ℕ → ℕ → Type 0
+BeforeBy rank c′ ws′ b′ c ws b = (rank c′ < rank c) ⊎ (((c′ ≡ c) × Lex ws′ ws) ⊎ ((c′ ≡ c) × (ws′ ≡ ws) × (b′ < b)))
+
+-- by the components' order
+by-rank : (m c′ : ℕ) (ws′ : List ℕ) (b′ c : ℕ) (ws : List ℕ) (b : ℕ) → c′ < 2 ^ m → Before c′ ws′ b′ c ws b → BeforeBy (maskRank m) c′ ws′ b′ c ws b
+by-rank m c′ ws′ b′ c ws b high (inl l) = inl (rank-of-before m c′ c high l)
+by-rank m c′ ws′ b′ c ws b high (inr l) = inr l
+
 -- What holds of the components cs, whose order is that of their ranks, whichever they are: d and the witness c, ws, b.
 pub record Decided (ss : List Summand) (cs : List ℕ) (rank : ℕ → ℕ) (d : ℕ) : Type 0 where
   pub c : ℕ
@@ -46,7 +55,7 @@ pub record Decided (ss : List Summand) (cs : List ℕ) (rank : ℕ → ℕ) (d :
   pub b-high : b < 2
   pub reached : distance (inputsOf ss) (component (sumRows ss) c) (joined ss ws) b ≡ d
   pub least : (c′ v b′ : ℕ) → List·Memᴰ c′ cs → v < 2 ^ inputsOf ss → b′ < 2 → d ≤ distance (inputsOf ss) (component (sumRows ss) c′) v b′
-  pub more-before : (c′ : ℕ) (ws′ : List ℕ) (b′ : ℕ) → List·Memᴰ c′ cs → Fits ss ws′ → b′ < 2 → Before rank c′ ws′ b′ c ws b
+  pub more-before : (c′ : ℕ) (ws′ : List ℕ) (b′ : ℕ) → List·Memᴰ c′ cs → Fits ss ws′ → b′ < 2 → BeforeBy rank c′ ws′ b′ c ws b
       → d < distance (inputsOf ss) (component (sumRows ss) c′) (joined ss ws′) b′
   -- the figure: 2^(N − 1) less half the largest product
   pub product-largest : (c′ : ℕ) → List·Memᴰ c′ cs → product ss c′ ≤ product ss c
@@ -77,7 +86,7 @@ module _ (ss : List Summand) (some : 1 ≤ inputsOf ss) (c₀ : ℕ) (cs₀ : Li
       let h = signed ss chosen chosen-masks (peaks-fit ss chosen chosen-masks peaks) .1 in
       omega (arith, h, ap (away ss chosen chosen-masks) sign-of, spectra-half ss some chosen, product-is ss chosen)
 
-  before : (c′ : ℕ) (ws′ : List ℕ) (b′ : ℕ) → List·Memᴰ c′ (c₀ ∷ cs₀) → Fits ss ws′ → b′ < 2 → Before rank c′ ws′ b′ chosen chosen-masks chosen-sign
+  before : (c′ : ℕ) (ws′ : List ℕ) (b′ : ℕ) → List·Memᴰ c′ (c₀ ∷ cs₀) → Fits ss ws′ → b′ < 2 → BeforeBy rank c′ ws′ b′ chosen chosen-masks chosen-sign
       → figure < away ss c′ ws′ b′
   before c′ ws′ b′ m f h (inl l) =
       omega (
@@ -129,7 +138,7 @@ pub sum-reported : (count : ℕ) (ss : List Summand) (i : ℕ) → first (sumChe
 sum-reported count ss i accepted =
     let m = outputsOf ss in
     let one = in-components m i 1 (first-mask m i (some-outputs count ss i accepted) (limit-low count ss i accepted)) in
-    let d = decided-of ss (some-inputs count ss i accepted) rank (components m i) (ascending-components m i) 1 one in
+    let d = decided-of ss (some-inputs count ss i accepted) (maskRank m) (components m i) (ascending-components m i) 1 one in
     record {
       c = d .c;
       ws = d .ws;
@@ -138,7 +147,8 @@ sum-reported count ss i accepted =
       least = λ c′ v b′ p. d .least c′ v b′ (in-components m i c′ (p .mask)) (p .w-high) (p .b-high);
       is-pair = record { mask = mem-components m i (d .c) (d .in-order); fits = d .fits; b-high = d .b-high };
       reached = d .reached;
-      more-before = λ c′ ws′ b′ p. d .more-before c′ ws′ b′ (in-components m i c′ (p .mask)) (p .fits) (p .b-high);
+      more-before = λ c′ ws′ b′ p l.
+          d .more-before c′ ws′ b′ (in-components m i c′ (p .mask)) (p .fits) (p .b-high) (by-rank m c′ ws′ b′ (d .c) (d .ws) (d .b) (p .mask .high) l);
       product-largest = λ c′ w. d .product-largest c′ (in-components m i c′ w);
       figure-is = d .figure-is;
     }

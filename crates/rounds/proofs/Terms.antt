@@ -1,22 +1,23 @@
 -- The product and the witness of up to four boxes, the loop over the components, and the answer that they make. Assumes nothing.
 use mathlib.Core.Path.{_≡_, refl, sym, ap, ap₂, _∙_, subst}
 use mathlib.Core.Bool.{Bool, true, false}
-use mathlib.Core.List.{List, [], _∷_, _++_, List·Memᴰ, List·Memᴰ·head, List·Memᴰ·not-nil}
+use mathlib.Core.Logic.{inr}
+use mathlib.Core.List.{List, [], _∷_, _++_, List·Memᴰ, List·Memᴰ·not-nil}
 use Prim.Native.Nat.{ℕ, zero, suc, _+_, _*_, _-_, _/_, _<_, _≤_, _^_}
 use native.Mathlib.Nat.{mul-le-mul, mul-one}
 use native.Mathlib.Omega.{arith}
-use borrow.Author.Tests.{lt-ltb, le-ltb}
+use borrow.Author.Tests.{lt-ltb}
 use lib.Bits.{bitXor, xor-zero-r}
 use lib.Dec.{ltb}
 use Rattle.boolean.specs.Sums.{each}
 use Rattle.boolean.specs.Functions.{at, component, components, walsh, signBit}
-use Rattle.boolean.specs.Selection.{Candidate, best, higher, firstLargest}
-use Rattle.boolean.proofs.Components.{in-components, first-mask}
+use Rattle.boolean.specs.Selection.{Candidate, best, higher, firstLargest, ranked}
+use Rattle.boolean.proofs.Components.{masksBelow}
 use Rattle.boolean.proofs.FirstLargest.{best-changed}
-use Rattle.boolean.proofs.Lists.{in-each}
-use Rattle.boolean.proofs.Selection.{best-mem, best-takes, best-keeps, firstLargest-above}
-use Rattle.masks.specs.Masks.{Next}
-use Rattle.masks.proofs.Walk.{Walk, masksBelow, walk-starts, walk-next, best-starts, best-next, best-ends}
+use Rattle.boolean.proofs.Selection.{best-mem, best-takes, best-keeps, largest, by-largest}
+use Rattle.masks.specs.Masks.{Next, outputs, preferred}
+use Rattle.masks.proofs.Fewest.{swept, ranked-wins, higher-test}
+use Rattle.masks.proofs.Walk.{Walk, walk-starts, walk-next, best-starts, best-next, best-ends}
 use Rattle.rounds.specs.Round.{Summand, inputsOf, boxes, sumNonlinearity}
 use Rattle.rounds.specs.Spectra.{peak, product, places, signAt, bySpectra, larger, factored, largestProduct}
 use Rattle.rounds.specs.Calls.{sizeIf, foundCandidate, TopOf, TopIf, masksOf, WitnessOf}
@@ -115,7 +116,7 @@ alone ss c = factored ss c ∷ []
 
 pub record Sweeping (ss : List Summand) (m i : ℕ) (found : Found) (c : ℕ) : Type 0 where
   pub walk : Walk m i c
-  pub so-far : foundCandidate found ≡ best higher (foundCandidate start) (each (masksBelow i c) (alone ss))
+  pub so-far : foundCandidate found ≡ best (ranked higher outputs) (foundCandidate start) (each (masksBelow i c) (alone ss))
 
 -- no component has the product 0
 product-positive : (ss : List Summand) (c : ℕ) → 0 < product ss c
@@ -123,31 +124,35 @@ product-positive ss c = omega (arith, product-is ss c, peaks-positive ss c (plac
 
 module _ (ss : List Summand) (m i : ℕ) where
   pub sweep-starts : 1 ≤ i → Sweeping ss m i start 1
-  sweep-starts h = record { walk = walk-starts m i h; so-far = best-starts higher (alone ss) (foundCandidate start) i }
+  sweep-starts h = record { walk = walk-starts m i h; so-far = best-starts (ranked higher outputs) (alone ss) (foundCandidate start) i }
 
   module _ {found : Found} {c : ℕ} (t : Sweeping ss m i found c) where
-    more : {new : Found} {r : ℕ} → c < 2 ^ m → Next i c r → foundCandidate new ≡ best higher (foundCandidate found) (alone ss c) → Sweeping ss m i new r
-    more l after e = record { walk = walk-next (t .walk) after l; so-far = best-next (t .walk) higher (alone ss) (foundCandidate start) after (t .so-far) e }
+    more : {new : Found} {r : ℕ} → c < 2 ^ m → Next i c r → foundCandidate new ≡ best (ranked higher outputs) (foundCandidate found) (alone ss c) → Sweeping ss m i new r
+    more l after e = record { walk = walk-next (t .walk) after l; so-far = best-next (t .walk) (ranked higher outputs) (alone ss) (foundCandidate start) after (t .so-far) e }
 
-    module _ {size r : ℕ} (e : size ≡ product ss c) (l : c < 2 ^ m) (after : Next i c r) where
-      -- a larger product, and one that is not
-      pub sweep-takes : {mask : ℕ} → mask ≡ c → found .size < size → Sweeping ss m i (record { size = size; c = mask }) r
+    module _ {size r mask : ℕ} (e : size ≡ product ss c) (q : mask ≡ c) (l : c < 2 ^ m) (after : Next i c r) where
+      -- the code's test is the selection's
+      tested : preferred (found .size) size mask (found .c) ≡ ranked higher outputs (factored ss c) (foundCandidate found)
+      tested = higher-test (factored ss c) (foundCandidate found) e q
+
+      -- a component that is preferred, and one that is not
+      pub sweep-takes : preferred (found .size) size mask (found .c) ≡ true → Sweeping ss m i (record { size = size; c = mask }) r
       unfolding best
-      sweep-takes q h =
+      sweep-takes h =
           more l after
           (ap₂ (λ (k d : ℕ). record { figure = k; witness = d ∷ [] }) e q
-          ∙ sym (best-takes higher (foundCandidate found) (factored ss c) [] (lt-ltb (found .size) (product ss c) (omega arith))))
+          ∙ sym (best-takes (ranked higher outputs) (foundCandidate found) (factored ss c) [] (sym tested ∙ h)))
 
-      pub sweep-keeps : size ≤ found .size → Sweeping ss m i found r
+      pub sweep-keeps : preferred (found .size) size mask (found .c) ≡ false → Sweeping ss m i found r
       unfolding best
-      sweep-keeps h = more l after (sym (best-keeps higher (foundCandidate found) (factored ss c) [] (le-ltb (found .size) (product ss c) (omega arith))))
+      sweep-keeps h = more l after (sym (best-keeps (ranked higher outputs) (foundCandidate found) (factored ss c) [] (sym tested ∙ h)))
 
     pub sweep-ends : 2 ^ m ≤ c → 1 ≤ m → foundCandidate found ≡ largestProduct ss (components m i)
-    unfolding largestProduct
+    unfolding largestProduct firstLargest
     sweep-ends h low =
-        best-ends (t .walk) higher (alone ss) (foundCandidate start) h (t .so-far)
-        ∙ firstLargest-above (foundCandidate start) (each (components m i) (alone ss)) refl (factored ss 1)
-        (in-each (components m i) (alone ss) 1 (factored ss 1) (in-components m i 1 (first-mask m i low (t .walk .limit))) (List·Memᴰ·head refl)) (product-positive ss 1)
+        best-ends (t .walk) (ranked higher outputs) (alone ss) (foundCandidate start) h (t .so-far)
+        ∙ swept largest by-largest m i (record { names = λ c. refl }) low (t .walk .limit)
+        (inr (ranked-wins higher outputs (factored ss 1) (foundCandidate start) (lt-ltb 0 (product ss 1) (product-positive ss 1))))
 
 -- ---- the answer
 -- the component that was found, of those in cs, is the one whose spectra give the first pair that differs at the fewest inputs

@@ -4,7 +4,7 @@ use mathlib.Core.Path.{_≡_}
 use mathlib.Core.Logic.{_⊎_}
 use mathlib.Core.List.{List, [], _∷_, _++_}
 use lib.IntN.{ℤ, pos, _*ℤ_}
-use Rattle.boolean.specs.Functions.{component, distance, walsh, Within}
+use Rattle.boolean.specs.Functions.{component, distance, walsh, Within, MaskBefore}
 use Rattle.refusals.specs.Table.{figures}
 use Rattle.linear.specs.Statements.{IsPair}
 use Rattle.rounds.specs.Round.{Summand, inputsOf, outputsOf, sumRows, joined, sumReply}
@@ -33,10 +33,6 @@ pub record IsSumPair (ss : List Summand) (i c : ℕ) (ws : List ℕ) (b : ℕ) :
   pub fits : Fits ss ws
   pub b-high : b < 2
 
--- a component's place in the order of the components
-abbrev pub rank : ℕ → ℕ
-rank c = c
-
 -- masks vs come before masks ws: by the first box's, then the second's, and so on
 abbrev pub Lex : List ℕ → List ℕ → Type 0
 Lex [] ws = ⊥
@@ -44,8 +40,8 @@ Lex (v ∷ vs) [] = ⊥
 Lex (v ∷ vs) (w ∷ ws) = (v < w) ⊎ ((v ≡ w) × Lex vs ws)
 
 -- (c′, ws′, b′) comes before (c, ws, b): by the components' order, then the masks', then b
-abbrev pub Before : (ℕ → ℕ) → ℕ → List ℕ → ℕ → ℕ → List ℕ → ℕ → Type 0
-Before rank c′ ws′ b′ c ws b = (rank c′ < rank c) ⊎ (((c′ ≡ c) × Lex ws′ ws) ⊎ ((c′ ≡ c) × (ws′ ≡ ws) × (b′ < b)))
+abbrev pub Before : ℕ → List ℕ → ℕ → ℕ → List ℕ → ℕ → Type 0
+Before c′ ws′ b′ c ws b = MaskBefore c′ c ⊎ (((c′ ≡ c) × Lex ws′ ws) ⊎ ((c′ ≡ c) × (ws′ ≡ ws) × (b′ < b)))
 
 -- What is reported of accepted boxes within the limit i: d and the witness, c, a mask for each box, and b.
 pub record Reported (count : ℕ) (ss : List Summand) (i d : ℕ) : Type 0 where
@@ -57,7 +53,7 @@ pub record Reported (count : ℕ) (ss : List Summand) (i d : ℕ) : Type 0 where
   pub least : (c′ v b′ : ℕ) → IsPair (inputsOf ss) (outputsOf ss) i c′ v b′ → d ≤ distance (inputsOf ss) (component (sumRows ss) c′) v b′
   pub is-pair : IsSumPair ss i c ws b
   pub reached : distance (inputsOf ss) (component (sumRows ss) c) (joined ss ws) b ≡ d
-  pub more-before : (c′ : ℕ) (ws′ : List ℕ) (b′ : ℕ) → IsSumPair ss i c′ ws′ b′ → Before rank c′ ws′ b′ c ws b
+  pub more-before : (c′ : ℕ) (ws′ : List ℕ) (b′ : ℕ) → IsSumPair ss i c′ ws′ b′ → Before c′ ws′ b′ c ws b
       → d < distance (inputsOf ss) (component (sumRows ss) c′) (joined ss ws′) b′
   -- 2^(N − 1) less half the largest product
   pub product-largest : (c′ : ℕ) → Within i (2 ^ outputsOf ss) c′ → product ss c′ ≤ product ss c

@@ -11,6 +11,7 @@ ghost use lib.ListN.{length};
 ghost use Rattle.boolean.specs.Sums.{each, largestBelow};
 ghost use Rattle.boolean.specs.Functions.{components, valueAt};
 ghost use Rattle.refusals.specs.Table.{first, Box};
+ghost use Rattle.masks.specs.Masks.{preferred};
 ghost use Rattle.rounds.specs.Round.{boxOf, checksOf, sumChecks, sumReply};
 ghost use Rattle.rounds.specs.Spectra.{peak, product, largestProduct};
 ghost use Rattle.rounds.specs.Calls.{read, leastSum, checksIf, sameIf, inputsIf, sizeIf, Round, foundCandidate, Highest, TopOf, TopIf, WitnessOf};
@@ -123,7 +124,20 @@ fn product_at(
     size1 as u64 * others
 }
 
-// Every component within the limit in turn; the first of the largest product is kept.
+// Whether component c, with its product, comes before the best so far: by a larger product, or by the same product and fewer outputs.
+fn is_preferred(found: Found, size: u64, c: u32) -> bool
+    ensures { λ r. ⌜ r ≡ preferred (found .size) size c (found .c) ⌝ }
+{
+    if found.size < size {
+        true
+    } else if found.size == size {
+        u32::count_ones(c) < u32::count_ones(found.c)
+    } else {
+        false
+    }
+}
+
+// Every component within the limit in turn; the first of the largest product is kept, fewest outputs first.
 fn sweep(
     count: u32,
     widths: Widths,
@@ -142,7 +156,7 @@ fn sweep(
     while c < masks {
         let mask = c as u32;
         let size = product_at(count, widths, rows1, rows2, rows3, rows4, mask);
-        if found.size < size {
+        if is_preferred(found, size, mask) {
             found = Found { size, c: mask };
         }
         c = masks::next_mask(i, c);

@@ -1,66 +1,90 @@
--- `algebraic::sweep` meets its contract: it has the weakest of the components before c, from a degree that none has. Assumes nothing.
+-- `algebraic::sweep` meets its contract: it has the weakest of the components before the mask that it meets next, from a degree that none has.
+-- Assumes nothing.
 use Prim.Native.Nat.{_-_, _^_, _<_}
 use native.Mathlib.Nat.{lt-of-lt-of-le}
 use native.Mathlib.Omega.{arith}
 use lib.Pow.{pow-mono}
 use borrow.Author.Needs.{needs}
 use Rattle.algebraic.specs.Calls.{candidate}
-use Rattle.algebraic.proofs.Sweeping.{Sweeping, sweep-starts, sweep-next, sweep-ends}
+use Rattle.algebraic.proofs.Sweeping.{Meeting, first-walk, meeting-starts, meeting-next, meeting-walk, meeting-low, sweep-ends}
 use Rattle.algebraic.proofs.sweep.Statement.{statement}
 use Rattle.algebraic.proofs.sweep.Tie as tie
 
 abbrev Inv-loop : tie.InvT-loop
-Inv-loop n m words i inputs count masks found₀ c₀ found c = Sweeping m words i (candidate found₀) (candidate found) c
+Inv-loop n m words i inputs count masks found₀ met₀ found met = Meeting m words i (candidate found₀) found met
 
 abbrev μ-loop : tie.MeasureT-loop
-μ-loop n m words i inputs count masks found₀ c₀ found c = masks - c
+μ-loop n m words i inputs count masks found₀ met₀ found met = masks - met .c
 
 power-of-two-requires : tie.Need-power-of-two-requires Inv-loop μ-loop
 power-of-two-requires c κs = search needs
 
+add-t12 : tie.Need-add-t12 Inv-loop μ-loop
+add-t12 c = search needs
+
 add-t13 : tie.Need-add-t13 Inv-loop μ-loop
 add-t13 c = search needs
 
-loop-holds : tie.Need-loop-holds Inv-loop μ-loop
-loop-holds c =
+next-below-requires : tie.Need-next-below-requires Inv-loop μ-loop
+next-below-requires c κs =
     let start = c .before .before .before in
-    sweep-starts (start .args .m) (start .args .words .now) (start .args .i) _ (start .pre .0 .i-low)
+    let w = first-walk (start .pre .0) in
+    (start .pre .0, start .pre .1, w .c-low, w .c-high, w .few)
 
--- the loop's mask is one of the box's, and has no more than 32 bits
-below : (c : tie.In-loop Inv-loop μ-loop) → c .before .loop .c < 2 ^ c .before .before .before .before .before .args .m
-below c = omega (arith, c .loop-test .taken, c .before .before .power-of-two .ensures .0, c .before .loop .inv .walk .c-high)
+loop-holds : tie.Need-loop-holds Inv-loop μ-loop
+loop-holds c = let start = c .before .before .before .before in meeting-starts (start .pre .0) (c .next-below .ensures)
 
-fits : (c : tie.In-loop Inv-loop μ-loop) → c .before .loop .c < 4294967296
-fits c = lt-of-lt-of-le (below c) (pow-mono {j = 32} (c .before .before .before .before .before .pre .0 .m-high))
+-- the mask that is met is one of the box's, and has no more than 32 bits
+below : (c : tie.Then1 Inv-loop μ-loop) →
+    let at-loop = c .before .before in
+    at-loop .loop .met .c < 2 ^ at-loop .before .before .before .before .before .args .m
+below c =
+    let at-loop = c .before .before in
+    omega (arith, c .if1 .taken, at-loop .before .before .power-of-two .ensures .0, at-loop .loop .inv .sweeping .walk .c-high)
 
-cast-mask : tie.Need-cast-mask Inv-loop μ-loop
-cast-mask c = omega (arith, fits c)
+fits : (c : tie.Then1 Inv-loop μ-loop) → c .before .before .loop .met .c < 4294967296
+fits c = lt-of-lt-of-le (below c) (pow-mono {j = 32} (c .before .before .before .before .before .before .before .pre .0 .m-high))
 
-component-degree-requires : tie.Need-component-degree-requires Inv-loop μ-loop
-component-degree-requires c κs = search needs
+cast-weaker : tie.Need-cast-weaker Inv-loop μ-loop
+cast-weaker c = omega (arith, fits (c .before))
 
 weaker-requires : tie.Need-weaker-requires Inv-loop μ-loop
-weaker-requires c κs = search needs
+weaker-requires c κs =
+    let at-loop = c .before .before .before in
+    let start = at-loop .before .before .before .before .before in
+    (meeting-low (start .pre .0) (at-loop .loop .inv) (below (c .before)), at-loop .loop .inv .barred)
 
 next-within-requires : tie.Need-next-within-requires Inv-loop μ-loop
 next-within-requires c κs =
-    let in-loop = c .before .before in
-    let walk = in-loop .before .loop .inv .walk in
-    (walk .limit, in-loop .before .before .before .before .before .pre .0 .m-high, below in-loop, walk .few)
+    let at-loop = c .before .before .before .before in
+    let start = at-loop .before .before .before .before .before in
+    let walk = at-loop .loop .inv .sweeping .walk in
+    (omega (arith, walk .limit), start .pre .0 .m-high, below (c .before .before), walk .few)
+
+next-below-requires-2 : tie.Need-next-below-requires-2 Inv-loop μ-loop
+next-below-requires-2 c κs =
+    let at-loop = c .before .before .before .before .before in
+    let start = at-loop .before .before .before .before .before in
+    let w = meeting-walk (at-loop .loop .inv) (below (c .before .before .before)) (c .next-within .ensures) in
+    (start .pre .0, start .pre .1, w .c-low, w .c-high, w .few)
 
 loop-less : tie.Need-loop-less Inv-loop μ-loop
-loop-less c = omega (arith, c .next-within .ensures .above, below (c .before .before .before), c .before .before .before .before .before .power-of-two .ensures .0)
+loop-less c =
+    let branch = c .before .before .before .before in
+    omega (arith, c .next-below2 .ensures .low, c .before .next-within .ensures .above, below branch, branch .before .before .before .before .power-of-two .ensures .0)
 
 loop-again : tie.Need-loop-again Inv-loop μ-loop
 loop-again c =
-    let measured = c .before .before in
-    let in-loop = measured .before in
-    sweep-next (in-loop .before .loop .inv) (below in-loop) (c .next-within .ensures) (measured .component-degree .ensures) (c .before .weaker .ensures)
+    let walked = c .before in
+    let branch = walked .before .before .before in
+    meeting-next (branch .before .before .loop .inv) (below branch) (walked .next-within .ensures)
+    (walked .before .weaker .ensures .0) (walked .before .weaker .ensures .1) (c .next-below2 .ensures)
 
 returns : tie.Need-returns Inv-loop μ-loop
 returns c =
-    let power = c .before .before in
-    sweep-ends (c .before .loop .inv) (power .before .before .before .pre .0) (omega arith) (omega (arith, c .loop-test .left, power .power-of-two .ensures .0))
+    let at-loop = c .before .before in
+    let power = at-loop .before .before in
+    sweep-ends (at-loop .loop .inv .sweeping) (power .before .before .before .pre .0) (omega arith) (omega (arith, c .if1 .left, power .power-of-two .ensures .0))
 
 pub sweep-spec : {M : Type 1} → statement M
 sweep-spec =
@@ -69,12 +93,14 @@ sweep-spec =
     Inv-loop
     μ-loop
     power-of-two-requires
+    add-t12
     add-t13
+    next-below-requires
     loop-holds
-    cast-mask
-    component-degree-requires
+    cast-weaker
     weaker-requires
     next-within-requires
+    next-below-requires-2
     loop-less
     loop-again
     returns)

@@ -1,20 +1,37 @@
--- `algebraic::weaker` meets its contract: a lower degree is taken, and any other left. Assumes nothing.
-use mathlib.Core.Path.{sym}
+-- `algebraic::weaker` meets its contract: the test says whether the component is preferred, and its bar goes with it. Assumes nothing.
+use mathlib.Core.Path.{sym, _∙_}
 use mathlib.Core.List.{[]}
-use borrow.Author.Tests.{lt-ltb, le-ltb}
-use Rattle.boolean.specs.Selection.{best, lower}
+use borrow.Author.Needs.{needs}
+use Rattle.boolean.specs.Selection.{best, lower, ranked}
 use Rattle.boolean.proofs.Selection.{best-takes, best-keeps}
+use Rattle.masks.specs.Masks.{outputs}
 use Rattle.algebraic.specs.Calls.{degreeAt, candidate}
 use Rattle.algebraic.proofs.weaker.Statement.{statement}
 use Rattle.algebraic.proofs.weaker.Tie as tie
 
+is-preferred-requires : tie.Need-is-preferred-requires
+is-preferred-requires c κs = search needs
+
+bar-of-requires : tie.Need-bar-of-requires
+bar-of-requires c κs = search needs
+
 returns : tie.Need-returns
 unfolding best
-returns c = let a = c .before .before .args in sym (best-takes lower (candidate (a .found)) (degreeAt (a .degree) (a .c)) [] (lt-ltb _ _ (c .if1 .taken)))
+returns c =
+    let tested = c .before .before in
+    let start = tested .before in
+    let a = start .args in (
+      sym (best-takes (ranked lower outputs) (candidate (a .found)) (degreeAt (a .degree) (a .c)) [] (sym (tested .is-preferred .ensures) ∙ c .before .if1 .taken)),
+      c .bar-of .ensures,
+    )
 
 returns-2 : tie.Need-returns-2
 unfolding best
-returns-2 c = let a = c .before .before .args in sym (best-keeps lower (candidate (a .found)) (degreeAt (a .degree) (a .c)) [] (le-ltb _ _ (c .if1 .left)))
+returns-2 c =
+    let tested = c .before in
+    let start = tested .before in
+    let a = start .args in
+    (sym (best-keeps (ranked lower outputs) (candidate (a .found)) (degreeAt (a .degree) (a .c)) [] (sym (tested .is-preferred .ensures) ∙ c .if1 .left)), start .pre .1)
 
 pub weaker-spec : {M : Type 1} → statement M
-weaker-spec = tie.close (tie.spec returns returns-2)
+weaker-spec = tie.close (tie.spec is-preferred-requires bar-of-requires returns returns-2)

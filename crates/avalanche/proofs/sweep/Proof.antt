@@ -6,7 +6,7 @@ use native.Mathlib.Omega.{arith}
 use borrow.Author.Needs.{needs}
 use Rattle.masks.proofs.Boxes.{box-some, masks-fit, stepping}
 use Rattle.avalanche.specs.Calls.{candidate}
-use Rattle.avalanche.proofs.Sweeps.{Sweeping, sweep-starts, sweep-next, sweep-ends}
+use Rattle.avalanche.proofs.Sweeps.{Sweeping, sweep-starts, sweep-next, sweep-single, sweep-ends}
 use Rattle.avalanche.proofs.sweep.Statement.{statement}
 use Rattle.avalanche.proofs.sweep.Tie as tie
 
@@ -59,7 +59,15 @@ cast-with-correlation c = omega (arith, fits (c .before .before .before .before 
 with-correlation-requires : tie.Need-with-correlation-requires Inv-loop μ-loop
 with-correlation-requires c κs =
     let done = c .before .before .before .before in
-    (done .before .before .before .before .before .loop .inv .arrays .box, done .next-correlation .ensures .0)
+    let at-loop = done .before .before .before .before .before in
+    let inv = at-loop .loop .inv in
+    record {
+      box = inv .arrays .box;
+      j-low = at-loop .before .before .before .before .before .before .before .before .before .before .before .before .before .pre .4;
+      c-low = inv .stepwise .walk .c-low;
+      values-are = done .next-correlation .ensures .0;
+      single = sweep-single inv;
+    }
 
 next-mask-requires : tie.Need-next-mask-requires Inv-loop μ-loop
 next-mask-requires c κs =

@@ -1,5 +1,6 @@
--- `linear::with_spectrum` meets its contract: the first value of the largest magnitude, with its sign, is the component's first nearest pair. Assumes nothing.
-use mathlib.Core.Path.{ap, _∙_}
+-- `linear::with_spectrum` meets its contract: the first value of the largest magnitude, with its sign, is the component's first nearest
+-- pair, and the test says whether it is preferred. Assumes nothing.
+use mathlib.Core.Path.{sym, ap, _∙_}
 use Prim.Native.Nat.{ℕ, _-_, _/_}
 use native.Mathlib.Omega.{arith}
 use borrow.Author.Needs.{needs}
@@ -21,6 +22,9 @@ sub-count c =
     let a = c .before .before .args in
     let h = largest-le (a .n) (a .rows .now) (a .c) (c .before .before .pre .1) (c .largest-magnitude .ensures) in
     omega (arith, c .before .before .pre .0 .size)
+
+is-preferred-requires : tie.Need-is-preferred-requires
+is-preferred-requires c κs = search needs
 
 first-place-requires : tie.Need-first-place-requires
 first-place-requires c κs = search needs
@@ -52,7 +56,7 @@ returns c =
     let a = start .args in
     taken (a .n) (a .rows .now) (a .c) (start .pre .1) (counted .largest-magnitude .ensures)
     (ap (λ (k : ℕ). (k - counted .largest-magnitude .result) / 2) (start .pre .0 .size))
-    (candidate (a .found)) (placed .before .if1 .taken) (placed .first-place .ensures)
+    (candidate (a .found)) (sym (placed .before .before .is-preferred .ensures) ∙ placed .before .if1 .taken) (placed .first-place .ensures)
     (c .sign-bit .ensures ∙ ap signBit (word-told (valueAt (a .values .now) (placed .first-place .result)) (c .before .sign-bit-arg .given)))
 
 returns-2 : tie.Need-returns-2
@@ -61,7 +65,7 @@ returns-2 c =
     let start = counted .before .before in
     let a = start .args in
     kept (a .n) (a .rows .now) (a .c) (start .pre .1) (counted .largest-magnitude .ensures)
-    (ap (λ (k : ℕ). (k - counted .largest-magnitude .result) / 2) (start .pre .0 .size)) (candidate (a .found)) (c .if1 .left)
+    (ap (λ (k : ℕ). (k - counted .largest-magnitude .result) / 2) (start .pre .0 .size)) (candidate (a .found)) (sym (c .before .is-preferred .ensures) ∙ c .if1 .left)
 
 pub with-spectrum-spec : {M : Type 1} → statement M
 with-spectrum-spec =
@@ -70,6 +74,7 @@ with-spectrum-spec =
     largest-magnitude-requires
     cast-count
     sub-count
+    is-preferred-requires
     first-place-requires
     mul-sign-bit
     shared-slice-copy-out-sign-bit

@@ -1,9 +1,10 @@
 -- `rounds::sweep` meets its contract: it has the first of the largest products of the components before c. Assumes nothing.
-use mathlib.Core.Path.{_≡_, refl}
+use mathlib.Core.Path.{_≡_, refl, sym, _∙_}
 use mathlib.Core.Logic.{⊎-elim}
 use mathlib.Core.List.{List}
 use Prim.Native.Nat.{_-_, _^_, _<_}
 use native.Mathlib.Omega.{arith}
+use borrow.Author.Needs.{needs}
 use Rattle.masks.proofs.Boxes.{masks-fit}
 use Rattle.rounds.specs.Round.{Summand, boxOf}
 use Rattle.rounds.specs.Calls.{read, IsBox}
@@ -46,6 +47,9 @@ loop-holds c =
 cast-mask : tie.Need-cast-mask Inv-loop μ-loop
 cast-mask c = omega (arith, masks-fit (first-box (start c)) (inside c))
 
+is-preferred-requires : tie.Need-is-preferred-requires Inv-loop μ-loop
+is-preferred-requires c κs = search needs
+
 product-at-requires : tie.Need-product-at-requires Inv-loop μ-loop
 product-at-requires c κs = (start c .pre .0, c .before .loop .inv .walk .c-low, inside c)
 
@@ -60,12 +64,13 @@ loop-less c = omega (arith, c .next-mask .ensures .0 .above, c .before .before .
 
 loop-again : tie.Need-loop-again Inv-loop μ-loop
 loop-again c =
-    let done = c .before .before .before in
+    let test = c .before .before in
+    let done = test .before in
     let in-loop = done .before in
     let s = start in-loop in
     let after = c .next-mask .ensures .0 in
-    ⊎-elim (λ t. rw (t .1) (sweep-takes (summed s) (s .args .widths .m1) (s .args .i) (in-loop .before .loop .inv) (done .product-at .ensures) (inside in-loop) after refl (t .0 .taken)))
-    (λ t. rw (t .1) (sweep-keeps (summed s) (s .args .widths .m1) (s .args .i) (in-loop .before .loop .inv) (done .product-at .ensures) (inside in-loop) after (t .0 .left))) (c .before .if1 .came)
+    ⊎-elim (λ t. rw (t .1) (sweep-takes (summed s) (s .args .widths .m1) (s .args .i) (in-loop .before .loop .inv) (done .product-at .ensures) refl (inside in-loop) after (sym (test .is-preferred .ensures) ∙ t .0 .taken)))
+    (λ t. rw (t .1) (sweep-keeps (summed s) (s .args .widths .m1) (s .args .i) (in-loop .before .loop .inv) (done .product-at .ensures) refl (inside in-loop) after (sym (test .is-preferred .ensures) ∙ t .0 .left))) (c .before .if1 .came)
 
 returns : tie.Need-returns Inv-loop μ-loop
 returns c =
@@ -83,6 +88,7 @@ sweep-spec =
     loop-holds
     cast-mask
     product-at-requires
+    is-preferred-requires
     next-mask-requires
     loop-less
     loop-again
