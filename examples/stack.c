@@ -17,7 +17,7 @@
 
 static uint32_t rows[256], narrow_rows[256], square_rows[256], half_rows[128], out_rows[256], figures[4], sum_figures[7];
 static uint16_t counts[65536];
-static uint8_t table[256], out_table[256], permutation[16], file[1026];
+static uint8_t table[256], out_table[256], permutation[16], file[1026], catalogue[65535];
 static int32_t values[256];
 static uint64_t list[32640];
 
@@ -41,12 +41,21 @@ static uint32_t bent_function(void) { return satmegwo_bent_function(8, permutati
 static uint32_t read_box(void) { return satmegwo_read_box(file, 1026, out_rows, 256, figures, 2); }
 static uint32_t sum(void) { return satmegwo_sum_nonlinearity(4, 8, 32, rows, 256, 8, 32, rows, 256, 8, 32, rows, 256, 8, 32, rows, 256, 2, sum_figures, 7); }
 
+static uint32_t add_record(void) { return satmegwo_add_record(catalogue, 65535, file, 1026, figures, 1); }
+static uint32_t check_catalogue(void) { return satmegwo_check_catalogue(catalogue, 65535, figures, 1); }
+static uint32_t fetch_record(void) { return satmegwo_fetch_record(catalogue, 65535, 1, figures, 2); }
+static uint32_t remove_record(void) { return satmegwo_remove_record(catalogue, 65535, 0); }
+static uint32_t compact_catalogue(void) { return satmegwo_compact_catalogue(catalogue, 65535); }
+
 static const struct { const char *name; uint32_t (*call)(void); } calls[] = {
     {"spectrum", spectrum}, {"inverse_spectrum", inverse}, {"component_spectrum", component}, {"nonlinearity", nonlinearity},
     {"add_to_column", add_to_column}, {"xor_row", xor_row}, {"largest_cell", largest_cell}, {"largest_cells", largest_cells},
     {"autocorrelation", autocorrelation}, {"dynamic_distance", distance}, {"normal_form", normal_form}, {"degree", degree},
     {"complete", complete}, {"bijective", bijective}, {"enlarge_column", enlarge_column}, {"enlarge_box", enlarge_box},
     {"bent_function", bent_function}, {"read_box", read_box}, {"sum_nonlinearity", sum},
+    {"bent_function", bent_function}, {"read_box", read_box}, {"add_record", add_record}, {"add_record", add_record},
+    {"check_catalogue", check_catalogue}, {"fetch_record", fetch_record}, {"remove_record", remove_record},
+    {"compact_catalogue", compact_catalogue},
 };
 
 static uint32_t (*current)(void);

@@ -23,6 +23,8 @@
  * exactly as long as the number of figures. The checks run in this order (those of a box
  * file and of a sum in their own, which is given there), and the first that applies gives
  * the number:
+ * file and of a catalogue in their own, which is given there), and the first that applies
+ * gives the number:
  *
  *    1  n is not 1 to 8 (in the two enlargements not 1 to 7, in the bent form not 2, 4,
  *       6 or 8)
@@ -37,6 +39,9 @@
  *   10  a box file has a wrong length
  *   11  the number of boxes in a sum is not 1 to 4
  *   12  the boxes of a sum have different numbers of outputs
+ *   13  a catalogue breaks one of its rules
+ *   14  a catalogue has no gap that is long enough, or has 64 records
+ *   15  a catalogue has no record of this index
  *
  * All lengths (3) are looked at before any value (4). Each function below names the
  * refusals it can give, in the order in which it looks for them.
@@ -261,6 +266,49 @@ uint32_t satmegwo_sum_nonlinearity(uint32_t count,
                                    uint32_t n3, uint32_t m3, const uint32_t *rows3, size_t rows3_len,
                                    uint32_t n4, uint32_t m4, const uint32_t *rows4, size_t rows4_len,
                                    uint32_t i, uint32_t *figures, size_t figures_len);
+/* ---- Catalogues ----------------------------------------------------------- */
+
+/* A catalogue keeps up to 64 box files in one buffer of 258 to 65,535 bytes. It begins
+ * with the count of its records, two bytes, low byte first; then 64 places of an offset and
+ * a length, two bytes each, low byte first. The first places, as many as the count says, are
+ * used and sorted by offset; the others are zero. Each record is a box file that is
+ * accepted. Records lie at 258 or above, end inside the buffer and do not overlap, and all
+ * bytes outside count, places and records are zero: so a buffer of zeros is an empty
+ * catalogue. A buffer that breaks one of these rules is refused by 13, which every call
+ * below looks for first. An index counts the records from 0 in the order of the places. */
+
+/* Checks a catalogue.
+ *   catalogue  read
+ *   figures    written, 1 element: the number of records
+ * Refusals: 13, 7. */
+uint32_t satmegwo_check_catalogue(const uint8_t *catalogue, size_t catalogue_len, uint32_t *figures, size_t figures_len);
+
+/* Adds a box file, at the start of the lowest gap that is long enough.
+ *   catalogue  read and written
+ *   file       read, a box file
+ *   figures    written, 1 element: the index of the new record
+ * Refusals: 13, then those of the file (10, 1, 2, 10, 4), 7 (figures), 14. */
+uint32_t satmegwo_add_record(uint8_t *catalogue, size_t catalogue_len, const uint8_t *file, size_t file_len, uint32_t *figures, size_t figures_len);
+
+/* Removes a record: its bytes are cleared, and the records behind it have an index that is
+ * one lower. What was added under this index just before is as if it had not been.
+ *   catalogue  read and written
+ * Refusals: 13, 15. */
+uint32_t satmegwo_remove_record(uint8_t *catalogue, size_t catalogue_len, uint32_t index);
+
+/* Where a record lies: its bytes are catalogue[offset] to catalogue[offset + length - 1],
+ * and satmegwo_read_box takes them as they stand.
+ *   catalogue  read
+ *   figures    written, 2 elements: offset, length
+ * Refusals: 13, 15, 7. */
+uint32_t satmegwo_fetch_record(const uint8_t *catalogue, size_t catalogue_len, uint32_t index, uint32_t *figures, size_t figures_len);
+
+/* Moves the records down to start at 258 without gaps; their order and their bytes stay.
+ * Right after it a box file that is accepted is refused by 14 only if there are 64 records
+ * or too few free bytes in all.
+ *   catalogue  read and written
+ * Refusals: 13. */
+uint32_t satmegwo_compact_catalogue(uint8_t *catalogue, size_t catalogue_len);
 
 #ifdef __cplusplus
 }

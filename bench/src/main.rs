@@ -6,6 +6,8 @@
 //! sheet's limit on combinations, and the list of cells and the degree on a few boxes that are
 //! chosen for them, the degree there beside the library's own nonlinearity too; so is the sum
 //! of four boxes.
+//! chosen for them, the degree there beside the library's own nonlinearity too. Then the calls on
+//! a catalogue.
 //! Both programs take turns, several rounds each, and the least time of all rounds is shown:
 //! what disturbs a measurement only ever makes it longer. With --anchor the C program FILE.c,
 //! which measures the nonlinearity of an 8 by 16 box and prints its time as `... T s`, is
@@ -13,6 +15,7 @@
 //! figures is.
 mod anchor;
 mod calls;
+mod catalogues;
 #[path = "../../tests/src/library.rs"]
 mod library;
 mod table;
@@ -74,6 +77,7 @@ fn run(seed: u64, anchor: Option<&str>) -> Result<(), String> {
     lists_of_cells(&mut table, &mut random)?;
     degrees_of_chosen_boxes(&mut table, &mut random)?;
     sums_of_boxes(&mut table, &mut random)?;
+    catalogues::measure(&table, &mut random)?;
     if let Some(source) = anchor {
         let library = table.library("8x16", "nonlinearity");
         table.line("8x16", "nonlinearity, second is the C anchor", library, anchor::time(source)?);

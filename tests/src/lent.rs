@@ -52,6 +52,13 @@ impl<T: Pattern> Lent<T> {
         Lent { before: cells.clone(), cells, length }
     }
 
+    /// An array that is lent with a content of its own.
+    pub fn of(content: &[T], random: &mut Random) -> Lent<T> {
+        let mut cells: Vec<T> = (0..2 * GUARD).map(|_| T::pattern(random)).collect();
+        cells.splice(GUARD..GUARD, content.iter().copied());
+        Lent { before: cells.clone(), cells, length: content.len() }
+    }
+
     /// The part that is lent.
     pub fn part(&mut self) -> &mut [T] {
         &mut self.cells[GUARD..GUARD + self.length]

@@ -2,8 +2,10 @@
 //! alone.
 //!
 //! `model` follows the definitions word for word and is slow; `fast` and `fast_cells` give the
-//! same figures quickly; `sheet` prints the box sheet. None of them uses the library.
+//! same figures quickly; `sheet` prints the box sheet; `catalogue` keeps boxes in one buffer.
+//! None of them uses the library.
 pub mod boxes;
+pub mod catalogue;
 pub mod combinations;
 pub mod fast;
 pub mod fast_cells;

@@ -33,6 +33,11 @@ mod raw {
             n4: u32, m4: u32, rows4: *const u32, rows4_len: usize,
             i: u32, figures: *mut u32, figures_len: usize,
         ) -> u32;
+        pub fn satmegwo_check_catalogue(catalogue: *const u8, catalogue_len: usize, figures: *mut u32, figures_len: usize) -> u32;
+        pub fn satmegwo_add_record(catalogue: *mut u8, catalogue_len: usize, file: *const u8, file_len: usize, figures: *mut u32, figures_len: usize) -> u32;
+        pub fn satmegwo_remove_record(catalogue: *mut u8, catalogue_len: usize, index: u32) -> u32;
+        pub fn satmegwo_fetch_record(catalogue: *const u8, catalogue_len: usize, index: u32, figures: *mut u32, figures_len: usize) -> u32;
+        pub fn satmegwo_compact_catalogue(catalogue: *mut u8, catalogue_len: usize) -> u32;
     }
 }
 
@@ -130,4 +135,25 @@ pub fn sum_nonlinearity(count: u32, boxes: [BoxLent; 4], i: u32, figures: &mut [
             i, figures.as_mut_ptr(), figures.len(),
         )
     }
+}
+pub fn check_catalogue(catalogue: &[u8], figures: &mut [u32]) -> u32 {
+    unsafe { raw::satmegwo_check_catalogue(catalogue.as_ptr(), catalogue.len(), figures.as_mut_ptr(), figures.len()) }
+}
+
+pub fn add_record(catalogue: &mut [u8], file: &[u8], figures: &mut [u32]) -> u32 {
+    unsafe {
+        raw::satmegwo_add_record(catalogue.as_mut_ptr(), catalogue.len(), file.as_ptr(), file.len(), figures.as_mut_ptr(), figures.len())
+    }
+}
+
+pub fn remove_record(catalogue: &mut [u8], index: u32) -> u32 {
+    unsafe { raw::satmegwo_remove_record(catalogue.as_mut_ptr(), catalogue.len(), index) }
+}
+
+pub fn fetch_record(catalogue: &[u8], index: u32, figures: &mut [u32]) -> u32 {
+    unsafe { raw::satmegwo_fetch_record(catalogue.as_ptr(), catalogue.len(), index, figures.as_mut_ptr(), figures.len()) }
+}
+
+pub fn compact_catalogue(catalogue: &mut [u8]) -> u32 {
+    unsafe { raw::satmegwo_compact_catalogue(catalogue.as_mut_ptr(), catalogue.len()) }
 }

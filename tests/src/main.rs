@@ -4,6 +4,7 @@ mod calls;
 mod compare;
 mod damage;
 mod files;
+mod histories;
 mod lent;
 mod library;
 mod sheets;
@@ -15,6 +16,8 @@ use std::process::ExitCode;
 const USAGE: &str = "usage:
   second compare [SEED] [COUNT]
       every call of the library against the model; COUNT damaged argument sets for each call
+  second catalogue [SEED] [COUNT]
+      the library's calls on a catalogue against the model; COUNT calls in histories
   second sheets PROGRAM DIR [SEED] [COUNT]
       the box sheet PROGRAM against the model, on COUNT files made from SEED and on DIR/*.box
   second files DIR
@@ -26,6 +29,9 @@ fn main() -> ExitCode {
     let outcome = match words[..] {
         ["compare", ref rest @ ..] if rest.len() <= 2 => {
             numbers(rest, 1, compare::DEFAULT_COUNT).map(|(seed, count)| compare::run(seed, count))
+        }
+        ["catalogue", ref rest @ ..] if rest.len() <= 2 => {
+            numbers(rest, 1, histories::DEFAULT_COUNT).map(|(seed, count)| histories::run(seed, count))
         }
         ["sheets", program, directory, ref rest @ ..] if rest.len() <= 2 => {
             numbers(rest, 1, sheets::DEFAULT_COUNT).and_then(|(seed, count)| sheets::run(program, Path::new(directory), seed, count))

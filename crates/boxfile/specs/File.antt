@@ -5,7 +5,8 @@ use lib.Dec.{leb, eqb}
 use lib.ListN.{length}
 use Rattle.boolean.specs.Sums.{listBelow}
 use Rattle.boolean.specs.Functions.{at}
-use Rattle.refusals.specs.Table.{Check, _unless_, inRange, allBelow, Reply, figures, refusal, number}
+use Rattle.refusals.specs.Table.{Check, _unless_, first, inRange, allBelow, Reply, figures, refusal, number}
+use Rattle.refusals.specs.declared.Checked.{Checked}
 use Rattle.refusals.specs.declared.Refusal.the-variants.{FileLength, InputWidth, OutputWidth, Value, WrittenLength}
 use Rattle.boxfile.specs.declared.BoxFile.{BoxFile}
 use Rattle.boxfile.specs.declared.BoxFile.the-variants.{Read, Declined}
@@ -39,3 +40,8 @@ fileChecks file room = (FileLength unless leb 2 (length file)) ∷ readChecks fi
 abbrev pub boxFile : BoxFile → Reply
 boxFile (Read n m) = figures (n ∷ m ∷ [])
 boxFile (Declined e) = refusal (number e)
+
+-- what the checks of a file find where its rows are given the room that they take: no reader of the file alone is refused by 7
+unfoldable pub fileFound : List ℕ → Checked
+unfolding fileChecks
+fileFound file = first (fileChecks file (2 ^ at file 0))

@@ -7,7 +7,8 @@ ghost use Prim.Native.Nat.{_+_, _*_, _^_, _<_};
 ghost use lib.ListN.{length};
 ghost use Rattle.boolean.specs.Functions.{at};
 ghost use Rattle.refusals.specs.Table.{first, replyAfter, contentAfter, allBelow};
-ghost use Rattle.boxfile.specs.File.{rowAt, rowsOf, readChecks, fileChecks, boxFile};
+ghost use Rattle.boxfile.specs.File.{rowAt, rowsOf, readChecks, fileChecks, boxFile, fileFound};
+ghost use Rattle.boxfile.specs.Work.{Room};
 
 // The answer of reading a file: the widths of its box.
 pub enum BoxFile {
@@ -23,7 +24,7 @@ fn wide(x: u8) -> u32
 }
 
 // The number that two bytes make, low byte first.
-fn two_bytes(file: &[u8], place: usize) -> u32
+pub fn two_bytes(file: &[u8], place: usize) -> u32
     requires { ⌜ place + 1 < length (now file) ⌝ }
     ensures { λ r. ⌜ (r ≡ at (now (file .entry)) place + 256 * at (now (file .entry)) (place + 1)) × (r < 65536) ⌝ }
 {
@@ -116,4 +117,26 @@ pub fn read_box(file: &[u8], rows: &mut [u32]) -> BoxFile
         n,
         m: wide(file[1]),
     }
+}
+
+// How many rows the file's n asks for; 0 where there is no n, or none that a box has, and the room then does not matter.
+pub fn room_of(file: &[u8]) -> usize
+    ensures { λ r. ⌜ Room (now (file .entry)) r ⌝ }
+{
+    if file.len() == 0 {
+        return 0;
+    }
+    let inputs = file[0] as u32;
+    if !refusals::in_range(1, 8, inputs) {
+        return 0;
+    }
+    boolean::power_of_two(inputs)
+}
+
+// The checks of a file that is not read yet: its rows have the room that they take.
+pub fn check_alone(file: &[u8]) -> Checked
+    ensures { λ r. ⌜ r ≡ fileFound (now (file .entry)) ⌝ }
+{
+    let rows = room_of(file);
+    check_file(file, rows)
 }

@@ -16,6 +16,9 @@ pub enum Refusal {
     FileLength,
     BoxCount,
     OutputWidths,
+    Catalogue,
+    NoRoom,
+    NoRecord,
 }
 
 // What a call's checks find: nothing, or the first that applies.
@@ -54,6 +57,9 @@ pub fn number_of(e: Refusal) -> u32
         Refusal::FileLength => 10,
         Refusal::BoxCount => 11,
         Refusal::OutputWidths => 12,
+        Refusal::Catalogue => 13,
+        Refusal::NoRoom => 14,
+        Refusal::NoRecord => 15,
     }
 }
 

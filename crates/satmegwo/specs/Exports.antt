@@ -2,14 +2,16 @@
 use Prim.Native.Nat.{ℕ}
 use mathlib.Core.Bool.{true, false}
 use mathlib.Core.List.{List, [], _∷_, _++_}
-use lib.Dec.{eqb, leb}
+use lib.Dec.{eqb, leb, ltb}
 use lib.ListN.{length}
 use Rattle.refusals.specs.Table.{Check, _unless_, boxChecks, Reply, figures, refusal, number}
-use Rattle.refusals.specs.declared.Refusal.the-variants.{WrittenLength, ListTooShort}
+use Rattle.refusals.specs.declared.Refusal.the-variants.{WrittenLength, ListTooShort, NoRoom}
 use Rattle.refusals.specs.declared.Checked.{Checked}
 use Rattle.refusals.specs.declared.Checked.the-variants.{Accepted, Refused}
 use Rattle.differential.specs.XorTable.{largestCells}
 use Rattle.boxfile.specs.File.{fileChecks}
+use Rattle.catalogue.specs.Format.{count}
+use Rattle.catalogue.specs.Calls.{gapFor, isGap, offeredChecks}
 
 -- what an exported function returns: 0, or the number of the refusal
 unfoldable pub status : Reply → ℕ
@@ -44,3 +46,13 @@ cellsChecks n m rows room listed =
 unfoldable pub readBoxChecks : List ℕ → ℕ → ℕ → List Check
 unfolding fileChecks
 readBoxChecks file rows room = fileChecks file rows ++ ((WrittenLength unless eqb room 2) ∷ [])
+
+-- adding to a catalogue: the array for the index is looked at after the catalogue and the file, and before the room
+unfoldable pub addRecordChecks : List ℕ → List ℕ → ℕ → List Check
+unfolding offeredChecks gapFor count
+addRecordChecks b file room =
+    offeredChecks b file ++ (
+    (WrittenLength unless eqb room 1)
+    ∷ (NoRoom unless ltb (count b) 64)
+    ∷ (NoRoom unless isGap (gapFor b file))
+    ∷ [])

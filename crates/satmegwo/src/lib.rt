@@ -3,6 +3,8 @@
 use algebraic::DegreeFound;
 use avalanche::LargestChange;
 use boxfile::BoxFile;
+use catalogue::Fetched;
+use catalogue::Told;
 use differential::CellList;
 use differential::LargestCell;
 use linear::LeastPair;
@@ -33,7 +35,8 @@ ghost use Rattle.constructions.specs.Calls.{columnChecks, enlargeChecks, bentCh
 ghost use Rattle.boxfile.specs.File.{rowsOf};
 ghost use Rattle.rounds.specs.Round.{boxOf, boxes, sumReply};
 ghost use Rattle.rounds.specs.Calls.{leastSum};
-ghost use Rattle.satmegwo.specs.Exports.{status, lent, figuresAfter, cellsChecks, readBoxChecks, roomNumber};
+ghost use Rattle.satmegwo.specs.Exports.{status, lent, figuresAfter, cellsChecks, readBoxChecks, roomNumber, addRecordChecks};
+ghost use Rattle.catalogue.specs.Calls.{told, fetched, checkReply, fetchReply, catalogueChecks, indexChecks, gapFor, gapIndex, removed, added, compacted};
 
 // The number of a call that only writes.
 fn status_of(answer: Written) -> u32
@@ -118,6 +121,26 @@ fn give_verdict(answer: Verdict, figures: &mut [u32]) -> u32
         Verdict::Yes => give(&[1u32], figures),
         Verdict::No => give(&[0u32], figures),
         Verdict::Undecided(e) => refusals::number_of(e),
+    }
+}
+
+fn give_number(answer: Told, figures: &mut [u32]) -> u32
+    ensures number { λ r. ⌜ r ≡ status (lent (told answer) (length (now (figures .entry)))) ⌝ }
+    ensures content { λ r. ⌜ now (figures .exit) ≡ figuresAfter (lent (told answer) (length (now (figures .entry)))) (now (figures .entry)) ⌝ }
+{
+    match answer {
+        Told::Number(n) => give(&[n], figures),
+        Told::Declined(e) => refusals::number_of(e),
+    }
+}
+
+fn give_place(answer: Fetched, figures: &mut [u32]) -> u32
+    ensures number { λ r. ⌜ r ≡ status (lent (fetched answer) (length (now (figures .entry)))) ⌝ }
+    ensures content { λ r. ⌜ now (figures .exit) ≡ figuresAfter (lent (fetched answer) (length (now (figures .entry)))) (now (figures .entry)) ⌝ }
+{
+    match answer {
+        Fetched::Lies { offset, size } => give(&[offset, size], figures),
+        Fetched::Unfetched(e) => refusals::number_of(e),
     }
 }
 
@@ -466,4 +489,56 @@ pub extern "C" fn satmegwo_sum_nonlinearity(
     }
     let answer = rounds::sum_nonlinearity(count, widths, rows1, rows2, rows3, rows4, i);
     give_sum(count, answer, figures)
+}
+
+// Checks a catalogue: the number of its records.
+#[no_mangle]
+pub extern "C" fn satmegwo_check_catalogue(catalogue: &[u8], figures: &mut [u32]) -> u32
+    ensures number { λ r. ⌜ r ≡ status (lent (checkReply (now (catalogue .entry))) (length (now (figures .entry)))) ⌝ }
+    ensures content { λ r. ⌜ now (figures .exit) ≡ figuresAfter (lent (checkReply (now (catalogue .entry))) (length (now (figures .entry)))) (now (figures .entry)) ⌝ }
+{
+    give_number(catalogue::check(catalogue), figures)
+}
+
+// Adds a box file to a catalogue: the index of the new record. The catalogue is written to only where the index can be given too.
+#[no_mangle]
+pub extern "C" fn satmegwo_add_record(catalogue: &mut [u8], file: &[u8], figures: &mut [u32]) -> u32
+    ensures number { λ r. ⌜ r ≡ status (replyAfter (first (addRecordChecks (now (catalogue .entry)) (now (file .entry)) (length (now (figures .entry))))) (gapIndex (gapFor (now (catalogue .entry)) (now (file .entry))) ∷ [])) ⌝ }
+    ensures content { λ r. ⌜ now (figures .exit) ≡ contentAfter (first (addRecordChecks (now (catalogue .entry)) (now (file .entry)) (length (now (figures .entry))))) (gapIndex (gapFor (now (catalogue .entry)) (now (file .entry))) ∷ []) (now (figures .entry)) ⌝ }
+    ensures records { λ r. ⌜ now (catalogue .exit) ≡ contentAfter (first (addRecordChecks (now (catalogue .entry)) (now (file .entry)) (length (now (figures .entry))))) (added (now (catalogue .entry)) (now (file .entry))) (now (catalogue .entry)) ⌝ }
+{
+    if 1 != figures.len() {
+        return number_for_room(catalogue::check_offered(catalogue, file));
+    }
+    match catalogue::add(catalogue, file) {
+        Told::Number(index) => give(&[index], figures),
+        Told::Declined(e) => refusals::number_of(e),
+    }
+}
+
+// Removes a record of a catalogue.
+#[no_mangle]
+pub extern "C" fn satmegwo_remove_record(catalogue: &mut [u8], index: u32) -> u32
+    ensures number { λ r. ⌜ r ≡ status (replyAfter (first (indexChecks (now (catalogue .entry)) index)) []) ⌝ }
+    ensures content { λ r. ⌜ now (catalogue .exit) ≡ contentAfter (first (indexChecks (now (catalogue .entry)) index)) (removed (now (catalogue .entry)) index) (now (catalogue .entry)) ⌝ }
+{
+    status_of(catalogue::remove(catalogue, index))
+}
+
+// Where a record of a catalogue lies, and its length.
+#[no_mangle]
+pub extern "C" fn satmegwo_fetch_record(catalogue: &[u8], index: u32, figures: &mut [u32]) -> u32
+    ensures number { λ r. ⌜ r ≡ status (lent (fetchReply (now (catalogue .entry)) index) (length (now (figures .entry)))) ⌝ }
+    ensures content { λ r. ⌜ now (figures .exit) ≡ figuresAfter (lent (fetchReply (now (catalogue .entry)) index) (length (now (figures .entry)))) (now (figures .entry)) ⌝ }
+{
+    give_place(catalogue::fetch_status(catalogue, index), figures)
+}
+
+// Compacts a catalogue.
+#[no_mangle]
+pub extern "C" fn satmegwo_compact_catalogue(catalogue: &mut [u8]) -> u32
+    ensures number { λ r. ⌜ r ≡ status (replyAfter (first (catalogueChecks (now (catalogue .entry)))) []) ⌝ }
+    ensures content { λ r. ⌜ now (catalogue .exit) ≡ contentAfter (first (catalogueChecks (now (catalogue .entry)))) (compacted (now (catalogue .entry))) (now (catalogue .entry)) ⌝ }
+{
+    status_of(catalogue::compact(catalogue))
 }

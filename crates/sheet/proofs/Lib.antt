@@ -1,7 +1,6 @@
 pub mod Printing
 pub mod Outcomes
 pub mod Verdicts
-pub mod FileRoom
 pub mod Sheets
 pub mod Theorems
 pub mod Example

@@ -12,10 +12,11 @@ use Rattle.refusals.specs.declared.Checked.{Checked}
 use Rattle.refusals.specs.declared.Checked.the-variants.{Accepted, Refused}
 use Rattle.refusals.proofs.Checks.{content-accepted}
 use Rattle.boxfile.specs.File.{rowsOf, fileChecks}
+use Rattle.boxfile.specs.Work.{Room}
 use Rattle.texts.specs.Text.{bytes, line}
 use Rattle.texts.proofs.Lengths.{line-few}
 use Rattle.sheet.specs.Sheet.{untilRefused, sheetLines, fileReply, sheetText}
-use Rattle.sheet.specs.Work.{Printed, Room}
+use Rattle.sheet.specs.Work.{Printed}
 
 -- a call that replied figures was accepted, and these are what it gives
 pub reply-figures : (k : Checked) {given shows : List ℕ} → replyAfter k given ≡ figures shows → (k ≡ Accepted) × (shows ≡ given)

@@ -5,7 +5,7 @@ use mathlib.Core.Bool.{Bool, true, false, cond}
 use mathlib.Core.List.{List, [], _∷_, _++_, List·Memᴰ, List·Memᴰ·not-nil}
 use native.Mathlib.Nat.{le-refl}
 use native.Mathlib.Omega.{arith}
-use borrow.Author.Tests.{eqb-false, eq-eqb, ne-eqb, le-leb, leb-false}
+use borrow.Author.Tests.{eqb-false, ne-eqb, le-leb, leb-false}
 use lib.Dec.{eqb, leb, lit≤}
 use lib.ListN.{length, take}
 use lib.Pow.{pow-mono}
@@ -17,15 +17,15 @@ use Rattle.boolean.proofs.Selection.{of-cons}
 use Rattle.refusals.specs.Table.{first, inRange, boxChecks, limitChecks, Box, figures, refusal, asFigure}
 use Rattle.refusals.specs.declared.Checked.the-variants.{Accepted}
 use Rattle.refusals.proofs.Bounds.{range-high, range-true}
-use Rattle.refusals.proofs.Checks.{passed, accepted, found, found-after, skip, stop, end, box, box-accepted, limit-accepted, reply-refused, reply-accepted}
+use Rattle.refusals.proofs.Checks.{found, found-after, skip, stop, end, box-accepted, limit-accepted, reply-refused, reply-accepted}
 use Rattle.linear.specs.Nonlinearity.{nonlinearity, nonlinearityReply}
 use Rattle.differential.specs.XorTable.{largestCell}
 use Rattle.avalanche.specs.Avalanche.{boxAutocorrelation, dynamicDistance, complete}
 use Rattle.avalanche.specs.Calls.{distanceChecks, autocorrelationReply}
 use Rattle.algebraic.specs.Algebraic.{boxDegree, bijective}
 use Rattle.algebraic.specs.Calls.{boxDegreeReply}
-use Rattle.boxfile.specs.File.{rowsOf, readChecks, fileChecks}
-use Rattle.boxfile.proofs.FileRows.{length-rows}
+use Rattle.boxfile.specs.File.{rowsOf, readChecks, fileChecks, fileFound}
+use Rattle.boxfile.proofs.FileRows.{box-of-file}
 use Rattle.texts.specs.Text.{bytes, line}
 use Rattle.sheet.specs.Sheet.{Line, prints, stops, outcome, yesOrNo, untilRefused, sheetLimit, bicLine, sheetLines, fileReply, sheetText}
 use Rattle.sheet.proofs.Outcomes.{numbers-shown, limited-shown, decided-shown}
@@ -34,16 +34,10 @@ use Rattle.sheet.proofs.Sheets.{read-accepted, sheet-refused, sheet-rea
 
 -- ---- a file that is accepted
 
--- the box of an accepted file is accepted
-box-of-file : (file : List ℕ) {shows : List ℕ} → fileReply file ≡ figures shows → Box (at file 0) (at file 1) (rowsOf file (at file 0))
-unfolding fileChecks readChecks
-box-of-file file h =
-    let n = at file 0 in
-    let m = at file 1 in
-    let rows = rowsOf file n in
-    let p = passed (fileChecks file (2 ^ n)) (read-accepted file h .0) in
-    let rows-many = eq-eqb (length rows) (2 ^ n) (length-rows file n) in
-    box n m rows [] (accepted (boxChecks n m rows) (p .1 .0, (p .1 .1 .0, (rows-many, (p .1 .1 .1 .1 .0, tt)))))
+-- the box of a file that is read is accepted
+box-read : (file : List ℕ) {shows : List ℕ} → fileReply file ≡ figures shows → Box (at file 0) (at file 1) (rowsOf file (at file 0))
+unfolding fileFound
+box-read file h = box-of-file file (read-accepted file h .0)
 
 -- the limit of the sheet is one that a box of m outputs has
 limit-inside : (m : ℕ) → 1 ≤ m → (1 ≤ sheetLimit m) × (sheetLimit m ≤ m)
@@ -125,7 +119,7 @@ module _ (n m : ℕ) (rows : List ℕ) (b : Box n m rows) where
 -- After an accepted file no figure is refused: of the lines of its sheet none stops it.
 pub no-figure-refused : (file : List ℕ) {shows : List ℕ} → fileReply file ≡ figures shows
     → (l : Line) → List·Memᴰ l (sheetLines (at file 0) (at file 1) (rowsOf file (at file 0))) → outcome l ≡ stops → ⊥
-no-figure-refused file h = print-each (lines-printed (at file 0) (at file 1) (rowsOf file (at file 0)) (box-of-file file h))
+no-figure-refused file h = print-each (lines-printed (at file 0) (at file 1) (rowsOf file (at file 0)) (box-read file h))
 
 -- The sheet of an accepted file is its nine lines, one after the other: the widths, and the figures of the box that the file holds.
 pub nine-lines : (file : List ℕ) {shows : List ℕ} → fileReply file ≡ figures shows
@@ -134,7 +128,7 @@ unfolding each
 nine-lines file h =
     sheet-read file h
     ∙ ap₂ (λ (widths text : List ℕ). line (bytes "box") widths ++ text) (read-accepted file h .1)
-    (print-all (lines-printed (at file 0) (at file 1) (rowsOf file (at file 0)) (box-of-file file h)))
+    (print-all (lines-printed (at file 0) (at file 1) (rowsOf file (at file 0)) (box-read file h)))
 
 -- ---- a file that is too long
 

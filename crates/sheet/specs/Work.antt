@@ -1,12 +1,9 @@
 -- What the functions behind the sheet leave.
-use Prim.Native.Nat.{ℕ, _+_, _^_, _≤_}
+use Prim.Native.Nat.{ℕ, _+_, _≤_}
 use mathlib.Core.Path.{_≡_}
 use mathlib.Core.List.{List}
 use lib.ListN.{length}
 use lib.Seq.{sets}
-use Rattle.boolean.specs.Functions.{at}
-use Rattle.refusals.specs.Table.{first}
-use Rattle.boxfile.specs.File.{fileChecks}
 use Rattle.sheet.specs.Sheet.{Line, untilRefused}
 
 -- some lines stand in the text from a start on, up to the first that is refused, and take at most so many bytes
@@ -14,8 +11,3 @@ pub record Printed (lines : List Line) (most start : ℕ) (old : List ℕ) (next
   pub place : next ≡ start + length (untilRefused lines)
   pub text : new ≡ sets old start (untilRefused lines)
   pub short : length (untilRefused lines) ≤ most
-
--- a room for the rows of a file with which its checks find what they find with the room that its rows take
-pub record Room (file : List ℕ) (room : ℕ) : Type 0 where
-  pub small : room ≤ 256
-  pub same : first (fileChecks file room) ≡ first (fileChecks file (2 ^ at file 0))

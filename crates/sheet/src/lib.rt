@@ -10,7 +10,8 @@ ghost use Prim.Native.Nat.{_+_, _≤_};
 ghost use lib.ListN.{length, drop};
 ghost use lib.Seq.{sets};
 ghost use Rattle.sheet.specs.Sheet.{sheetLimit, sheetLines, sheetText};
-ghost use Rattle.sheet.specs.Work.{Printed, Room};
+ghost use Rattle.boxfile.specs.Work.{Room};
+ghost use Rattle.sheet.specs.Work.{Printed};
 
 // The limit on combinations with which the sheet asks for its figures: all outputs up to 16 of them, and 4 above.
 fn limit_of(m: u32) -> u32
@@ -131,20 +132,6 @@ fn write_from_nonlinearity(n: u32, m: u32, rows: &[u32], text: &mut [u8], at: us
     write_from_xor(n, m, rows, text, next)
 }
 
-// How many rows the file's n asks for; 0 where there is no n, or none that a box has, and the room then does not matter.
-fn room_of(file: &[u8]) -> usize
-    ensures { λ r. ⌜ Room (now (file .entry)) r ⌝ }
-{
-    if file.len() == 0 {
-        return 0;
-    }
-    let n = file[0] as u32;
-    if !refusals::in_range(1, 8, n) {
-        return 0;
-    }
-    boolean::power_of_two(n)
-}
-
 // The sheet of a file, whose rows are read to an array that has room for them.
 fn write_read(file: &[u8], rows: &mut [u32], text: &mut [u8]) -> usize
     requires { ⌜ Room (now file) (length (now rows)) × (332 ≤ length (now text)) ⌝ }
@@ -166,6 +153,6 @@ pub fn write_sheet(file: &[u8], text: &mut [u8; 332]) -> usize
     ensures { λ r. ⌜ (r ≡ length (sheetText (now (file .entry)))) × (r ≤ 332) × (now (text .exit) ≡ sets (now (text .entry)) 0 (sheetText (now (file .entry)))) ⌝ }
 {
     let mut rows = [0u32; 256];
-    let size = room_of(file);
+    let size = boxfile::room_of(file);
     write_read(file, &mut rows[..size], text)
 }

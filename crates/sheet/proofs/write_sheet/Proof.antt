@@ -1,7 +1,7 @@
 -- `sheet::write_sheet` meets its contract: the part of the rows that is lent is as long as the room. Assumes nothing.
 use mathlib.Core.Path.{sym, subst}
 use lib.Seq.{length-take-le}
-use Rattle.sheet.specs.Work.{Room}
+use Rattle.boxfile.specs.Work.{Room}
 use borrow.Author.Needs.{needs}
 use Rattle.sheet.proofs.write_sheet.Statement.{statement}
 use Rattle.sheet.proofs.write_sheet.Tie as tie

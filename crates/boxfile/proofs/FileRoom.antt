@@ -12,8 +12,8 @@ use Rattle.boolean.specs.Functions.{at}
 use Rattle.refusals.specs.Table.{first, inRange}
 use Rattle.refusals.proofs.Bounds.{range-high}
 use Rattle.refusals.proofs.Checks.{found, skip, stop}
 use Rattle.boxfile.specs.File.{readChecks, fileChecks}
-use Rattle.sheet.specs.Work.{Room}
+use Rattle.boxfile.specs.Work.{Room}
 
 -- where n is none that a box has, the checks do not ask for the room
 pub room-not-asked : (file : List ℕ) (a b : ℕ) → inRange 1 8 (at file 0) ≡ false → first (fileChecks file a) ≡ first (fileChecks file b)

@@ -1,22 +1,22 @@
--- `sheet::room_of` meets its contract: where n is a box's the room is 2^n, and else the checks do not ask for it. Assumes nothing.
+-- `boxfile::room_of` meets its contract: where n is a box's the room is 2^n, and else the checks do not ask for it. Assumes nothing.
 use native.Mathlib.Nat.{le-trans}
 use native.Mathlib.Omega.{arith}
 use lib.Dec.{lit≤}
 use Rattle.refusals.proofs.Bounds.{range-high}
 use Rattle.refusals.proofs.Checks.{fails, holds}
-use Rattle.sheet.proofs.FileRoom.{no-room, room-of-none, room-of-rows}
+use Rattle.boxfile.proofs.FileRoom.{no-room, room-of-none, room-of-rows}
 use borrow.Author.Needs.{needs}
-use Rattle.sheet.proofs.room_of.Statement.{statement}
-use Rattle.sheet.proofs.room_of.Tie as tie
+use Rattle.boxfile.proofs.room_of.Statement.{statement}
+use Rattle.boxfile.proofs.room_of.Tie as tie
 
 returns : tie.Need-returns
 returns c = room-of-none _ (c .if1 .taken)
 
-shared-slice-read-n : tie.Need-shared-slice-read-n
-shared-slice-read-n c = search needs
+shared-slice-read-inputs : tie.Need-shared-slice-read-inputs
+shared-slice-read-inputs c = search needs
 
-cast-n : tie.Need-cast-n
-cast-n c = omega (arith, c .shared-slice-known2 .given 0)
+cast-inputs : tie.Need-cast-inputs
+cast-inputs c = omega (arith, c .shared-slice-known2 .given 0)
 
 in-range-requires : tie.Need-in-range-requires
 in-range-requires c κs = search needs
@@ -36,8 +36,8 @@ room-of-spec =
     tie.close
     (tie.spec
     returns
-    shared-slice-read-n
-    cast-n
+    shared-slice-read-inputs
+    cast-inputs
     in-range-requires
     returns-2
     power-of-two-requires

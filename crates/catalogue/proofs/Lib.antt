@@ -1,0 +1,15 @@
+pub mod Built
+pub mod Ands
+pub mod StandingLoop
+pub mod Indexed
+pub mod Moves
+pub mod Directories
+pub mod Bodies
+pub mod Edits
+pub mod GapSearch
+pub mod Adding
+pub mod Packing
+pub mod Leaving
+pub mod LowestGap
+pub mod Theorems
+pub mod RuleByRule

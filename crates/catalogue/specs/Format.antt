@@ -1,0 +1,108 @@
+-- Document 02 §7: a catalogue of box files in one buffer, as it is read and as it is written.
+use Prim.Native.Nat.{ℕ, _+_, _-_, _*_, _/_, _%_}
+use mathlib.Core.Bool.{Bool, true, false, _&&_}
+use mathlib.Core.List.{List, [], _∷_, _++_, map}
+use lib.Dec.{leb}
+use lib.ListN.{length, take, drop, replicate}
+use Rattle.boolean.specs.Sums.{listBelow, each}
+use Rattle.boolean.specs.Functions.{at}
+use Rattle.refusals.specs.Table.{inRange, allBelow}
+use Rattle.refusals.specs.declared.Checked.{Checked}
+use Rattle.refusals.specs.declared.Checked.the-variants.{Accepted, Refused}
+use Rattle.boxfile.specs.File.{fileFound}
+
+-- a number in two bytes, low byte first: as it is read, and as it is written
+unfoldable pub wordAt : List ℕ → ℕ → ℕ
+wordAt b i = at b i + 256 * at b (i + 1)
+
+unfoldable pub word : ℕ → List ℕ
+word v = v % 256 ∷ v / 256 ∷ []
+
+-- so many bytes from a start on
+abbrev pub part : ℕ → ℕ → List ℕ → List ℕ
+part start size b = take size (drop start b)
+
+-- every byte is 0
+abbrev pub allZero : List ℕ → Bool
+allZero bytes = allBelow 1 bytes
+
+-- a place of the directory, and a record with its bytes
+pub record Place : Type 0 where
+  pub offset : ℕ
+  pub size : ℕ
+
+pub record Item : Type 0 where
+  pub start : ℕ
+  pub bytes : List ℕ
+
+abbrev pub isAccepted : Checked → Bool
+isAccepted Accepted = true
+isAccepted (Refused e) = false
+
+-- a box file that is accepted
+unfoldable pub accepted : List ℕ → Bool
+unfolding fileFound
+accepted file = isAccepted (fileFound file)
+
+-- Reading: the count, the places in use, and the records that they name.
+unfoldable pub count : List ℕ → ℕ
+unfolding wordAt
+count b = wordAt b 0
+
+unfoldable pub placeAt : List ℕ → ℕ → Place
+unfolding wordAt
+placeAt b k = record { offset = wordAt b (4 * k + 2); size = wordAt b (4 * k + 4) }
+
+unfoldable pub places : List ℕ → List Place
+unfolding count placeAt listBelow
+places b = listBelow (count b) (λ k. placeAt b k)
+
+abbrev pub itemAt : List ℕ → Place → Item
+itemAt b p = record { start = p .offset; bytes = part (p .offset) (p .size) b }
+
+unfoldable pub records : List ℕ → List Item
+unfolding places
+records b = map (itemAt b) (places b)
+
+-- a record stands at this place, past the end of what stands before it: it begins at that end or later and ends inside the buffer, the bytes between are
+-- zero, and its own bytes are a box file that is accepted
+unfoldable pub stands : List ℕ → ℕ → Place → Bool
+unfolding accepted
+stands b end p =
+    leb end (p .offset)
+    && (leb (p .offset + p .size) (length b)
+    && (allZero (part end (p .offset - end) b) && accepted (part (p .offset) (p .size) b)))
+
+-- records stand at these places, one after the other, and the bytes behind the last one are zero
+unfoldable pub stand : List ℕ → ℕ → List Place → Bool
+unfolding stands
+stand b end [] = allZero (drop end b)
+stand b end (p ∷ ps) = stands b end p && stand b (p .offset + p .size) ps
+
+-- the whole test: the length, the count, the places that are not used, the records with the bytes between them
+unfoldable pub valid : List ℕ → Bool
+unfolding count places stand
+valid b =
+    inRange 258 65535 (length b)
+    && (leb (count b) 64
+    && (allZero (part (4 * count b + 2) (4 * (64 - count b)) b) && stand b 258 (places b)))
+
+-- Writing: the directory of some places, the bytes from a position on, and the whole buffer.
+unfoldable pub placeBytes : Place → List ℕ
+unfolding word
+placeBytes p = word (p .offset) ++ word (p .size)
+
+unfoldable pub directory : List Place → List ℕ
+unfolding word placeBytes each
+directory ps = word (length ps) ++ (each ps placeBytes ++ replicate (4 * (64 - length ps)) 0)
+
+unfoldable pub body : ℕ → ℕ → List Item → List ℕ
+body pos size [] = replicate (size - pos) 0
+body pos size (r ∷ rs) = replicate (r .start - pos) 0 ++ (r .bytes ++ body (r .start + length (r .bytes)) size rs)
+
+abbrev pub placeOf : Item → Place
+placeOf r = record { offset = r .start; size = length (r .bytes) }
+
+unfoldable pub build : ℕ → List Item → List ℕ
+unfolding directory body
+build size rs = directory (map placeOf rs) ++ body 258 size rs

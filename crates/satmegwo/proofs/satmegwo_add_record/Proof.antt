@@ -1,0 +1,121 @@
+-- `satmegwo::satmegwo_add_record` meets its contract: the array for the index is looked at between the file and the room. Assumes nothing.
+use mathlib.Core.Path.{_≡_, sym, ap, _∙_}
+use mathlib.Core.List.{[], _∷_}
+use borrow.Author.Tests.{eq-eqb, ne-eqb}
+use lib.ListN.{length}
+use Rattle.refusals.specs.Table.{first, replyAfter, contentAfter}
+use Rattle.refusals.specs.declared.Checked.{Checked}
+use Rattle.refusals.proofs.Checks.{reply-refused, content-refused}
+use Rattle.catalogue.specs.Calls.{told, gapFor, gapIndex, offeredChecks, addChecks, added}
+use Rattle.satmegwo.specs.Exports.{addRecordChecks, roomNumber}
+use Rattle.satmegwo.proofs.Giving.{figures-told, refusal-told, room-refused, room-passed}
+use borrow.Author.Needs.{needs}
+use Rattle.satmegwo.proofs.satmegwo_add_record.Statement.{statement}
+use Rattle.satmegwo.proofs.satmegwo_add_record.Tie as tie
+
+-- with one element lent for the index, the checks are those of the call
+as-called : (c : tie.Else1) →
+    let a = c .before .before .before .before .args in
+    first (addRecordChecks (a .catalogue .now) (a .file .now) (length (a .figures .now))) ≡ first (addChecks (a .catalogue .now) (a .file .now))
+unfolding addRecordChecks addChecks
+as-called c =
+    let a = c .before .before .before .before .args in
+    room-passed (offeredChecks (a .catalogue .now) (a .file .now)) _ (eq-eqb _ 1 (sym (c .if1 .left)))
+
+check-offered-requires : tie.Need-check-offered-requires
+check-offered-requires c κs = search needs
+
+number-for-room-requires : tie.Need-number-for-room-requires
+number-for-room-requires c κs = search needs
+
+same-length : tie.Need-same-length
+same-length c = search needs
+
+returns : tie.Need-returns
+unfolding addRecordChecks
+returns c =
+    let else = c .before .before .before in
+    let a = else .before .before .before .before .args in
+    let b = a .catalogue .now in
+    let file = a .file .now in
+    let index = gapIndex (gapFor b file) ∷ [] in
+    let found = first (addRecordChecks b file (length (a .figures .now))) in
+    let t = room-refused (offeredChecks b file) _ (ne-eqb _ 1 (λ e. else .if1 .taken (sym e))) in
+    let says = refusal-told found index (a .figures .now) (reply-refused (t .is) index) in
+    (c .number-for-room .ensures ∙ ap roomNumber (c .before .check-offered .ensures) ∙ t .number-is ∙ says .0, (says .1, content-refused (t .is) _ _))
+
+add-requires : tie.Need-add-requires
+add-requires c κs = search needs
+
+enum-known-index : tie.Need-enum-known-index
+enum-known-index c = search needs
+
+slice-aggregate-give : tie.Need-slice-aggregate-give
+slice-aggregate-give c = search needs
+
+give-requires : tie.Need-give-requires
+give-requires c κs = search needs
+
+enum-known-e : tie.Need-enum-known-e
+enum-known-e c = search needs
+
+number-of-requires : tie.Need-number-of-requires
+number-of-requires c κs = search needs
+
+same-length-2 : tie.Need-same-length-2
+same-length-2 c = search needs
+
+same-length-3 : tie.Need-same-length-3
+same-length-3 c = search needs
+
+returns-2 : tie.Need-returns-2
+returns-2 c =
+    let given = c .before .before in
+    let is = given .before .before .before .before in
+    let called = is .before .before .before .before in
+    let else = called .before .before in
+    let a = else .before .before .before .before .args in
+    let b = a .catalogue .now in
+    let file = a .file .now in
+    let index = gapIndex (gapFor b file) ∷ [] in
+    let found = first (addRecordChecks b file (length (a .figures .now))) in
+    let reply = sym (ap told (is .index .given .1)) ∙ called .add .ensures .0 ∙ ap (λ (k : Checked). replyAfter k index) (sym (as-called else)) in
+    let says = figures-told found index (is .index .given .0 .0 ∷ []) (a .figures .now) (sym (else .if1 .left)) reply (given .give .ensures) in
+    (says .0, (says .1, called .add .ensures .1 ∙ ap (λ (k : Checked). contentAfter k (added b file) b) (sym (as-called else))))
+
+same-length-4 : tie.Need-same-length-4
+same-length-4 c = search needs
+
+returns-3 : tie.Need-returns-3
+returns-3 c =
+    let is = c .before .before in
+    let called = is .before .before .before .before in
+    let else = called .before .before in
+    let a = else .before .before .before .before .args in
+    let b = a .catalogue .now in
+    let file = a .file .now in
+    let index = gapIndex (gapFor b file) ∷ [] in
+    let found = first (addRecordChecks b file (length (a .figures .now))) in
+    let reply = sym (ap told (is .e .given .1)) ∙ called .add .ensures .0 ∙ ap (λ (k : Checked). replyAfter k index) (sym (as-called else)) in
+    let says = refusal-told found index (a .figures .now) reply in
+    (c .number-of .ensures ∙ says .0, (says .1, called .add .ensures .1 ∙ ap (λ (k : Checked). contentAfter k (added b file) b) (sym (as-called else))))
+
+pub satmegwo-add-record-spec : {M : Type 1} → statement M
+satmegwo-add-record-spec =
+    tie.close
+    (tie.spec
+    check-offered-requires
+    number-for-room-requires
+    same-length
+    returns
+    add-requires
+    enum-known-index
+    slice-aggregate-give
+    give-requires
+    enum-known-e
+    number-of-requires
+    same-length-2
+    same-length-3
+    returns-2
+    same-length-4
+    returns-3)

@@ -1,0 +1,24 @@
+-- `satmegwo::satmegwo_fetch_record` meets its contract: that of the call, with its figures in the lent array. Assumes nothing.
+use Rattle.satmegwo.proofs.Giving.{gives-same}
+use borrow.Author.Needs.{needs}
+use Rattle.satmegwo.proofs.satmegwo_fetch_record.Statement.{statement}
+use Rattle.satmegwo.proofs.satmegwo_fetch_record.Tie as tie
+
+fetch-status-requires : tie.Need-fetch-status-requires
+fetch-status-requires c κs = search needs
+
+give-place-requires : tie.Need-give-place-requires
+give-place-requires c κs = search needs
+
+same-length : tie.Need-same-length
+same-length c = search needs
+
+returns : tie.Need-returns
+returns c =
+    let given = c .before .before in
+    let called = given .before .before in
+    gives-same (called .before .before .before .args .figures .now) (called .fetch-status .ensures) (given .give-place .ensures)
+
+pub satmegwo-fetch-record-spec : {M : Type 1} → statement M
+satmegwo-fetch-record-spec =
+    tie.close (tie.spec fetch-status-requires give-place-requires same-length returns)

@@ -1,0 +1,24 @@
+-- `satmegwo::satmegwo_remove_record` meets its contract: that of the call, with a number in place of the answer. Assumes nothing.
+use mathlib.Core.Path.{ap, _∙_}
+use Rattle.satmegwo.specs.Exports.{status}
+use borrow.Author.Needs.{needs}
+use Rattle.satmegwo.proofs.satmegwo_remove_record.Statement.{statement}
+use Rattle.satmegwo.proofs.satmegwo_remove_record.Tie as tie
+
+remove-requires : tie.Need-remove-requires
+remove-requires c κs = search needs
+
+status-of-requires : tie.Need-status-of-requires
+status-of-requires c κs = search needs
+
+same-length : tie.Need-same-length
+same-length c = search needs
+
+returns : tie.Need-returns
+returns c =
+    let called = c .before .before .before .remove .ensures in
+    (c .status-of .ensures ∙ ap status (called .0), called .1)
+
+pub satmegwo-remove-record-spec : {M : Type 1} → statement M
+satmegwo-remove-record-spec =
+    tie.close (tie.spec remove-requires status-of-requires same-length returns)
