@@ -20,6 +20,7 @@ static uint16_t counts[65536];
 static uint8_t table[256], out_table[256], permutation[16], file[1026], catalogue[65535];
 static int32_t values[256];
 static uint64_t list[32640];
+static uint8_t packed[1024];
 
 static uint32_t spectrum(void) { return satmegwo_spectrum(8, table, 256, values, 256); }
 static uint32_t inverse(void) { return satmegwo_inverse_spectrum(8, values, 256, out_table, 256); }
@@ -46,6 +47,8 @@ static uint32_t check_catalogue(void) { return satmegwo_check_catalogue(catalogu
 static uint32_t fetch_record(void) { return satmegwo_fetch_record(catalogue, 65535, 1, figures, 2); }
 static uint32_t remove_record(void) { return satmegwo_remove_record(catalogue, 65535, 0); }
 static uint32_t compact_catalogue(void) { return satmegwo_compact_catalogue(catalogue, 65535); }
+static uint32_t pack_columns(void) { return satmegwo_pack_columns(8, 32, rows, 256, packed, 1024); }
+static uint32_t unpack_columns(void) { return satmegwo_unpack_columns(8, 32, packed, 1024, out_rows, 256); }
 
 static const struct { const char *name; uint32_t (*call)(void); } calls[] = {
     {"spectrum", spectrum}, {"inverse_spectrum", inverse}, {"component_spectrum", component}, {"nonlinearity", nonlinearity},
@@ -56,6 +59,7 @@ static const struct { const char *name; uint32_t (*call)(void); } calls[] = {
     {"bent_function", bent_function}, {"read_box", read_box}, {"add_record", add_record}, {"add_record", add_record},
     {"check_catalogue", check_catalogue}, {"fetch_record", fetch_record}, {"remove_record", remove_record},
     {"compact_catalogue", compact_catalogue},
+    {"pack_columns", pack_columns}, {"unpack_columns", unpack_columns},
 };
 
 static uint32_t (*current)(void);

@@ -29,7 +29,8 @@
  *    1  n is not 1 to 8 (in the two enlargements not 1 to 7, in the bent form not 2, 4,
  *       6 or 8)
  *    2  m is not 1 to 32 (for a row of the XOR table not 1 to 16)
- *    3  an array that is read has not 2^n elements (in the bent form: 2^(n/2))
+ *    3  an array that is read has not 2^n elements (in the bent form: 2^(n/2); packed
+ *       columns have their own length)
  *    4  a row is not below 2^m, or a truth value is above 1
  *    5  the permutation of the bent form is none
  *    6  c, w, a, b, k, i or j is outside its range
@@ -42,6 +43,7 @@
  *   13  a catalogue breaks one of its rules
  *   14  a catalogue has no gap that is long enough, or has 64 records
  *   15  a catalogue has no record of this index
+ *   16  an unused bit of a packed column is set (looked for at the place of 4)
  *
  * All lengths (3) are looked at before any value (4). Each function below names the
  * refusals it can give, in the order in which it looks for them.
@@ -309,6 +311,23 @@ uint32_t satmegwo_fetch_record(const uint8_t *catalogue, size_t catalogue_len, u
  *   catalogue  read and written
  * Refusals: 13. */
 uint32_t satmegwo_compact_catalogue(uint8_t *catalogue, size_t catalogue_len);
+/* ---- Packed columns ------------------------------------------------------ */
+
+/* A box as columns, packed for the mask: for column 1 first, the truth values in input
+ * order, eight to a byte, lowest bit first. A column takes 2^n / 8 bytes, and with n below
+ * 3 one byte, whose unused high bits are 0. With s bytes to a column, the value of column j
+ * at input x is bit (x mod 8) of byte (j - 1) * s + x / 8, the lowest being bit 0.
+ *   rows    read, 2^n elements below 2^m
+ *   packed  written, m * s bytes
+ * Refusals: 1, 2, 3, 4, 7. */
+uint32_t satmegwo_pack_columns(uint32_t n, uint32_t m, const uint32_t *rows, size_t rows_len, uint8_t *packed, size_t packed_len);
+
+/* The way back: the rows of packed columns. What either call gives is accepted by the
+ * other, which gives back what was there before.
+ *   packed  read, m * s bytes; with n below 3 only the lowest 2^n bits of each may be set
+ *   rows    written, 2^n elements
+ * Refusals: 1, 2, 3 (the packed array has another length), 16, 7. */
+uint32_t satmegwo_unpack_columns(uint32_t n, uint32_t m, const uint8_t *packed, size_t packed_len, uint32_t *rows, size_t rows_len);
 
 #ifdef __cplusplus
 }

@@ -8,6 +8,8 @@
 //! of four boxes.
 //! chosen for them, the degree there beside the library's own nonlinearity too. Then the calls on
 //! a catalogue.
+//! chosen for them, the degree there beside the library's own nonlinearity too; then packing
+//! and unpacking on random boxes of a few sizes.
 //! Both programs take turns, several rounds each, and the least time of all rounds is shown:
 //! what disturbs a measurement only ever makes it longer. With --anchor the C program FILE.c,
 //! which measures the nonlinearity of an 8 by 16 box and prints its time as `... T s`, is
@@ -18,6 +20,7 @@ mod calls;
 mod catalogues;
 #[path = "../../tests/src/library.rs"]
 mod library;
+mod packing;
 mod table;
 
 use calls::{library_nonlinearity, library_nonlinearity_of_one, DEGREE, LIST, MEASURES, SUM};
@@ -78,6 +81,7 @@ fn run(seed: u64, anchor: Option<&str>) -> Result<(), String> {
     degrees_of_chosen_boxes(&mut table, &mut random)?;
     sums_of_boxes(&mut table, &mut random)?;
     catalogues::measure(&table, &mut random)?;
+    packing::measure(&table, &mut random)?;
     if let Some(source) = anchor {
         let library = table.library("8x16", "nonlinearity");
         table.line("8x16", "nonlinearity, second is the C anchor", library, anchor::time(source)?);

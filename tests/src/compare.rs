@@ -4,6 +4,7 @@ use crate::calls::{Run, FIGURE_CALLS, LIMITED_CALLS};
 use crate::damage;
 use crate::library;
 use crate::sums;
+use crate::packed;
 use second_model::boxes::{self, KINDS};
 use second_model::combinations::quick_limit;
 use second_model::model::{self, all_outputs};
@@ -22,13 +23,15 @@ pub fn run(seed: u64, count: u64) -> bool {
     let start = Instant::now();
     let damaged = |run: &mut Run| damage::all(run, count);
     let sums_of_boxes = |run: &mut Run| sums::all(run, count);
-    let parts: [(&str, Part); 6] = [
+    let packing = |run: &mut Run| packed::all(run, count);
+    let parts: [(&str, Part); 7] = [
         ("bounds", &bounds::all),
         ("boxes of all widths", &boxes_of_all_widths),
         ("truth tables", &truth_tables),
         ("damaged arguments", &damaged),
         ("lists of column additions", &lists_of_additions),
         ("sums of boxes", &sums_of_boxes),
+        ("packed columns", &packing),
     ];
     for (name, part) in parts {
         let before = run.comparisons;

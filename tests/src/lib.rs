@@ -10,6 +10,7 @@ pub mod combinations;
 pub mod fast;
 pub mod fast_cells;
 pub mod model;
+pub mod packing;
 pub mod published;
 pub mod random;
 pub mod rounds;

@@ -38,6 +38,8 @@ mod raw {
         pub fn satmegwo_remove_record(catalogue: *mut u8, catalogue_len: usize, index: u32) -> u32;
         pub fn satmegwo_fetch_record(catalogue: *const u8, catalogue_len: usize, index: u32, figures: *mut u32, figures_len: usize) -> u32;
         pub fn satmegwo_compact_catalogue(catalogue: *mut u8, catalogue_len: usize) -> u32;
+        pub fn satmegwo_pack_columns(n: u32, m: u32, rows: *const u32, rows_len: usize, packed: *mut u8, packed_len: usize) -> u32;
+        pub fn satmegwo_unpack_columns(n: u32, m: u32, packed: *const u8, packed_len: usize, rows: *mut u32, rows_len: usize) -> u32;
     }
 }
 
@@ -156,4 +158,12 @@ pub fn fetch_record(catalogue: &[u8], index: u32, figures: &mut [u32]) -> u32 {
 
 pub fn compact_catalogue(catalogue: &mut [u8]) -> u32 {
     unsafe { raw::satmegwo_compact_catalogue(catalogue.as_mut_ptr(), catalogue.len()) }
+}
+
+pub fn pack_columns(n: u32, m: u32, rows: &[u32], packed: &mut [u8]) -> u32 {
+    unsafe { raw::satmegwo_pack_columns(n, m, rows.as_ptr(), rows.len(), packed.as_mut_ptr(), packed.len()) }
+}
+
+pub fn unpack_columns(n: u32, m: u32, packed: &[u8], rows: &mut [u32]) -> u32 {
+    unsafe { raw::satmegwo_unpack_columns(n, m, packed.as_ptr(), packed.len(), rows.as_mut_ptr(), rows.len()) }
 }

@@ -7,6 +7,7 @@ mod files;
 mod histories;
 mod lent;
 mod library;
+mod packed;
 mod sheets;
 mod sums;
 

@@ -38,15 +38,15 @@ pub fn refuse_when(condition: bool, number: u32) -> Answer<()> {
     }
 }
 
-fn check_inputs(n: u32, most: u32) -> Answer<()> {
+pub(crate) fn check_inputs(n: u32, most: u32) -> Answer<()> {
     refuse_when(n < 1 || n > most, INPUT_WIDTH)
 }
 
-fn check_outputs(m: u32, most: u32) -> Answer<()> {
+pub(crate) fn check_outputs(m: u32, most: u32) -> Answer<()> {
     refuse_when(m < 1 || m > most, OUTPUT_WIDTH)
 }
 
-fn check_read(length: usize, right: usize) -> Answer<()> {
+pub(crate) fn check_read(length: usize, right: usize) -> Answer<()> {
     refuse_when(length != right, READ_LENGTH)
 }
 

@@ -19,6 +19,7 @@ pub enum Refusal {
     Catalogue,
     NoRoom,
     NoRecord,
+    UnusedBit,
 }
 
 // What a call's checks find: nothing, or the first that applies.
@@ -60,6 +61,7 @@ pub fn number_of(e: Refusal) -> u32
         Refusal::Catalogue => 13,
         Refusal::NoRoom => 14,
         Refusal::NoRecord => 15,
+        Refusal::UnusedBit => 16,
     }
 }
 

@@ -37,6 +37,7 @@ ghost use Rattle.rounds.specs.Round.{boxOf, boxes, sumReply};
 ghost use Rattle.rounds.specs.Calls.{leastSum};
 ghost use Rattle.satmegwo.specs.Exports.{status, lent, figuresAfter, cellsChecks, readBoxChecks, roomNumber, addRecordChecks};
 ghost use Rattle.catalogue.specs.Calls.{told, fetched, checkReply, fetchReply, catalogueChecks, indexChecks, gapFor, gapIndex, removed, added, compacted};
+ghost use Rattle.packing.specs.Packing.{packed as packedForm, unpacked, packChecks, unpackChecks};
 
 // The number of a call that only writes.
 fn status_of(answer: Written) -> u32
@@ -541,4 +542,22 @@ pub extern "C" fn satmegwo_compact_catalogue(catalogue: &mut [u8]) -> u32
     ensures content { λ r. ⌜ now (catalogue .exit) ≡ contentAfter (first (catalogueChecks (now (catalogue .entry)))) (compacted (now (catalogue .entry))) (now (catalogue .entry)) ⌝ }
 {
     status_of(catalogue::compact(catalogue))
+}
+
+// The columns of a box, packed for the mask.
+#[no_mangle]
+pub extern "C" fn satmegwo_pack_columns(n: u32, m: u32, rows: &[u32], packed: &mut [u8]) -> u32
+    ensures number { λ r. ⌜ r ≡ status (replyAfter (first (packChecks n m (now (rows .entry)) (length (now (packed .entry))))) []) ⌝ }
+    ensures content { λ r. ⌜ now (packed .exit) ≡ contentAfter (first (packChecks n m (now (rows .entry)) (length (now (packed .entry))))) (packedForm n m (now (rows .entry))) (now (packed .entry)) ⌝ }
+{
+    status_of(packing::pack(n, m, rows, packed))
+}
+
+// The rows of packed columns.
+#[no_mangle]
+pub extern "C" fn satmegwo_unpack_columns(n: u32, m: u32, packed: &[u8], rows: &mut [u32]) -> u32
+    ensures number { λ r. ⌜ r ≡ status (replyAfter (first (unpackChecks n m (now (packed .entry)) (length (now (rows .entry))))) []) ⌝ }
+    ensures content { λ r. ⌜ now (rows .exit) ≡ contentAfter (first (unpackChecks n m (now (packed .entry)) (length (now (rows .entry))))) (unpacked n m (now (packed .entry))) (now (rows .entry)) ⌝ }
+{
+    status_of(packing::unpack(n, m, packed, rows))
 }

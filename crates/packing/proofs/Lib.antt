@@ -1,0 +1,9 @@
+pub mod Binary
+pub mod Widths
+pub mod Gathering
+pub mod Arrays
+pub mod Places
+pub mod Laws
+pub mod Accepted
+pub mod Returns
+pub mod Theorems

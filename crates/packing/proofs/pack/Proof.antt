@@ -1,0 +1,69 @@
+-- `packing::pack` meets its contract: what the checks found says which case it is, in the answer and in the array.
+-- Assumes nothing.
+use mathlib.Core.Path.{_≡_, refl, sym, _∙_}
+use mathlib.Core.List.{[]}
+use borrow.Author.Needs.{needs}
+use lib.ListN.{length}
+use Rattle.refusals.specs.Table.{first}
+use Rattle.refusals.specs.declared.Checked.the-variants.{Accepted}
+use Rattle.refusals.proofs.Checks.{reply-refused, reply-accepted, content-refused, content-accepted}
+use Rattle.packing.specs.Packing.{packChecks}
+use Rattle.packing.proofs.Accepted.{pack-box, pack-room, cleared}
+use Rattle.packing.proofs.pack.Statement.{statement}
+use Rattle.packing.proofs.pack.Tie as tie
+
+-- past the `if` the checks found nothing
+accepted : (c : tie.After-enum-told) →
+    let a = c .before .before .before .before .before .args in
+    first (packChecks (a .n) (a .m) (a .rows .now) (length (a .out .now))) ≡ Accepted
+accepted c = sym (c .before .before .check-pack .ensures) ∙ c .enum-told .given .1
+
+check-pack-requires : tie.Need-check-pack-requires
+check-pack-requires c κs = search needs
+
+enum-known-e : tie.Need-enum-known-e
+enum-known-e c = search needs
+
+returns : tie.Need-returns
+returns c =
+    let h = sym (c .before .before .before .check-pack .ensures) ∙ c .before .e .given .1 in
+    (reply-refused h [], content-refused h _ _)
+
+enum-told : tie.Need-enum-told
+enum-told c = search needs
+
+slice-aggregate-pack-rows : tie.Need-slice-aggregate-pack-rows
+slice-aggregate-pack-rows c = search needs
+
+slice-aggregate-pack-rows-2 : tie.Need-slice-aggregate-pack-rows-2
+slice-aggregate-pack-rows-2 c = search needs
+
+pack-rows-requires : tie.Need-pack-rows-requires
+pack-rows-requires c κs =
+    let told = c .before .before .before in
+    let a = told .before .before .before .before .before .args in
+    let h = accepted told in
+    (pack-box (a .n) (a .m) (a .rows .now) _ h, cleared 256, refl, pack-room (a .n) (a .m) (a .rows .now) _ h)
+
+same-length : tie.Need-same-length
+same-length c = search needs
+
+returns-2 : tie.Need-returns-2
+returns-2 c =
+    let wrote = c .before .before .before .before in
+    let h = accepted (wrote .before .before .before .before) in
+    (reply-accepted h [], wrote .pack-rows .ensures ∙ content-accepted h _ _)
+
+pub pack-spec : {M : Type 1} → statement M
+pack-spec =
+    tie.close
+    (tie.spec
+    check-pack-requires
+    enum-known-e
+    returns
+    enum-told
+    slice-aggregate-pack-rows
+    slice-aggregate-pack-rows-2
+    pack-rows-requires
+    same-length
+    returns-2)

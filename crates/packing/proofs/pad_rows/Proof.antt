@@ -1,0 +1,62 @@
+-- `packing::pad_rows` meets its contract: each turn copies one entry, and the entries past the last stay 0.
+-- Assumes nothing.
+use mathlib.Core.Path.{refl, sym, _∙_}
+use Prim.Native.Nat.{_-_}
+use borrow.Author.Needs.{needs}
+use lib.ListN.{length}
+use Rattle.packing.proofs.Arrays.{Copied, copied-none, copied-more, copied-whole}
+use Rattle.packing.proofs.pad_rows.Statement.{statement}
+use Rattle.packing.proofs.pad_rows.Tie as tie
+
+abbrev Inv-loop : tie.InvT-loop
+Inv-loop rows padded₀ x₀ padded x = Copied rows (length padded₀) x padded
+
+abbrev μ-loop : tie.MeasureT-loop
+μ-loop rows padded₀ x₀ padded x = length rows - x
+
+loop-holds : tie.Need-loop-holds Inv-loop μ-loop
+loop-holds c = copied-none _ _ _ (c .pre .0) refl (c .pre .1)
+
+mul-padded : tie.Need-mul-padded Inv-loop μ-loop
+mul-padded c = search needs
+
+shared-slice-read-padded : tie.Need-shared-slice-read-padded Inv-loop μ-loop
+shared-slice-read-padded c = search needs
+
+mul-padded-2 : tie.Need-mul-padded-2 Inv-loop μ-loop
+mul-padded-2 c = search needs
+
+slice-write-padded : tie.Need-slice-write-padded Inv-loop μ-loop
+slice-write-padded c = search needs
+
+add-x : tie.Need-add-x Inv-loop μ-loop
+add-x c = search needs
+
+loop-less : tie.Need-loop-less Inv-loop μ-loop
+loop-less c = search needs
+
+loop-again : tie.Need-loop-again Inv-loop μ-loop
+loop-again c = copied-more _ _ _ _ (c .before .before .loop .inv) (c .before .loop-test .taken) _ refl
+
+same-length : tie.Need-same-length Inv-loop μ-loop
+same-length c = c .before .loop .inv .long
+
+returns : tie.Need-returns Inv-loop μ-loop
+returns c = copied-whole _ _ _ _ (c .before .loop .inv) (c .loop-test .left)
+
+pub pad-rows-spec : {M : Type 1} → statement M
+pad-rows-spec =
+    tie.close
+    (tie.spec
+    Inv-loop
+    μ-loop
+    loop-holds
+    mul-padded
+    shared-slice-read-padded
+    mul-padded-2
+    slice-write-padded
+    add-x
+    loop-less
+    loop-again
+    same-length
+    returns)

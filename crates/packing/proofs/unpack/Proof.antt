@@ -1,0 +1,69 @@
+-- `packing::unpack` meets its contract: what the checks found says which case it is, in the answer and in the array.
+-- Assumes nothing.
+use mathlib.Core.Path.{_≡_, refl, sym, _∙_}
+use mathlib.Core.List.{[]}
+use borrow.Author.Needs.{needs}
+use lib.ListN.{length}
+use Rattle.refusals.specs.Table.{first}
+use Rattle.refusals.specs.declared.Checked.the-variants.{Accepted}
+use Rattle.refusals.proofs.Checks.{reply-refused, reply-accepted, content-refused, content-accepted}
+use Rattle.packing.specs.Packing.{unpackChecks}
+use Rattle.packing.proofs.Accepted.{unpack-columns, unpack-room, cleared}
+use Rattle.packing.proofs.unpack.Statement.{statement}
+use Rattle.packing.proofs.unpack.Tie as tie
+
+-- past the `if` the checks found nothing
+accepted : (c : tie.After-enum-told) →
+    let a = c .before .before .before .before .before .args in
+    first (unpackChecks (a .n) (a .m) (a .packed .now) (length (a .out .now))) ≡ Accepted
+accepted c = sym (c .before .before .check-unpack .ensures) ∙ c .enum-told .given .1
+
+check-unpack-requires : tie.Need-check-unpack-requires
+check-unpack-requires c κs = search needs
+
+enum-known-e : tie.Need-enum-known-e
+enum-known-e c = search needs
+
+returns : tie.Need-returns
+returns c =
+    let h = sym (c .before .before .before .check-unpack .ensures) ∙ c .before .e .given .1 in
+    (reply-refused h [], content-refused h _ _)
+
+enum-told : tie.Need-enum-told
+enum-told c = search needs
+
+slice-aggregate-unpack-bytes : tie.Need-slice-aggregate-unpack-bytes
+slice-aggregate-unpack-bytes c = search needs
+
+slice-aggregate-unpack-bytes-2 : tie.Need-slice-aggregate-unpack-bytes-2
+slice-aggregate-unpack-bytes-2 c = search needs
+
+unpack-bytes-requires : tie.Need-unpack-bytes-requires
+unpack-bytes-requires c κs =
+    let told = c .before .before .before in
+    let a = told .before .before .before .before .before .args in
+    let h = accepted told in
+    (unpack-columns (a .n) (a .m) (a .packed .now) _ h, cleared 1024, refl, unpack-room (a .n) (a .m) (a .packed .now) _ h)
+
+same-length : tie.Need-same-length
+same-length c = search needs
+
+returns-2 : tie.Need-returns-2
+returns-2 c =
+    let wrote = c .before .before .before .before in
+    let h = accepted (wrote .before .before .before .before) in
+    (reply-accepted h [], wrote .unpack-bytes .ensures ∙ content-accepted h _ _)
+
+pub unpack-spec : {M : Type 1} → statement M
+unpack-spec =
+    tie.close
+    (tie.spec
+    check-unpack-requires
+    enum-known-e
+    returns
+    enum-told
+    slice-aggregate-unpack-bytes
+    slice-aggregate-unpack-bytes-2
+    unpack-bytes-requires
+    same-length
+    returns-2)
