@@ -56,7 +56,7 @@ static const struct { const char *name; uint32_t (*call)(void); } calls[] = {
     {"autocorrelation", autocorrelation}, {"dynamic_distance", distance}, {"normal_form", normal_form}, {"degree", degree},
     {"complete", complete}, {"bijective", bijective}, {"enlarge_column", enlarge_column}, {"enlarge_box", enlarge_box},
     {"bent_function", bent_function}, {"read_box", read_box}, {"sum_nonlinearity", sum},
-    {"bent_function", bent_function}, {"read_box", read_box}, {"add_record", add_record}, {"add_record", add_record},
+    {"add_record", add_record}, {"add_record", add_record},
     {"check_catalogue", check_catalogue}, {"fetch_record", fetch_record}, {"remove_record", remove_record},
     {"compact_catalogue", compact_catalogue},
     {"pack_columns", pack_columns}, {"unpack_columns", unpack_columns},

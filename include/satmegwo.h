@@ -21,10 +21,8 @@
  * ANSWERS. Every function returns 0, or the number of a refusal. A refused call has
  * written to no array. Figures are written to an array lent by the caller, which must be
  * exactly as long as the number of figures. The checks run in this order (those of a box
- * file and of a sum in their own, which is given there), and the first that applies gives
- * the number:
- * file and of a catalogue in their own, which is given there), and the first that applies
- * gives the number:
+ * file, of a sum and of a catalogue in their own, which is given there), and the first that
+ * applies gives the number:
  *
  *    1  n is not 1 to 8 (in the two enlargements not 1 to 7, in the bent form not 2, 4,
  *       6 or 8)
