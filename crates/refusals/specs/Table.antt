@@ -1,4 +1,4 @@
--- Document 01, "Where a call stops": the numbers, the checks in their order, and what a call replies and leaves.
+-- Documents 01, "Where a call stops", and 02: the numbers, the checks in their order, and what a call replies and leaves.
 use Prim.Native.Nat.{ℕ, _^_, _≤_, _<_}
 use mathlib.Core.Path.{_≡_}
 use mathlib.Core.List.{List, [], _∷_, _++_}
@@ -8,7 +8,7 @@ use lib.Dec.{ltb, leb, eqb}
 use Rattle.boolean.specs.Sums.{every}
 use Rattle.boolean.specs.Functions.{at}
 use Rattle.refusals.specs.declared.Refusal.{Refusal}
-use Rattle.refusals.specs.declared.Refusal.the-variants.{InputWidth, OutputWidth, ReadLength, Value, Permutation, Parameter, WrittenLength, NoFunction, ListTooShort, FileLength, BoxCount, OutputWidths, Catalogue, NoRoom, NoRecord, UnusedBit}
+use Rattle.refusals.specs.declared.Refusal.the-variants.{InputWidth, OutputWidth, ReadLength, Value, Permutation, Parameter, WrittenLength, NoFunction, ListTooShort, FileLength, BoxCount, OutputWidths, Catalogue, NoRoom, NoRecord, UnusedBit, UnsetMark, NoPlace, PlaceState}
 use Rattle.refusals.specs.declared.Checked.{Checked}
 use Rattle.refusals.specs.declared.Checked.the-variants.{Accepted, Refused}
 use Rattle.refusals.specs.declared.Written.{Written}
@@ -34,6 +34,9 @@ number Catalogue = 13
 number NoRoom = 14
 number NoRecord = 15
 number UnusedBit = 16
+number UnsetMark = 17
+number NoPlace = 18
+number PlaceState = 19
 
 infix 5 _unless_
 -- a line of the table: the refusal that is given unless the test holds

@@ -20,6 +20,9 @@ pub enum Refusal {
     NoRoom,
     NoRecord,
     UnusedBit,
+    UnsetMark,
+    NoPlace,
+    PlaceState,
 }
 
 // What a call's checks find: nothing, or the first that applies.
@@ -62,6 +65,9 @@ pub fn number_of(e: Refusal) -> u32
         Refusal::NoRoom => 14,
         Refusal::NoRecord => 15,
         Refusal::UnusedBit => 16,
+        Refusal::UnsetMark => 17,
+        Refusal::NoPlace => 18,
+        Refusal::PlaceState => 19,
     }
 }
 

@@ -1,6 +1,9 @@
 -- `satmegwo::status_of` meets its contract: case by case. Assumes nothing.
-use Rattle.satmegwo.specs.Exports.{status}
+use mathlib.Core.Path.{sym, ap, _∙_}
 use borrow.Author.Needs.{needs}
+use Rattle.refusals.specs.declared.Written.{Written}
+use Rattle.refusals.specs.Table.{written}
+use Rattle.satmegwo.specs.Exports.{status}
 use Rattle.satmegwo.proofs.status_of.Statement.{statement}
 use Rattle.satmegwo.proofs.status_of.Tie as tie
 
@@ -19,7 +22,7 @@ returns c = search needs
 
 returns-2 : tie.Need-returns-2
 unfolding status
-returns-2 c = search needs
+returns-2 c = c .number-of .ensures ∙ sym (ap (λ (w : Written). status (written w)) (c .before .before .answer .given .1))
 
 pub status-of-spec : {M : Type 1} → statement M
 status-of-spec =
