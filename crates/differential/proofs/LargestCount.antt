@@ -14,7 +14,7 @@ use Rattle.boolean.specs.Sums.{countBelow, one-if}
 use Rattle.boolean.specs.Functions.{at}
 use Rattle.boolean.proofs.Counts.{count-cong}
 use Rattle.boolean.proofs.Counted.{count-no}
-use Rattle.differential.specs.Work.{Below, occurrences, standing, Larger, CellsAfter, reaching, RunningCells}
+use Rattle.differential.specs.Work.{Below, occurrences, risenAt, Larger, CellsAfter, reaching, RunningCells}
 use Rattle.differential.proofs.Occurrences.{occurs-more, occurs-same, occurs-le}
 use Rattle.differential.proofs.Rises.{running-none, running-takes, running-keeps, largest-is}
 
@@ -41,7 +41,7 @@ cells-none values = record { running = running-none values; few = zero-le; numbe
 
 -- after a rise
 module _ {values : List ℕ} {y best cells : ℕ} (t : RunningCells values y best cells) {value : ℕ} (inside : y < length values) (small : at values y < 4294967296)
-    (risen : value ≡ standing (occurrences values (y + 1) (at values y)) (at values y)) {r : ℕ} (after : CellsAfter (best / 4294967296) (value / 4294967296) cells r) where
+    (risen : value ≡ risenAt values y) {r : ℕ} (after : CellsAfter (best / 4294967296) (value / 4294967296) cells r) where
   abbrev v : ℕ
   v = at values y
 

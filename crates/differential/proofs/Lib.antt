@@ -3,6 +3,7 @@ pub mod Occurrences
 pub mod Pairs
 pub mod RowBest
 pub mod Rises
+pub mod Counting
 pub mod Slots
 pub mod LargestCount
 pub mod Sweeps

@@ -86,7 +86,7 @@ count-twice k a top b l p s =
     within (no h) = absurd (omega (arith, b .power, b .low, pow-mono {i = suc k} {j = b .place} (omega arith)))
 
 -- the two inputs of a pair have the same output difference
-difference-same : (rows : List ℕ) (a x : ℕ) → difference rows a (bitXor x a) ≡ difference rows a x
+pub difference-same : (rows : List ℕ) (a x : ℕ) → difference rows a (bitXor x a) ≡ difference rows a x
 unfolding difference
 difference-same rows a x = ap (λ (z : ℕ). bitXor (at rows (bitXor x a)) (at rows z)) (xor-cancel x a) ∙ xor-comm (at rows (bitXor x a)) (at rows x)
 
@@ -98,7 +98,7 @@ module _ {n m : ℕ} {rows : List ℕ} (b : Box n m rows) {a : ℕ} {pairs : Lis
       ap length (p .held) ∙ length-listBelow (length rows / 2) (λ y. difference rows a (lowerInput (p .top) y))
       ∙ omega (arith, b .size, two-pow-succ (n - 1), ap (λ (k : ℕ). 2 ^ k) (let z : n ≡ suc (n - 1) = omega (arith, b .n-low) in z))
 
-  pair-is : (y : ℕ) → y < length pairs → at pairs y ≡ difference rows a (lowerInput (p .top) y)
+  pub pair-is : (y : ℕ) → y < length pairs → at pairs y ≡ difference rows a (lowerInput (p .top) y)
   unfolding pairsOf
   pair-is y l =
       ap (λ (z : List ℕ). at z y) (p .held)

@@ -1,14 +1,17 @@
 -- The running value: after each rise its count is the largest so far, and its β the smallest that has it. Assumes nothing.
-use mathlib.Core.Path.{_≡_, refl, ap, ap₂, _∙_}
+use mathlib.Core.Path.{_≡_, refl, sym, ap, ap₂, _∙_, subst}
+use mathlib.Core.Bool.{Bool, true, false}
 use mathlib.Core.Logic.{inl, inr}
 use mathlib.Core.List.{List, [], _∷_}
-use Prim.Native.Nat.{ℕ, _+_, _-_, _*_, _/_, _%_, _≤_, _<_}
-use native.Mathlib.Decide.{ℕ-discrete}
+use Prim.Native.Nat.{ℕ, zero, suc, _+_, _-_, _*_, _/_, _%_, _≤_, _<_}
+use native.Mathlib.Decide.{ℕ-discrete, decLt}
 use native.Mathlib.Omega.{arith}
+use borrow.Author.Tests.{lt-ltb, le-ltb}
+use lib.Dec.{ltb}
 use lib.ListN.{length}
 use Rattle.boolean.specs.Functions.{at}
 use Rattle.boolean.specs.Selection.{Candidate}
-use Rattle.differential.specs.Work.{occurrences, standing, Running, AfterRow}
+use Rattle.differential.specs.Work.{Below, occurrences, standing, risenAt, higherOf, runningAfter, Running, AfterRow}
 use Rattle.differential.proofs.Occurrences.{occurs-more, occurs-same, occurs-none, occurs-le}
 
 -- ---- at the start
@@ -23,7 +26,7 @@ running-none values = record {
 
 -- ---- after a rise
 module _ {values : List ℕ} {y best : ℕ} (r : Running values y best) {value : ℕ} (small : at values y < 4294967296)
-    (risen : value ≡ standing (occurrences values (y + 1) (at values y)) (at values y)) where
+    (risen : value ≡ risenAt values y) where
   abbrev v : ℕ
   v = at values y
 
@@ -70,6 +73,44 @@ module _ {values : List ℕ} {y best : ℕ} (r : Running values y best) {value :
       smallest : (u : ℕ) → u < r .β → Dec (v ≡ u) → occurrences values (y + 1) u < r .largest
       smallest u l (yes e) = omega (arith, ap (occurrences values (y + 1)) e, r .is, r .small)
       smallest u l (no e) = omega (arith, occurs-same values y u e, r .so-far .smallest u l)
+
+-- ---- the higher of two standings
+pub takes-higher : {x y : ℕ} → x < y → higherOf x y ≡ y
+unfolding higherOf
+takes-higher {x = x} {y = y} h = ap (λ (t : Bool). elim t [ true ↦ y | false ↦ x ]) (lt-ltb x y h)
+
+pub keeps-higher : {x y : ℕ} → y ≤ x → higherOf x y ≡ x
+unfolding higherOf
+keeps-higher {x = x} {y = y} h = ap (λ (t : Bool). elim t [ true ↦ y | false ↦ x ]) (le-ltb x y h)
+
+-- ---- the running value's own steps
+pub rises-none : (values : List ℕ) → runningAfter values 0 ≡ 4294967295
+unfolding runningAfter
+rises-none values = refl
+
+pub rises-next : (values : List ℕ) (y : ℕ)
+    → runningAfter values (y + 1) ≡ higherOf (runningAfter values y) (risenAt values y)
+unfolding runningAfter
+rises-next values y = ap (runningAfter values) (let z : y + 1 ≡ suc y = omega arith in z)
+
+module _ (values : List ℕ) (y : ℕ) {best value : ℕ} (e : best ≡ runningAfter values y) (risen : value ≡ risenAt values y) where
+  pub rise-takes : best < value → value ≡ runningAfter values (y + 1)
+  rise-takes h = sym (rises-next values y ∙ ap₂ higherOf (sym e) (sym risen) ∙ takes-higher h)
+
+  pub rise-keeps : value ≤ best → best ≡ runningAfter values (y + 1)
+  rise-keeps h = sym (rises-next values y ∙ ap₂ higherOf (sym e) (sym risen) ∙ keeps-higher h)
+
+-- after each rise its count is the largest so far, and its β the smallest that has it: whatever part of the values was counted
+pub after-each-rise : (values : List ℕ) → Below 4294967296 values → (y : ℕ) → y ≤ length values → Running values y (runningAfter values y)
+unfolding runningAfter
+after-each-rise values small zero l = running-none values
+after-each-rise values small (suc y) l =
+    subst (λ (k : ℕ). Running values k (runningAfter values (suc y))) (let z : y + 1 ≡ suc y = omega arith in z)
+    (pick (after-each-rise values small y (omega arith)) (decLt (runningAfter values y) (risenAt values y)))
+  where
+    pick : Running values y (runningAfter values y) → Dec (runningAfter values y < risenAt values y) → Running values (y + 1) (higherOf (runningAfter values y) (risenAt values y))
+    pick r (yes h) = rw (takes-higher h) (running-takes r (small y (omega arith)) refl h)
+    pick r (no h) = let k : risenAt values y ≤ runningAfter values y = omega arith in rw (keeps-higher k) (running-keeps r (small y (omega arith)) refl k)
 
 -- ---- the count and its β, out of the running value
 module _ {values : List ℕ} {y best : ℕ} (r : Running values y best) where

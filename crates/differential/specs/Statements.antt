@@ -3,9 +3,13 @@ use Prim.Native.Nat.{ℕ, _+_, _*_, _^_, _<_, _≤_}
 use mathlib.Core.Path.{_≡_}
 use mathlib.Core.Logic.{_⊎_}
 use mathlib.Core.List.{List, [], _∷_}
+use lib.Bits.{bitXor}
+use lib.Dec.{eqb}
+use Rattle.boolean.specs.Sums.{countBelow}
 use Rattle.boolean.specs.Functions.{at}
 use Rattle.boolean.specs.Selection.{Candidate}
-use Rattle.differential.specs.XorTable.{cell, largestCell}
+use Rattle.differential.specs.XorTable.{difference, cell, largestCell}
+use Rattle.differential.specs.Work.{lowerInput}
 
 -- a and β are a cell of a box of n inputs and m outputs
 pub record IsCell (n m a β : ℕ) : Type 0 where
@@ -32,3 +36,10 @@ pub record Listed (n m : ℕ) (rows : List ℕ) (v : ℕ) : Type 0 where
   pub is-cell : IsCell n m a β
   pub largest : cell n rows a β ≡ largestCell n m rows .figure
   pub is : v ≡ a * 4294967296 + β
+
+-- the table's own count of β under a, over the inputs counted so far: those of the first y pairs, the input of each that does not have the bit top, and
+-- its partner x XOR a
+unfoldable pub cellSoFar : (rows : List ℕ) (a top y β : ℕ) → ℕ
+unfolding countBelow difference lowerInput
+cellSoFar rows a top y β =
+    countBelow y (λ j. eqb (difference rows a (lowerInput top j)) β) + countBelow y (λ j. eqb (difference rows a (bitXor (lowerInput top j) a)) β)

@@ -1,11 +1,11 @@
 -- What the functions behind the calls on the XOR table ask and leave.
-use Prim.Native.Nat.{ℕ, _+_, _-_, _*_, _/_, _%_, _^_, _≤_, _<_}
+use Prim.Native.Nat.{ℕ, zero, suc, _+_, _-_, _*_, _/_, _%_, _^_, _≤_, _<_}
 use mathlib.Core.Path.{_≡_}
 use mathlib.Core.Bool.{true, false}
 use mathlib.Core.Logic.{_⊎_}
 use mathlib.Core.List.{List, [], _∷_, map}
 use lib.Bits.{bitAnd, bitXor}
-use lib.Dec.{eqb}
+use lib.Dec.{eqb, ltb}
 use lib.ListN.{length}
 use Rattle.boolean.specs.Sums.{countBelow, listBelow, each, keep}
 use Rattle.boolean.specs.Functions.{at}
@@ -64,15 +64,33 @@ pub record Paired (rows : List ℕ) (a : ℕ) (pairs : List ℕ) : Type 0 where
   pub highest : HighestBit a top
   pub held : pairs ≡ pairsOf rows a top
 
+-- of counts, one for each β: the largest, and the smallest β that has it
+pub record Largest (count : ℕ → ℕ) (largest β : ℕ) : Type 0 where
+  pub most : (v : ℕ) → count v ≤ largest
+  pub reached : count β ≡ largest
+  pub smallest : (v : ℕ) → v < β → count v < largest
+
 -- after the first y values: the largest count so far, and the smallest β that has it
-pub record LargestSoFar (values : List ℕ) (y largest β : ℕ) : Type 0 where
-  pub most : (v : ℕ) → occurrences values y v ≤ largest
-  pub reached : occurrences values y β ≡ largest
-  pub smallest : (v : ℕ) → v < β → occurrences values y v < largest
+abbrev pub LargestSoFar : (values : List ℕ) (y largest β : ℕ) → Type 0
+LargestSoFar values y largest β = Largest (λ v. occurrences values y v) largest β
 
 -- a count and its β as one number: the larger number has the larger count, and of equal counts the smaller β
 abbrev pub standing : ℕ → ℕ → ℕ
 standing count β = count * 4294967296 + (4294967295 - β)
+
+-- the standing of the y-th value once its count has risen by it
+abbrev pub risenAt : List ℕ → ℕ → ℕ
+risenAt values y = standing (occurrences values (y + 1) (at values y)) (at values y)
+
+-- the higher of two standings
+unfoldable pub higherOf : ℕ → ℕ → ℕ
+higherOf x y = elim (ltb x y) [ true ↦ y | false ↦ x ]
+
+-- the running value after the first y rises: it starts below every count, and at each rise the standing of the value whose count has risen takes its place,
+-- if that is above it
+unfoldable pub runningAfter : List ℕ → ℕ → ℕ
+runningAfter values zero = 4294967295
+runningAfter values (suc y) = higherOf (runningAfter values y) (risenAt values y)
 
 -- the running value after the first y values
 pub record Running (values : List ℕ) (y value : ℕ) : Type 0 where

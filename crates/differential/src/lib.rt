@@ -15,7 +15,7 @@ ghost use Rattle.refusals.specs.Table.{first, replyAfter, contentAfter, written
 ghost use Rattle.differential.specs.XorTable.{xorRow, largestCells};
 ghost use Rattle.differential.specs.XorTable as spec;
 ghost use Rattle.differential.specs.Calls.{rowChecks, listChecks, largestReply, xorReply, listReply, listAfter};
-ghost use Rattle.differential.specs.Work.{candidate, Swept, Inside, Countable, differencesOf, occurrences, HighestBit, Paired, standing, Running, Slots, AfterRow};
+ghost use Rattle.differential.specs.Work.{candidate, Swept, Inside, Countable, differencesOf, occurrences, HighestBit, Paired, risenAt, runningAfter, Running, Slots, AfterRow};
 
 // The best cell so far.
 pub struct FoundCell {
@@ -178,7 +178,7 @@ fn claim_slots(differences: &[u32], slots: &mut [u64])
 // that are the same.
 fn risen(differences: &[u32], y: usize, slots: &mut [u64]) -> u64
     requires { ⌜ (y < length (now differences)) × (length (now differences) ≤ 128) × Slots (now differences) y (now slots) ⌝ }
-    ensures { λ r. ⌜ (r ≡ standing (occurrences (now (differences .entry)) (y + 1) (at (now (differences .entry)) y)) (at (now (differences .entry)) y)) × Slots (now (differences .entry)) (y + 1) (now (slots .exit)) ⌝ }
+    ensures { λ r. ⌜ (r ≡ risenAt (now (differences .entry)) y) × Slots (now (differences .entry)) (y + 1) (now (slots .exit)) ⌝ }
 {
     let beta = differences[y];
     let last = 4294967295 - beta as u64;
@@ -195,7 +195,7 @@ fn risen(differences: &[u32], y: usize, slots: &mut [u64]) -> u64
 // The largest count of the differences and the smallest difference that has it, as one standing, brought up to date as each count rises.
 fn largest_risen(differences: &[u32], slots: &mut [u64]) -> u64
     requires { ⌜ (length (now differences) ≤ 128) × (length (now slots) ≡ 4096) ⌝ }
-    ensures { λ r. ⌜ Running (now (differences .entry)) (length (now (differences .entry))) r × (length (now (slots .exit)) ≡ 4096) ⌝ }
+    ensures { λ r. ⌜ Running (now (differences .entry)) (length (now (differences .entry))) r × (length (now (slots .exit)) ≡ 4096) × (r ≡ runningAfter (now (differences .entry)) (length (now (differences .entry)))) ⌝ }
 {
     claim_slots(differences, slots);
     let mut best: u64 = 4294967295;
