@@ -61,8 +61,9 @@ extern "C" {
 
 /* ---- Spectrum ---------------------------------------------------------- */
 
-/* The spectrum of a truth table: out[w] is the sum over all x of +1 where table[x] equals
- * w.x and -1 elsewhere. It is even and lies between -2^n and 2^n.
+/* The spectrum of a truth table, its linear approximation values: out[w] is the number of
+ * inputs x where table[x] equals w.x, less 2^(n-1). It lies between -2^(n-1) and 2^(n-1). It
+ * is half of W(w), the sum over all x of +1 where table[x] equals w.x and -1 elsewhere.
  *   table  read, 2^n values of 0 or 1
  *   out    written, 2^n elements
  * Refusals: 1, 3, 4, 7. */
@@ -220,7 +221,8 @@ uint32_t satmegwo_enlarge_column(uint32_t n, const uint8_t *table, size_t table_
 uint32_t satmegwo_enlarge_box(uint32_t n, const uint32_t *rows, size_t rows_len, const uint8_t *table, size_t table_len, uint32_t k, uint32_t *out, size_t out_len);
 
 /* A bent function by the form of Maiorana and McFarland. With h = n / 2,
- * out[x * 2^h + y] is the parity of the ones in (permutation[x] & y), XOR table[x].
+ * out[x * 2^h + y] is the parity of the ones in (permutation[x] & y), XOR table[x]. Every
+ * value of its spectrum is 2^(h-1) or -2^(h-1).
  *   n            2, 4, 6 or 8
  *   permutation  read, 2^h elements: each of 0 to 2^h - 1 once
  *   table        read, 2^h values of 0 or 1
@@ -245,7 +247,7 @@ uint32_t satmegwo_read_box(const uint8_t *file, size_t file_len, uint32_t *rows,
  * and so on; the sum's output is the XOR of their rows. The figure is the least number of
  * inputs, of all 2^N, in which a combination of the sum within the limit i differs from an
  * affine function of N inputs. It is found as 2^(N-1) less half the largest product of the
- * boxes' largest spectrum magnitudes, and proved to be that least number.
+ * boxes' largest magnitudes of W(w), and proved to be that least number.
  * Boxes past the number given are not read: whatever their arguments, the outcome is the
  * same. Lend an empty array for their rows.
  *   count    the number of boxes, 1 to 4

@@ -312,13 +312,13 @@ fn impossible_spectra(run: &mut Run) {
             let right = model::spectrum(n, &table, size).expect("nothing to refuse");
             let place = run.random.below(size as u32) as usize;
             let other = place ^ 1;
-            let mut variants = vec![vec![0; size], vec![1 << n; size], vec![i32::MIN; size], vec![i32::MAX; size]];
+            let mut variants = [0, 1 << (n - 1), 1 << n, i32::MIN, i32::MAX].map(|value| vec![value; size]).to_vec();
             variants.push(right.iter().map(|v| -v).collect());
             variants.push(right.iter().map(|v| v * 2).collect());
             variants.push(right.iter().map(|v| v.wrapping_add(i32::MIN)).collect());
             variants.push(right.iter().map(|v| v.wrapping_add(1 << (32 - n).min(30))).collect());
             variants.push(right.iter().rev().copied().collect());
-            for change in [1, 2, -2, 4, 1 << n, i32::MIN, 1 << 16, 1 << (30 - round)] {
+            for change in [1, -1, 2, -2, 4, 1 << (n - 1), 1 << n, i32::MIN, 1 << 16, 1 << (30 - round)] {
                 let mut values = right.clone();
                 values[place] = values[place].wrapping_add(change);
                 variants.push(values.clone());

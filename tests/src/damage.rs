@@ -184,7 +184,7 @@ fn damaged_spectrum(random: &mut Random) -> (u32, Vec<i32>) {
     let n = width(random, right, 8);
     let fitting = if random.one_in(2) { power(n) } else { values.len() };
     values.resize(length(random, fitting), 0);
-    spoil(random, &mut values, &[0, 1, 2, -2, 1 << right, i32::MIN, i32::MAX]);
+    spoil(random, &mut values, &[0, 1, -1, 2, -2, 1 << (right - 1), 1 << right, i32::MIN, i32::MAX]);
     (n, values)
 }
 

@@ -9,7 +9,8 @@ use std::ops::{Add, Sub};
 /// The most inputs a box can have, as a number of rows.
 const ROWS: usize = 256;
 
-/// In-place Walsh transform: `values` holds plus and minus ones and then the spectrum.
+/// In-place Walsh transform: `values` holds plus and minus ones and then each W(w), their
+/// sum with the signs of w·x.
 pub fn walsh<T>(values: &mut [T])
 where
     T: Copy + Add<Output = T> + Sub<Output = T>,
@@ -150,7 +151,7 @@ pub fn nonlinearity_16(n: u32, m: u32, rows: &[u32], i: u32) -> [u32; 4] {
 
 /// The first (w, b) at which the combination that was found reaches its figure.
 fn nonlinearity_witness(n: u32, rows: &[u32], best: &Best) -> [u32; 4] {
-    let values = spectrum(rows, best.c);
+    let values = walsh_values(rows, best.c);
     let w = values.iter().position(|v| v.abs() == best.figure).expect("it was reached");
     let distance = ((1 << n) - best.figure) as u32 / 2;
     [distance, best.c, w as u32, u32::from(values[w] < 0)]
@@ -170,8 +171,8 @@ fn combination(rows: &[u32], c: u32, table: &mut [u8]) {
     }
 }
 
-/// The spectrum of combination c.
-pub fn spectrum(rows: &[u32], c: u32) -> Vec<i32> {
+/// W(w) of combination c for each w: twice its spectrum.
+pub fn walsh_values(rows: &[u32], c: u32) -> Vec<i32> {
     let mut table = vec![0; rows.len()];
     let mut values = vec![0; rows.len()];
     combination(rows, c, &mut table);
@@ -180,7 +181,7 @@ pub fn spectrum(rows: &[u32], c: u32) -> Vec<i32> {
     values
 }
 
-/// All r(s) by the rule of Wiener and Khinchin: the transform of the squared spectrum is
+/// All r(s) by the rule of Wiener and Khinchin: the transform of the squares of W(w) is
 /// 2^n times the autocorrelation. Sums stay within 2^(2n), so 32 bits hold them.
 fn correlations(n: u32, table: &[u8], values: &mut [i32]) {
     signs_32(table, values);
@@ -305,7 +306,9 @@ mod tests {
         let shown = format!("n = {n}, m = {m}, rows = {rows:?}");
         assert_eq!(complete(n, m, rows), model::complete_by_definition(n, m, rows), "{shown}");
         assert_eq!(bijective(n, m, rows), model::bijective_by_definition(n, m, rows), "{shown}");
-        assert_eq!(Ok(spectrum(rows, c)), model::component_spectrum(n, m, rows, c, rows.len()), "c = {c}, {shown}");
+        let spectrum = model::component_spectrum(n, m, rows, c, rows.len()).expect("nothing to refuse");
+        let twice: Vec<i32> = spectrum.iter().map(|value| 2 * value).collect();
+        assert_eq!(walsh_values(rows, c), twice, "c = {c}, {shown}");
     }
 
     #[test]

@@ -110,10 +110,12 @@ fn linear(n: u32, w: u32) -> Vec<u8> {
     (0..1 << n).map(|x| parity(w & x)).collect()
 }
 
+/// The linear approximation values: for each w, in how many inputs f equals w·x, less 2^(n-1).
 fn spectrum_by_definition(n: u32, f: &[u8]) -> Vec<i32> {
     let value = |w| -> i32 {
         let line = linear(n, w);
-        f.iter().zip(&line).map(|(a, b)| if a == b { 1 } else { -1 }).sum()
+        let equal: i32 = f.iter().zip(&line).map(|(a, b)| i32::from(a == b)).sum();
+        equal - (1 << (n - 1))
     };
     (0..1 << n).map(value).collect()
 }
@@ -285,7 +287,7 @@ pub fn spectrum(n: u32, table: &[u8], out_len: usize) -> Answer<Vec<i32>> {
 }
 
 /// The only function that can have the values is found by adding them up with the signs of
-/// w·x, which gives 2^n or -2^n at each x; whether it does have them is then looked at.
+/// w·x, which gives 2^(n-1) or -2^(n-1) at each x; whether it does have them is then looked at.
 pub fn inverse_spectrum(n: u32, values: &[i32], table_len: usize) -> Answer<Vec<u8>> {
     check_inputs(n, 8)?;
     check_read(values.len(), 1 << n)?;
@@ -510,16 +512,16 @@ mod tests {
 
     #[test]
     fn case_3_the_product_of_two_bits() {
-        assert_eq!(spectrum(2, &[0, 0, 0, 1], 4), Ok(vec![2, 2, 2, -2]));
-        assert_eq!(component_spectrum(2, 1, &[0, 0, 0, 1], 1, 4), Ok(vec![2, 2, 2, -2]));
+        assert_eq!(spectrum(2, &[0, 0, 0, 1], 4), Ok(vec![1, 1, 1, -1]));
+        assert_eq!(component_spectrum(2, 1, &[0, 0, 0, 1], 1, 4), Ok(vec![1, 1, 1, -1]));
         assert_eq!(nonlinearity(2, 1, &[0, 0, 0, 1], 1, 4), Ok([1, 1, 0, 0]));
         assert_eq!(dynamic_distance(2, 1, &[0, 0, 0, 1], 1, 2, 3).unwrap()[0], 0);
     }
 
     #[test]
     fn cases_4_to_6_the_way_back() {
-        assert_eq!(inverse_spectrum(2, &[2, 2, 2, -2], 4), Ok(vec![0, 0, 0, 1]));
-        assert_eq!(inverse_spectrum(2, &[2, 2, 2, 2], 4), Err(8));
+        assert_eq!(inverse_spectrum(2, &[1, 1, 1, -1], 4), Ok(vec![0, 0, 0, 1]));
+        assert_eq!(inverse_spectrum(2, &[1, 1, 1, 1], 4), Err(8));
         assert_eq!(inverse_spectrum(1, &[0, 0], 2), Err(8));
     }
 
@@ -554,7 +556,7 @@ mod tests {
         assert_eq!(f, [0, 0, 0, 0, 0, 1, 0, 1, 0, 0, 1, 1, 0, 1, 1, 0]);
         let rows: Vec<u32> = f.iter().map(|&v| u32::from(v)).collect();
         assert_eq!(nonlinearity(4, 1, &rows, 1, 4).unwrap()[0], 6);
-        assert!(spectrum(4, &f, 16).unwrap().iter().all(|v| v.abs() == 4));
+        assert!(spectrum(4, &f, 16).unwrap().iter().all(|v| v.abs() == 2));
     }
 
     #[test]
@@ -693,9 +695,25 @@ mod tests {
     }
 
     #[test]
+    fn a_spectrum_holds_counts_less_half_of_the_inputs() {
+        assert_eq!(spectrum(3, &[0; 8], 8), Ok(vec![4, 0, 0, 0, 0, 0, 0, 0]));
+        assert_eq!(spectrum(3, &[1; 8], 8), Ok(vec![-4, 0, 0, 0, 0, 0, 0, 0]));
+        assert_eq!(spectrum(3, &[0, 0, 0, 0, 0, 0, 0, 1], 8), Ok(vec![3, 1, 1, -1, 1, -1, -1, 1]));
+        assert_eq!(spectrum(1, &[0, 1], 2), Ok(vec![0, 1]));
+        assert_eq!(spectrum(1, &[1, 0], 2), Ok(vec![0, -1]));
+    }
+
+    #[test]
+    fn twice_a_spectrum_is_no_functions_spectrum() {
+        assert_eq!(inverse_spectrum(1, &[2, 0], 2), Err(8));
+        assert_eq!(inverse_spectrum(2, &[2, 2, 2, -2], 4), Err(8));
+        assert_eq!(inverse_spectrum(3, &[6, 2, 2, -2, 2, -2, -2, 2], 8), Err(8));
+    }
+
+    #[test]
     fn sums_beyond_32_bits_do_not_pass_for_a_spectrum() {
-        assert_eq!(inverse_spectrum(1, &[2, 0], 2), Ok(vec![0, 0]));
-        assert_eq!(inverse_spectrum(1, &[2 + i32::MIN, i32::MIN], 2), Err(8));
+        assert_eq!(inverse_spectrum(1, &[1, 0], 2), Ok(vec![0, 0]));
+        assert_eq!(inverse_spectrum(1, &[1 + i32::MIN, i32::MIN], 2), Err(8));
     }
 
     #[test]

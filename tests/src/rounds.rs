@@ -84,10 +84,10 @@ pub fn by_definition(boxes: &[Summand], i: u32) -> Vec<u32> {
     [&[least as u32], &witness[..]].concat()
 }
 
-/// The first place of the largest magnitude in the spectrum of one box's combination, this
-/// magnitude, and whether the value there is below 0.
+/// The first place of the largest |W(w)| of one box's combination, this magnitude, and whether
+/// the value there is below 0.
 fn top(one: &Summand, c: u32) -> (u32, u64, bool) {
-    let values = fast::spectrum(&one.rows, c);
+    let values = fast::walsh_values(&one.rows, c);
     let largest = values.iter().map(|value| value.unsigned_abs()).max().expect("there are values");
     let place = values.iter().position(|value| value.unsigned_abs() == largest).expect("it was reached");
     (place as u32, u64::from(largest), values[place] < 0)

@@ -7,11 +7,11 @@ ghost use mathlib.Core.Bool.{not};
 ghost use mathlib.Core.List.{[], _∷_};
 ghost use Prim.Native.Nat.{ℕ, _*_, _^_, _≤_, _<_};
 ghost use lib.Dec.{eqb};
-ghost use lib.IntN.{_*ℤ_, natAbs};
+ghost use lib.IntN.{pos, _+ℤ_, natAbs};
 ghost use lib.ListN.{length};
 ghost use Rattle.boolean.specs.Bits.{bit};
 ghost use Rattle.boolean.specs.Sums.{listFrom, listBelow, every};
-ghost use Rattle.boolean.specs.Functions.{valueAt, changes, column};
+ghost use Rattle.boolean.specs.Functions.{valueAt, changes, column, square};
 ghost use Rattle.boolean.specs.Selection.{best, higher, firstLargest, ranked};
 ghost use Rattle.refusals.specs.Table.{first, verdict, Box};
 ghost use Rattle.walsh.specs.Work.{Spectra};
@@ -51,21 +51,22 @@ pub fn check_distance(n: u32, m: u32, rows: &[u32], i: u32, j: u32) -> Checked
     Checked::Accepted
 }
 
-// Each value is replaced by its square.
+// Each value is replaced by the square of its double.
 fn square_all(values: &mut [i32])
-    requires { ⌜ ((k : ℕ) → natAbs (valueAt (now values) k) ≤ 256) ⌝ }
-    ensures { λ _. ⌜ now (values .exit) ≡ listBelow (length (now (values .entry))) (λ k. valueAt (now (values .entry)) k *ℤ valueAt (now (values .entry)) k) ⌝ }
+    requires { ⌜ ((k : ℕ) → natAbs (valueAt (now values) k) ≤ 128) ⌝ }
+    ensures { λ _. ⌜ now (values .exit) ≡ listBelow (length (now (values .entry))) (λ k. pos (square (valueAt (now (values .entry)) k +ℤ valueAt (now (values .entry)) k))) ⌝ }
 {
     let mut k = 0;
     while k < values.len() {
         let value = values[k];
-        values[k] = value * value;
+        let double = value + value;
+        values[k] = double * double;
         k += 1;
     }
 }
 
-// 2^n times the autocorrelation of component c at every s, from its truth table. The squares of the spectrum are the transform of the
-// autocorrelation, so that their transform gives it back, 2^n times.
+// 2^n times the autocorrelation of component c at every s, from its truth table. The squares of the Walsh values, which are
+// twice the spectrum's, are the transform of the autocorrelation, so that their transform gives it back, 2^n times.
 fn correlate(
     fixed: &[i32; 2048],
     n: u32,

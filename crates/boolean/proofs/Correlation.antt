@@ -1,4 +1,4 @@
--- The autocorrelation: the transform of the squares of the spectrum gives it back, and it counts the changes.
+-- The autocorrelation: the transform of the squares of the Walsh values gives it back, and it counts the changes.
 use mathlib.Core.Path.{_≡_, sym, ap, ap₂, _∙_}
 use mathlib.Core.Bool.{not}
 use mathlib.Core.List.{[], _∷_}
@@ -9,13 +9,14 @@ use lib.Bits.{bitXor}
 use lib.Dec.{eqb}
 use lib.IntN.{ℤ, pos, negsuc, _+ℤ_, _-ℤ_, _*ℤ_, natAbs, +ℤ-negℤ-cancel}
 use Rattle.boolean.specs.Functions.{walsh, transform, autocorrelation, changes, Boolean}
+use Rattle.boolean.proofs.Sizes.{abs-twice}
 use Rattle.boolean.proofs.Ring.{v, _⊞_, _⊖_, solve}
 use Rattle.boolean.proofs.Transform.{transform-cong, inversion}
 use Rattle.boolean.proofs.Walsh.{agree-count}
 use Rattle.boolean.proofs.Spectrum.{wiener-khinchin}
 use Rattle.boolean.proofs.Counts.{count-cong}
 
--- what the squares of the spectrum transform to
+-- what the squares of the Walsh values transform to
 pub squares-transform : (n : ℕ) (f : ℕ → ℕ) → Boolean n f → (s : ℕ) → s < 2 ^ n
     → transform n (λ w. walsh n f w *ℤ walsh n f w) s ≡ pos (2 ^ n) *ℤ autocorrelation n f s
 squares-transform n f h s l =
@@ -27,10 +28,6 @@ unfolding autocorrelation changes
 correlation-changes n f s =
     sym (+ℤ-negℤ-cancel (autocorrelation n f s) (pos (2 * changes n f s)))
     ∙ ap (λ (z : ℤ). z -ℤ pos (2 * changes n f s)) (agree-count (2 ^ n) f (λ x. f (bitXor x s)))
-
-abs-twice : (z : ℤ) → natAbs z * 2 ≡ natAbs (z +ℤ z)
-abs-twice (pos k) = omega arith
-abs-twice (negsuc k) = omega arith
 
 -- so what the changes are off one half of the inputs is half of |r(s)|
 pub correlation-half : (n : ℕ) (f : ℕ → ℕ) (s : ℕ) → 1 ≤ n → natAbs (pos (2 ^ (n - 1)) -ℤ pos (changes n f s)) * 2 ≡ natAbs (autocorrelation n f s)

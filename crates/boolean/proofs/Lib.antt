@@ -30,6 +30,7 @@ pub mod Products
 pub mod Transform
 pub mod Walsh
 pub mod Spectrum
+pub mod Approximations
 pub mod Inverse
 pub mod Distances
 pub mod Bent

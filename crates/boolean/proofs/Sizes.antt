@@ -31,6 +31,10 @@ abs-neg (pos zero) = refl
 abs-neg (pos (suc n)) = refl
 abs-neg (negsuc n) = refl
 
+pub abs-twice : (z : ℤ) → natAbs z * 2 ≡ natAbs (z +ℤ z)
+abs-twice (pos k) = omega arith
+abs-twice (negsuc k) = omega arith
+
 -- an integer of size k is k or −k
 pub abs-cases : (z : ℤ) (k : ℕ) → natAbs z ≡ k → (z ≡ pos k) ⊎ (z ≡ negℤ (pos k))
 abs-cases (pos a) k e = inl (ap pos e)

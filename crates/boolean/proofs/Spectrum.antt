@@ -1,4 +1,4 @@
--- The spectrum of a 0/1 function: Parseval in naturals and what follows, inversion both ways, and the autocorrelation.
+-- The Walsh values of a 0/1 function, which are twice its spectrum: Parseval in naturals and what follows, inversion, and the autocorrelation.
 use mathlib.Core.Path.{_≡_, refl, sym, ap, ap₂, _∙_, subst}
 use mathlib.Core.Logic.{_⊎_, inl, inr}
 use Prim.Native.Nat.{ℕ, zero, suc, _+_, _*_, _-_, _/_, _^_, _<_, _≤_}
@@ -38,7 +38,7 @@ unfolding sign
 sign-square zero = refl
 sign-square (suc b) = refl
 
--- ---- Parseval: the squares of the spectrum make 2^n * 2^n
+-- ---- Parseval: the squares of the Walsh values make 2^n * 2^n
 pub walsh-parseval : (n : ℕ) (f : ℕ → ℕ) → Boolean n f → totalBelow (2 ^ n) (λ w. square (walsh n f w)) ≡ 2 ^ n * 2 ^ n
 walsh-parseval n f h = ap natAbs
     (sym (total-is (2 ^ n) (λ w. square (walsh n f w)))
@@ -46,11 +46,11 @@ walsh-parseval n f h = ap natAbs
     ∙ parseval n (λ x. sign (f x))
     ∙ ap (λ (z : ℤ). pos (2 ^ n) *ℤ z) (sum-cong (2 ^ n) _ _ (λ x l. sign-square (f x)) ∙ total-is (2 ^ n) (λ x. 1) ∙ ap pos (total-ones (2 ^ n))))
 
--- some value of the spectrum is at least 2^(n/2) in size
+-- some Walsh value is at least 2^(n/2) in size
 pub some-walsh-large : (n : ℕ) (f : ℕ → ℕ) → Boolean n f → (w : ℕ) × (w < 2 ^ n) × (2 ^ n ≤ square (walsh n f w))
 some-walsh-large n f h = some-large (2 ^ n) (2 ^ n) (λ w. square (walsh n f w)) (pow-pos n) (le-of-eq (sym (walsh-parseval n f h)))
 
--- a spectrum that meets that bound is flat
+-- where none is larger all are that large
 pub bent-flat : (n : ℕ) (f : ℕ → ℕ) → Boolean n f → ((w : ℕ) → w < 2 ^ n → square (walsh n f w) ≤ 2 ^ n) → (w : ℕ) → w < 2 ^ n → square (walsh n f w) ≡ 2 ^ n
 bent-flat n f h b = total-tight (2 ^ n) (2 ^ n) (λ w. square (walsh n f w)) b (walsh-parseval n f h)
 
@@ -64,7 +64,7 @@ bent-even n f h b w l = pow-square n (natAbs (walsh n f w)) (bent-flat n f h b w
 pub walsh-inversion : (n : ℕ) (f : ℕ → ℕ) → Boolean n f → (x : ℕ) → x < 2 ^ n → transform n (λ w. walsh n f w) x ≡ pos (2 ^ n) *ℤ sign (f x)
 walsh-inversion n f h x l = transform-cong n _ _ x (λ w k. walsh-transform n f w h) ∙ inversion n (λ x. sign (f x)) x l
 
-transform-mul : (n : ℕ) (c : ℤ) (F : ℕ → ℤ) (w : ℕ) → transform n (λ x. c *ℤ F x) w ≡ c *ℤ transform n F w
+pub transform-mul : (n : ℕ) (c : ℤ) (F : ℕ → ℤ) (w : ℕ) → transform n (λ x. c *ℤ F x) w ≡ c *ℤ transform n F w
 unfolding transform
 transform-mul n c F w = sum-cong (2 ^ n) _ _ (λ x l. *ℤ-left-comm (sign (dot w x)) c (F x)) ∙ sum-mul c (2 ^ n) (λ x. sign (dot w x) *ℤ F x)
 
@@ -85,13 +85,13 @@ cancelℤ m a b p e =
     (*ℤ-distl (pos m) a (negℤ b) ∙ ap₂ (λ (x y : ℤ). x +ℤ y) e (*ℤ-neg (pos m) b) ∙ +ℤ-invr (pos m *ℤ b)))
     ∙ +ℤ-idl b
 
--- an integer that is 2^n or -2^n, by its sign
-sign-bit-neg : (m : ℕ) → zero < m → negℤ (pos m) ≡ pos m *ℤ sign (signBit (negℤ (pos m)))
+-- an integer of a known size, by its sign
+pub sign-bit-neg : (m : ℕ) → zero < m → negℤ (pos m) ≡ pos m *ℤ sign (signBit (negℤ (pos m)))
 unfolding sign signBit
 sign-bit-neg zero p = absurd (not-suc-le-zero p)
 sign-bit-neg (suc m) p = ap (λ (k : ℕ). negℤ (pos k)) (sym (mul-one (suc m)))
 
-sign-bit-pos : (m : ℕ) → pos m ≡ pos m *ℤ sign (signBit (pos m))
+pub sign-bit-pos : (m : ℕ) → pos m ≡ pos m *ℤ sign (signBit (pos m))
 unfolding sign signBit
 sign-bit-pos m = ap pos (sym (mul-one m))
 
@@ -100,11 +100,11 @@ unfolding signBit
 sign-bit-lt (pos n) = omega arith
 sign-bit-lt (negsuc n) = omega arith
 
-sign-zero : sign 0 ≡ lib.IntN.one
+pub sign-zero : sign 0 ≡ lib.IntN.one
 unfolding sign lib.IntN.one
 sign-zero = refl
 
-sign-suc : (b : ℕ) → sign (suc b) ≡ negℤ (pos 1)
+pub sign-suc : (b : ℕ) → sign (suc b) ≡ negℤ (pos 1)
 unfolding sign
 sign-suc b = refl
 
@@ -113,32 +113,6 @@ pub sign-bit-of : (m b : ℕ) → zero < m → b < 2 → signBit (pos m *ℤ sig
 unfolding sign signBit
 sign-bit-of zero b p h = absurd (not-suc-le-zero p)
 sign-bit-of (suc m) b p h = bit-cases (λ b. signBit (pos (suc m) *ℤ sign b) ≡ b) refl (ap (λ (k : ℕ). signBit (negℤ (pos k))) (mul-one (suc m))) b h
-
-pub spectrum-of : (n : ℕ) (F : ℕ → ℤ) (g : ℕ → ℕ) → Boolean n g → ((x : ℕ) → x < 2 ^ n → transform n F x ≡ pos (2 ^ n) *ℤ sign (g x))
-    → (w : ℕ) → w < 2 ^ n → F w ≡ walsh n g w
-spectrum-of n F g h e w l =
-    cancelℤ (2 ^ n) (F w) (walsh n g w) (pow-pos n)
-    (sym (inversion n F w l) ∙ transform-cong n _ _ w e ∙ transform-mul n (pos (2 ^ n)) (λ x. sign (g x)) w
-    ∙ ap (λ (z : ℤ). pos (2 ^ n) *ℤ z) (sym (walsh-transform n g w h)))
-
--- so integers are a spectrum exactly when their transform is 2^n or −2^n everywhere
-pub spectrum-back : (n : ℕ) (F : ℕ → ℤ) → ((x : ℕ) → x < 2 ^ n → (transform n F x ≡ pos (2 ^ n)) ⊎ (transform n F x ≡ negℤ (pos (2 ^ n))))
-    → (w : ℕ) → w < 2 ^ n → F w ≡ walsh n (inverse n F) w
-unfolding inverse
-spectrum-back n F h = spectrum-of n F (λ x. signBit (transform n F x)) (λ x l. sign-bit-lt (transform n F x)) (λ x l. pick x (h x l))
-  where
-    pick : (x : ℕ) → (transform n F x ≡ pos (2 ^ n)) ⊎ (transform n F x ≡ negℤ (pos (2 ^ n))) → transform n F x ≡ pos (2 ^ n) *ℤ sign (signBit (transform n F x))
-    pick x (inl e) = subst (λ (z : ℤ). z ≡ pos (2 ^ n) *ℤ sign (signBit z)) (sym e) (sign-bit-pos (2 ^ n))
-    pick x (inr e) = subst (λ (z : ℤ). z ≡ pos (2 ^ n) *ℤ sign (signBit z)) (sym e) (sign-bit-neg (2 ^ n) (pow-pos n))
-
-pub spectrum-forth : (n : ℕ) (F : ℕ → ℤ) (g : ℕ → ℕ) → Boolean n g → ((w : ℕ) → w < 2 ^ n → F w ≡ walsh n g w)
-    → (x : ℕ) → x < 2 ^ n → (transform n F x ≡ pos (2 ^ n)) ⊎ (transform n F x ≡ negℤ (pos (2 ^ n)))
-unfolding lib.IntN.one
-spectrum-forth n F g h e x l = pick (g x) (transform-cong n _ _ x e ∙ walsh-inversion n g h x l)
-  where
-    pick : (b : ℕ) → transform n F x ≡ pos (2 ^ n) *ℤ sign b → (transform n F x ≡ pos (2 ^ n)) ⊎ (transform n F x ≡ negℤ (pos (2 ^ n)))
-    pick zero q = inl (q ∙ ap (λ (z : ℤ). pos (2 ^ n) *ℤ z) sign-zero ∙ *ℤ-one (pos (2 ^ n)))
-    pick (suc b) q = inr (q ∙ ap (λ (z : ℤ). pos (2 ^ n) *ℤ z) (sign-suc b) ∙ *ℤ-neg (pos (2 ^ n)) (pos 1) ∙ ap negℤ (*ℤ-one (pos (2 ^ n))))
 
 -- ---- the autocorrelation
 module _ (n : ℕ) (f : ℕ → ℕ) (h : Boolean n f) where

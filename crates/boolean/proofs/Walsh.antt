@@ -1,9 +1,8 @@
 -- The Walsh transform of 0/1 functions and tables.
 use mathlib.Core.Path.{_≡_, refl, sym, ap, ap₂, _∙_, subst}
 use mathlib.Core.Bool.{Bool, true, false, not, cond}
-use mathlib.Core.List.{[], _∷_}
 use Prim.Native.Nat.{ℕ, zero, suc, _+_, _*_, _-_, _^_, _<_, _≤_}
-use native.Mathlib.Nat.{two-pow-succ, not-suc-le-zero, add-zero, mul-add}
+use native.Mathlib.Nat.{add-zero, mul-add}
 use native.Mathlib.Omega.{arith}
 use native.Mathlib.Numerals.{one-add, add-one}
 use lib.Dec.{eqb, ltb}
@@ -13,7 +12,6 @@ use Rattle.boolean.specs.Bits.{dot, affine}
 use Rattle.boolean.specs.Functions.{sign, agreement, walsh, distance, transform, Boolean}
 use Rattle.boolean.specs.Sums.{sumBelow, countBelow, one-if}
 use Rattle.boolean.proofs.Ints.{add4, swap}
-use Rattle.boolean.proofs.Ring.{v, _⊞_, _⊖_, solve}
 use Rattle.boolean.proofs.Dots.{bit-cases, dot-bit}
 use Rattle.boolean.proofs.Sums.{sum-cong}
 use Rattle.boolean.proofs.Counts.{count-le, count-cong, count-not}
@@ -98,14 +96,3 @@ abs-le m (suc e) h = pick (ltb m (suc e))
 pub walsh-le : (n : ℕ) (f : ℕ → ℕ) (w : ℕ) → natAbs (walsh n f w) ≤ 2 ^ n
 unfolding distance affine
 walsh-le n f w = subst (λ (z : ℤ). natAbs z ≤ 2 ^ n) (sym (walsh-distance n f w)) (abs-le (2 ^ n) (2 * distance n f w 0) (omega (arith, count-le (2 ^ n) (λ x. not (eqb (f x) (bitXor (dot w x) 0))))))
-
--- every value is even
-pub walsh-even : (n : ℕ) (f : ℕ → ℕ) (w : ℕ) → 1 ≤ n → (k : ℤ) × (walsh n f w ≡ k +ℤ k)
-walsh-even zero f w h = absurd (not-suc-le-zero h)
-walsh-even (suc n) f w h =
-    let d = distance (suc n) f w 0 in
-    let twice : 2 * d ≡ d + d = omega arith in (
-      pos (2 ^ n) -ℤ pos d,
-      walsh-distance (suc n) f w ∙ ap₂ (λ (a b : ℕ). pos a -ℤ pos b) (two-pow-succ n) twice
-          ∙ solve (pos (2 ^ n) ∷ pos d ∷ []) ((v 0 ⊞ v 0) ⊖ (v 1 ⊞ v 1)) ((v 0 ⊖ v 1) ⊞ (v 0 ⊖ v 1)) tt,
-    )

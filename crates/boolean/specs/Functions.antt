@@ -8,7 +8,7 @@ use lib.Bits.{bitAnd, bitXor}
 use lib.Count.{ones}
 use lib.Dec.{eqb}
 use lib.ListN.{getD}
-use lib.IntN.{ℤ, pos, negsuc, _*ℤ_, negℤ, natAbs}
+use lib.IntN.{ℤ, pos, negsuc, _-ℤ_, _*ℤ_, negℤ, natAbs}
 use Rattle.boolean.specs.Bits.{parity, dot, affine, bit, within}
 use Rattle.boolean.specs.Sums.{sumBelow, countBelow, xorBelow, largestBelow, listFrom, listBelow, each, keep}
 
@@ -33,21 +33,26 @@ unfoldable pub walsh : ℕ → (ℕ → ℕ) → ℕ → ℤ
 unfolding sumBelow agreement dot
 walsh n f w = sumBelow (2 ^ n) (λ x. agreement (f x) (dot w x))
 
--- the spectrum: W(0), W(1), .., W(2^n − 1)
+-- the linear approximation value at w, half of W(w): the number of inputs where f equals w·x, less 2^(n−1)
+unfoldable pub approximation : ℕ → (ℕ → ℕ) → ℕ → ℤ
+unfolding countBelow dot
+approximation n f w = pos (countBelow (2 ^ n) (λ x. eqb (f x) (dot w x))) -ℤ pos (2 ^ (n - 1))
+
+-- the spectrum, the linear approximation table of one function: the values at 0, 1, .., 2^n − 1
 unfoldable pub spectrum : ℕ → (ℕ → ℕ) → List ℤ
-unfolding listBelow walsh
-spectrum n f = listBelow (2 ^ n) (λ w. walsh n f w)
+unfolding listBelow approximation
+spectrum n f = listBelow (2 ^ n) (λ w. approximation n f w)
 
 -- the count of inputs at which f and the affine function (w, b) differ
 unfoldable pub distance : ℕ → (ℕ → ℕ) → ℕ → ℕ → ℕ
 unfolding countBelow affine
 distance n f w b = countBelow (2 ^ n) (λ x. not (eqb (f x) (affine w b x)))
 
--- bent: n = 2h, and every spectrum value is 2^h or −2^h
+-- bent: n = 2h, and every spectrum value is 2^(h−1) or −2^(h−1)
 pub record Bent (n : ℕ) (f : ℕ → ℕ) : Type 0 where
   pub half : ℕ
   pub even : n ≡ half + half
-  pub flat : (w : ℕ) → w < 2 ^ n → (walsh n f w ≡ pos (2 ^ half)) ⊎ (walsh n f w ≡ negℤ (pos (2 ^ half)))
+  pub flat : (w : ℕ) → w < 2 ^ n → (approximation n f w ≡ pos (2 ^ (half - 1))) ⊎ (approximation n f w ≡ negℤ (pos (2 ^ (half - 1))))
 
 -- r(s), the autocorrelation: the sum over x of +1 where f(x) = f(x XOR s), and −1 elsewhere
 unfoldable pub autocorrelation : ℕ → (ℕ → ℕ) → ℕ → ℤ

@@ -9,7 +9,7 @@ use lib.IntN.{ℤ, pos, negsuc}
 use lib.ListN.{length, drop}
 use Rattle.boolean.specs.Bits.{parity, dot, affine, bit, within}
 use Rattle.boolean.specs.Sums.{sumBelow, one-if, countBelow, xorBelow, listFrom, listBelow, each, every, keep, largestBelow, distinct}
-use Rattle.boolean.specs.Functions.{at, valueAt, agreement, walsh, spectrum, distance, autocorrelation, changes, coefficient, degree, column, component, components, sign, transform, signBit, inverse, sameValues, isSpectrum}
+use Rattle.boolean.specs.Functions.{at, valueAt, agreement, approximation, spectrum, distance, autocorrelation, changes, coefficient, degree, column, component, components, sign, transform, signBit, inverse, sameValues, isSpectrum}
 use Rattle.boolean.specs.Selection.{best, firstLeast, firstLargest}
 use Rattle.refusals.specs.Table.{limitChecks, tableCallChecks, Reply, figures, refusal, first, replyAfter, contentAfter}
 use Rattle.walsh.specs.Calls.{inverseLengths, functionCheck, inverseChecks}
@@ -139,14 +139,14 @@ cases =
     ∷ (nonlinearityOf 1 1 (0 ∷ 0 ∷ []) 1 is says (figures (0 ∷ 1 ∷ 0 ∷ 0 ∷ [])))
     ∷ (degreeOf 1 1 (0 ∷ 0 ∷ []) 1 is says (figures (0 ∷ 1 ∷ [])))
     -- 3
-    ∷ (spectrumOf 2 (0 ∷ 0 ∷ 0 ∷ 1 ∷ []) (pos 0 ∷ pos 0 ∷ pos 0 ∷ pos 0 ∷ []) is holdsSigned (pos 2 ∷ pos 2 ∷ pos 2 ∷ negsuc 1 ∷ []))
+    ∷ (spectrumOf 2 (0 ∷ 0 ∷ 0 ∷ 1 ∷ []) (pos 0 ∷ pos 0 ∷ pos 0 ∷ pos 0 ∷ []) is holdsSigned (pos 1 ∷ pos 1 ∷ pos 1 ∷ negsuc 0 ∷ []))
     ∷ (nonlinearityOf 2 1 (0 ∷ 0 ∷ 0 ∷ 1 ∷ []) 1 is says (figures (1 ∷ 1 ∷ 0 ∷ 0 ∷ [])))
     ∷ (distanceOf 2 1 (0 ∷ 0 ∷ 0 ∷ 1 ∷ []) 1 2 is says (figures (0 ∷ 1 ∷ 1 ∷ [])))
     -- 4
-    ∷ (inverseOf 2 (pos 2 ∷ pos 2 ∷ pos 2 ∷ negsuc 1 ∷ []) (9 ∷ 9 ∷ 9 ∷ 9 ∷ []) is holds (0 ∷ 0 ∷ 0 ∷ 1 ∷ []))
+    ∷ (inverseOf 2 (pos 1 ∷ pos 1 ∷ pos 1 ∷ negsuc 0 ∷ []) (9 ∷ 9 ∷ 9 ∷ 9 ∷ []) is holds (0 ∷ 0 ∷ 0 ∷ 1 ∷ []))
     -- 5
-    ∷ (inverseReply 2 (pos 2 ∷ pos 2 ∷ pos 2 ∷ pos 2 ∷ []) (9 ∷ 9 ∷ 9 ∷ 9 ∷ []) is says (refusal 8))
-    ∷ (inverseOf 2 (pos 2 ∷ pos 2 ∷ pos 2 ∷ pos 2 ∷ []) (9 ∷ 9 ∷ 9 ∷ 9 ∷ []) is holds (9 ∷ 9 ∷ 9 ∷ 9 ∷ []))
+    ∷ (inverseReply 2 (pos 1 ∷ pos 1 ∷ pos 1 ∷ pos 1 ∷ []) (9 ∷ 9 ∷ 9 ∷ 9 ∷ []) is says (refusal 8))
+    ∷ (inverseOf 2 (pos 1 ∷ pos 1 ∷ pos 1 ∷ pos 1 ∷ []) (9 ∷ 9 ∷ 9 ∷ 9 ∷ []) is holds (9 ∷ 9 ∷ 9 ∷ 9 ∷ []))
     -- 6
     ∷ (inverseReply 1 (pos 0 ∷ pos 0 ∷ []) (9 ∷ 9 ∷ []) is says (refusal 8))
     -- 7
@@ -210,6 +210,10 @@ bounds =
     ∷ (autocorrelationOf 2 3 (0 ∷ 2 ∷ 4 ∷ 5 ∷ []) 3 is says (figures (4 ∷ 4 ∷ 1 ∷ [])))
     ∷ (distanceOf 2 3 (0 ∷ 2 ∷ 4 ∷ 5 ∷ []) 3 2 is says (figures (2 ∷ 4 ∷ 1 ∷ [])))
     ∷ (degreeOf 2 3 (0 ∷ 2 ∷ 4 ∷ 5 ∷ []) 3 is says (figures (1 ∷ 4 ∷ [])))
+    -- a spectrum's doubled values are no function's
+    ∷ (inverseReply 2 (pos 2 ∷ pos 2 ∷ pos 2 ∷ negsuc 1 ∷ []) (9 ∷ 9 ∷ 9 ∷ 9 ∷ []) is says (refusal 8))
+    ∷ (inverseReply 1 (pos 1 ∷ pos 0 ∷ []) (9 ∷ 9 ∷ []) is says (figures []))
+    ∷ (inverseReply 1 (pos 2 ∷ pos 0 ∷ []) (9 ∷ 9 ∷ []) is says (refusal 8))
     -- enlarging a column: the width, the input, the constant, and the written array
     ∷ (columnReply 7 (zeros 7) 7 0 (zeros 8) is says (figures []))
     ∷ (columnReply 8 (zeros 8) 7 0 (zeros 9) is says (refusal 1))
@@ -228,5 +232,5 @@ bounds =
     ∷ []
 
 pub worked : T (right cases && right bounds)
-unfolding parity dot affine bit within ones sumBelow one-if countBelow xorBelow listFrom listBelow each every keep largestBelow distinct agreement walsh spectrum distance autocorrelation changes coefficient degree column component components sign transform signBit inverse isSpectrum best firstLeast firstLargest first limitChecks tableCallChecks inverseLengths functionCheck inverseChecks pairsOf pairs nonlinearity difference cell cellsOf cells largestCell rowChecks shifts atMost measured boxAutocorrelation imbalance dynamicDistance complete distanceChecks degrees boxDegree enlarged enlargedTable enlargedRows bentForm bentTable isPermutation columnChecks enlargeChecks bentChecks
+unfolding parity dot affine bit within ones sumBelow one-if countBelow xorBelow listFrom listBelow each every keep largestBelow distinct agreement approximation spectrum distance autocorrelation changes coefficient degree column component components sign transform signBit inverse isSpectrum best firstLeast firstLargest first limitChecks tableCallChecks inverseLengths functionCheck inverseChecks pairsOf pairs nonlinearity difference cell cellsOf cells largestCell rowChecks shifts atMost measured boxAutocorrelation imbalance dynamicDistance complete distanceChecks degrees boxDegree enlarged enlargedTable enlargedRows bentForm bentTable isPermutation columnChecks enlargeChecks bentChecks
 worked = tt

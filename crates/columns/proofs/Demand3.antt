@@ -83,7 +83,7 @@ module _ (n m : ℕ) (rows : List ℕ) (i : ℕ) (accepted : first (limitChecks 
   -- "with equality exactly when every combination is bent."
   pub covering-equality : (2 ^ n - 2 * nonlinearity n m rows i .figure) * (2 ^ n - 2 * nonlinearity n m rows i .figure) ≡ 2 ^ n
       ↔ ((c : ℕ) → Within i (2 ^ m) c → Bent n (component rows c))
-  covering-equality = let l = accepted-limit n m rows i accepted in linear.tight n m rows i (l .box .m-low) (l .i-low)
+  covering-equality = let l = accepted-limit n m rows i accepted in linear.tight n m rows i (l .box .m-low) (l .i-low) (l .box .n-low)
 
 -- An accepted addition is seen by a combination exactly when the combination contains the column.
 pub addition-seen : (n m : ℕ) (rows : List ℕ) (a : Addition) → additionChecked n m rows a ≡ Accepted → (c x : ℕ) → x < length rows

@@ -16,8 +16,9 @@ use lib.IntN.{ℤ, pos, _+ℤ_, _*ℤ_, negℤ, natAbs, +ℤ-invr}
 use lib.ListN.{length}
 use lib.Pow.{high, low, pow-add, pow-pos, shr-lt, split}
 use Rattle.boolean.specs.Bits.{parity, dot}
-use Rattle.boolean.specs.Functions.{Bent, Boolean, at, component, sameValue, sign, square, transform, walsh}
+use Rattle.boolean.specs.Functions.{Bent, Boolean, approximation, at, component, sameValue, sign, square, transform, walsh}
 use Rattle.boolean.specs.Sums.{distinct, sumBelow}
+use Rattle.boolean.proofs.Approximations.{approximation-cong}
 use Rattle.boolean.proofs.Bent.{bent-of-squares}
 use Rattle.boolean.proofs.Cases.{all2, all5, same-value}
 use Rattle.boolean.proofs.Columns.{component-column}
@@ -131,7 +132,7 @@ module _ (h : ℕ) (permutation table : List ℕ) where
     pub table-boolean : Boolean (h + h) (at (bentTable (h + h) permutation table))
     table-boolean z l = subst (λ (v : ℕ). v < 2) (sym (at-bent-table z l)) (bent-form-boolean z l)
 
-    -- the part of a spectrum value that one x gives
+    -- the part of a Walsh value that one x gives
     part : (u v x : ℕ) → ℤ
     part u v x = transform h (λ y. sign (bitXor (dot u x) (at table x))) (bitXor (at permutation x) v)
 
@@ -144,7 +145,7 @@ module _ (h : ℕ) (permutation table : List ℕ) where
         ∙ signs-regroup (dot u x) (dot v y) (dot (at permutation x) y) (at table x) (dot-bit u x) (dot-bit v y) (dot-bit (at permutation x) y) (bits x l)
         ∙ ap (λ (b : ℕ). sign b *ℤ sign (bitXor (dot u x) (at table x))) (sym (dot-xor (at permutation x) v y)))
 
-    -- a spectrum value is the sum of the parts
+    -- a Walsh value is the sum of the parts
     in-parts : (u v : ℕ) → v < 2 ^ h → walsh (h + h) (bentForm h permutation table) (u * 2 ^ h + v) ≡ sumBelow (2 ^ h) (λ x. part u v x)
     unfolding transform
     in-parts u v hv =
@@ -161,7 +162,7 @@ module _ (h : ℕ) (permutation table : List ℕ) where
         (λ q. g (sym (xor-cancel (at permutation x) v) ∙ ap (λ (z : ℕ). bitXor z v) q)))))
         entries-differ
 
-    -- so is every spectrum value
+    -- so is every Walsh value
     walsh-small : (w : ℕ) → natAbs (walsh (h + h) (bentForm h permutation table) w) ≤ 2 ^ h
     walsh-small w =
         let l : w % 2 ^ h < 2 ^ h = mod-lt w (pow-pos h) in
@@ -169,20 +170,22 @@ module _ (h : ℕ) (permutation table : List ℕ) where
         (parts-small (w / 2 ^ h) (w % 2 ^ h) l)
 
     -- the form is bent
-    pub table-bent : Bent (h + h) (at (bentTable (h + h) permutation table))
+    pub table-bent : 1 ≤ h → Bent (h + h) (at (bentTable (h + h) permutation table))
     unfolding square
-    table-bent = bent-of-squares (h + h) (at (bentTable (h + h) permutation table)) table-boolean (λ w l.
+    table-bent lo = bent-of-squares (h + h) (at (bentTable (h + h) permutation table)) (omega arith) table-boolean (λ w l.
         let s : natAbs (walsh (h + h) (at (bentTable (h + h) permutation table)) w) ≤ 2 ^ h =
         subst (λ (z : ℤ). natAbs z ≤ 2 ^ h) (sym (walsh-cong (h + h) _ _ w at-bent-table)) (walsh-small w) in
         le-trans (mul-le-mul s s) (le-of-eq (even-is-square h)))
 
-    -- every value of its spectrum is 2^h or −2^h
-    pub table-flat : (w : ℕ) → w < 2 ^ (h + h)
-        → (walsh (h + h) (at (bentTable (h + h) permutation table)) w ≡ pos (2 ^ h)) ⊎ (walsh (h + h) (at (bentTable (h + h) permutation table)) w ≡ negℤ (pos (2 ^ h)))
-    table-flat w l =
-        let same : table-bent .half ≡ h = omega (arith, table-bent .even) in
-        subst (λ (i : ℕ). (walsh (h + h) (at (bentTable (h + h) permutation table)) w ≡ pos (2 ^ i)) ⊎ (walsh (h + h) (at (bentTable (h + h) permutation table)) w ≡ negℤ (pos (2 ^ i))))
-        same (table-bent .flat w l)
+    -- every value of its spectrum is 2^(h−1) or −2^(h−1)
+    pub table-flat : 1 ≤ h → (w : ℕ) → w < 2 ^ (h + h)
+        → (approximation (h + h) (at (bentTable (h + h) permutation table)) w ≡ pos (2 ^ (h - 1)))
+        ⊎ (approximation (h + h) (at (bentTable (h + h) permutation table)) w ≡ negℤ (pos (2 ^ (h - 1))))
+    table-flat lo w l =
+        let bent = table-bent lo in
+        let same : bent .half ≡ h = omega (arith, bent .even) in
+        let value = approximation (h + h) (at (bentTable (h + h) permutation table)) w in
+        subst (λ (i : ℕ). (value ≡ pos (2 ^ (i - 1))) ⊎ (value ≡ negℤ (pos (2 ^ (i - 1))))) same (bent .flat w l)
 
 -- ---- the nonlinearity of a bent table
 component-one : (table : List ℕ) (x : ℕ) → at table x < 2 → at table x ≡ component table 1 x
@@ -195,14 +198,14 @@ module _ (h : ℕ) (table : List ℕ) (lo : 1 ≤ h) (bits : Boolean (h + h) (at
     half = b .half;
     even = b .even;
     flat = λ w l.
-        subst (λ (z : ℤ). (z ≡ pos (2 ^ b .half)) ⊎ (z ≡ negℤ (pos (2 ^ b .half))))
-        (walsh-cong (h + h) (at table) (component table 1) w (λ x m. component-one table x (bits x m))) (b .flat w l);
+        subst (λ (z : ℤ). (z ≡ pos (2 ^ (b .half - 1))) ⊎ (z ≡ negℤ (pos (2 ^ (b .half - 1)))))
+        (approximation-cong (h + h) (at table) (component table 1) w (λ x m. component-one table x (bits x m))) (b .flat w l);
   }
 
   -- its nonlinearity is 2^(n − 1) − 2^(n / 2 − 1)
   pub bent-nonlinearity : nonlinearity (h + h) 1 table 1 .figure ≡ 2 ^ (h + h - 1) - 2 ^ (h - 1)
   bent-nonlinearity =
-      let met = tight (h + h) 1 table 1 (le-refl 1) (le-refl 1) .1
+      let met = tight (h + h) 1 table 1 (le-refl 1) (le-refl 1) (omega arith) .1
       (λ c w. let one : 1 ≡ c = omega (arith, w .low, w .high) in subst (λ (c : ℕ). Bent (h + h) (component table c)) one component-bent) in
       let t = pow-square (h + h) (2 ^ (h + h) - 2 * nonlinearity (h + h) 1 table 1 .figure) met in
       let same : t .0 ≡ h = omega (arith, t .1) in
@@ -217,4 +220,4 @@ module _ (h : ℕ) (table : List ℕ) (lo : 1 ≤ h) (bits : Boolean (h + h) (at
 pub table-nonlinearity : (h : ℕ) (permutation table : List ℕ) → length permutation ≡ 2 ^ h → isPermutation (2 ^ h) permutation ≡ true → Boolean h (at table) → 1 ≤ h
     → nonlinearity (h + h) 1 (bentTable (h + h) permutation table) 1 .figure ≡ 2 ^ (h + h - 1) - 2 ^ (h - 1)
 table-nonlinearity h permutation table size p bits lo =
-    bent-nonlinearity h (bentTable (h + h) permutation table) lo (table-boolean h permutation table size p bits) (table-bent h permutation table size p bits)
+    bent-nonlinearity h (bentTable (h + h) permutation table) lo (table-boolean h permutation table size p bits) (table-bent h permutation table size p bits lo)

@@ -8,7 +8,7 @@ use Prim.Native.Nat.{ℕ, suc, _+_, _-_, _/_, _%_, _^_, _<_, _≤_}
 use native.Mathlib.Nat.{le-refl}
 use native.Mathlib.Omega.{arith}
 use lib.IntN.{pos, negℤ}
-use Rattle.boolean.specs.Functions.{Bent, Boolean, at, square, walsh}
+use Rattle.boolean.specs.Functions.{Bent, Boolean, approximation, at, square, walsh}
 use Rattle.boolean.proofs.Bent.{bent-of-squares}
 use Rattle.boolean.proofs.Lists.{length-listBelow}
 use Rattle.refusals.specs.Table.{first, boxChecks}
@@ -99,30 +99,33 @@ module _ (n : ℕ) (permutation table : List ℕ) (room : ℕ) (accepted : first
       (box-of n 1 (bentTable n permutation table) (omega (arith, parts .n-low)) (parts .n-high) (le-refl 1) (omega arith)
       (length-listBelow (2 ^ n) (λ z. bentForm (n / 2) permutation table z)) new-bits)
 
-  -- "Every spectrum value is 2^h or −2^h,"
+  has-input : 1 ≤ n / 2
+  has-input = omega (arith, parts .n-low)
+
+  -- "The bent form's values become 2^(h−1) or −2^(h−1)."
   pub bent-table-flat : (w : ℕ) → w < 2 ^ n
-      → (walsh n (at (bentTable n permutation table)) w ≡ pos (2 ^ (n / 2))) ⊎ (walsh n (at (bentTable n permutation table)) w ≡ negℤ (pos (2 ^ (n / 2))))
+      → (approximation n (at (bentTable n permutation table)) w ≡ pos (2 ^ (n / 2 - 1))) ⊎ (approximation n (at (bentTable n permutation table)) w ≡ negℤ (pos (2 ^ (n / 2 - 1))))
   bent-table-flat =
       subst (λ (i : ℕ). (w : ℕ) → w < 2 ^ i
-      → (walsh i (at (bentTable i permutation table)) w ≡ pos (2 ^ (n / 2))) ⊎ (walsh i (at (bentTable i permutation table)) w ≡ negℤ (pos (2 ^ (n / 2)))))
-      (makes .1) (table-flat (n / 2) permutation table (makes .0 .permutation-size) (parts .permutes) bits)
+      → (approximation i (at (bentTable i permutation table)) w ≡ pos (2 ^ (n / 2 - 1))) ⊎ (approximation i (at (bentTable i permutation table)) w ≡ negℤ (pos (2 ^ (n / 2 - 1)))))
+      (makes .1) (table-flat (n / 2) permutation table (makes .0 .permutation-size) (parts .permutes) bits has-input)
 
   -- "which is what bent means;"
   pub bent-table-bent : Bent n (at (bentTable n permutation table))
   bent-table-bent =
       subst (λ (i : ℕ). Bent i (at (bentTable i permutation table)))
-      (makes .1) (table-bent (n / 2) permutation table (makes .0 .permutation-size) (parts .permutes) bits)
+      (makes .1) (table-bent (n / 2) permutation table (makes .0 .permutation-size) (parts .permutes) bits has-input)
 
   -- so its nonlinearity, whose one combination is within the limit 1, is 2^(n − 1) − 2^(h − 1)
   pub bent-table-nonlinearity : nonlinearity n 1 (bentTable n permutation table) 1 .figure ≡ 2 ^ (n - 1) - 2 ^ (n / 2 - 1)
   bent-table-nonlinearity =
       subst (λ (i : ℕ). nonlinearity i 1 (bentTable i permutation table) 1 .figure ≡ 2 ^ (i - 1) - 2 ^ (n / 2 - 1))
-      (makes .1) (table-nonlinearity (n / 2) permutation table (makes .0 .permutation-size) (parts .permutes) bits (omega (arith, parts .n-low)))
+      (makes .1) (table-nonlinearity (n / 2) permutation table (makes .0 .permutation-size) (parts .permutes) bits has-input)
 
 -- ---- "with n odd no function is bent."
 pub odd-not-bent : (n : ℕ) (f : ℕ → ℕ) → n % 2 ≡ 1 → Bent n f → ⊥
 odd-not-bent n f o b = omega (arith, b .even)
 
--- and the spectrum of each has a value whose square is over 2^n
+-- and each has a Walsh value whose square is over 2^n
 pub odd-not-flat : (n : ℕ) (f : ℕ → ℕ) → n % 2 ≡ 1 → Boolean n f → ((w : ℕ) → w < 2 ^ n → square (walsh n f w) ≤ 2 ^ n) → ⊥
-odd-not-flat n f o b s = odd-not-bent n f o (bent-of-squares n f b s)
+odd-not-flat n f o b s = odd-not-bent n f o (bent-of-squares n f (omega arith) b s)

@@ -10,7 +10,7 @@ use lib.IntN.{ℤ}
 use Rattle.boolean.specs.Sums.{listBelow}
 use Rattle.boolean.specs.Functions.{at, component, spectrum}
 use Rattle.boolean.proofs.Lists.{length-listBelow, getD-listBelow, listBelow-cong}
-use Rattle.boolean.proofs.Walsh.{walsh-cong}
+use Rattle.boolean.proofs.Approximations.{approximation-cong}
 use Rattle.boolean.proofs.Digits.{component-lt}
 use Rattle.refusals.specs.Table.{Box, Table}
 use Rattle.walsh.specs.Work.{Ready}
@@ -31,7 +31,7 @@ module _ (n : ℕ) (rows : List ℕ) (c : ℕ) where
 
   pub table-spectrum : spectrum n (at tableOf) ≡ spectrum n (component rows c)
   unfolding spectrum
-  table-spectrum = listBelow-cong (2 ^ n) _ _ (λ w l. walsh-cong n (at tableOf) (component rows c) w table-entry)
+  table-spectrum = listBelow-cong (2 ^ n) _ _ (λ w l. approximation-cong n (at tableOf) (component rows c) w table-entry)
 
   module _ (m : ℕ) (b : Box n m rows) where
     pub table-is : Table n tableOf

@@ -2,16 +2,16 @@
 use mathlib.Core.Path.{_≡_, sym, ap, ap₂, _∙_, subst}
 use mathlib.Core.Bool.{true, false}
 use mathlib.Core.List.{List, [], _∷_, List·Memᴰ}
-use Prim.Native.Nat.{ℕ, _+_, _*_, _-_, _/_, _^_, _<_, _≤_}
+use Prim.Native.Nat.{ℕ, suc, _+_, _*_, _-_, _/_, _^_, _<_, _≤_}
 use native.Mathlib.Nat.{le-trans, zero-lt-suc}
 use native.Mathlib.Omega.{arith}
 use native.Mathlib.Decide.{decLt}
 use borrow.Author.Tests.{lt-ltb, le-ltb}
 use lib.Pow.{pow-pos}
-use lib.IntN.{ℤ, pos, negsuc, natAbs}
+use lib.IntN.{ℤ, pos, negsuc, _+ℤ_, natAbs}
 use lib.ListN.{length}
 use Rattle.boolean.specs.Sums.{listBelow, each}
-use Rattle.boolean.specs.Functions.{at, valueAt, component, distance, walsh, spectrum, signBit}
+use Rattle.boolean.specs.Functions.{at, valueAt, component, distance, walsh, approximation, spectrum, signBit}
 use Rattle.boolean.specs.Selection.{Candidate, best, lower, firstLeast, ranked}
 use Rattle.boolean.proofs.Counts.{count-le}
 use Rattle.boolean.proofs.Digits.{component-lt}
@@ -20,7 +20,7 @@ use Rattle.boolean.proofs.Dots.{bit-cases}
 use Rattle.boolean.proofs.Lists.{length-listBelow, getD-listBelow}
 use Rattle.boolean.proofs.Components.{masksBelow}
 use Rattle.boolean.proofs.Selection.{best-takes, best-keeps, first-is, firstLeast-le, firstLeast-mem, ranked-first}
-use Rattle.boolean.proofs.Walsh.{walsh-le}
+use Rattle.boolean.proofs.Approximations.{walsh-twice, walsh-size, approximation-le, half-power}
 use Rattle.refusals.specs.Table.{Box}
 use Rattle.masks.specs.Masks.{Next, Raised, outputs, preferred}
 use Rattle.masks.proofs.Walk.{best-starts, best-next, best-ends}
@@ -42,62 +42,69 @@ nearestOf n rows c = firstLeast (pairsOf n rows c) ∷ []
 module _ (n : ℕ) (rows : List ℕ) (c : ℕ) {values : List ℤ} (e : values ≡ spectrum n (component rows c)) where
   pub values-length : length values ≡ 2 ^ n
   unfolding spectrum
-  values-length = ap length e ∙ length-listBelow (2 ^ n) (walsh n (component rows c))
+  values-length = ap length e ∙ length-listBelow (2 ^ n) (approximation n (component rows c))
 
   pub values-nonempty : 0 < length values
   values-nonempty = omega (arith, values-length, pow-pos n)
 
-  value-is : (w : ℕ) → w < 2 ^ n → valueAt values w ≡ walsh n (component rows c) w
+module _ (n : ℕ) (rows : List ℕ) (c : ℕ) {values : List ℤ} (e : values ≡ spectrum n (component rows c)) (low : 1 ≤ n) where
+  value-is : (w : ℕ) → w < 2 ^ n → valueAt values w ≡ approximation n (component rows c) w
   unfolding spectrum
-  value-is w l = ap (λ (vs : List ℤ). valueAt vs w) e ∙ getD-listBelow (2 ^ n) (walsh n (component rows c)) w (pos 0) l
+  value-is w l = ap (λ (vs : List ℤ). valueAt vs w) e ∙ getD-listBelow (2 ^ n) (approximation n (component rows c)) w (pos 0) l
 
   boolean : (x : ℕ) → x < 2 ^ n → component rows c x < 2
   boolean x l = component-lt rows c x
 
   -- each distance at w by the value's magnitude
-  near : (w b : ℕ) → w < 2 ^ n → b < 2 → 2 ^ n ≤ 2 * distance n (component rows c) w b + natAbs (valueAt values w)
+  near : (w b : ℕ) → w < 2 ^ n → b < 2 → 2 ^ n ≤ 2 * distance n (component rows c) w b + 2 * natAbs (valueAt values w)
   near w b l =
       let h = distance-walsh n (component rows c) w boolean in
       let v = ap natAbs (value-is w l) in
-      bit-cases (λ b. 2 ^ n ≤ 2 * distance n (component rows c) w b + natAbs (valueAt values w)) (omega arith) (omega arith) b
+      let twice = walsh-size n low (component rows c) w in
+      bit-cases (λ b. 2 ^ n ≤ 2 * distance n (component rows c) w b + 2 * natAbs (valueAt values w)) (omega arith) (omega arith) b
 
   -- the sign bit has the smaller of the two, and the first where they are equal
   abbrev Signed : ℕ → ℤ → Type 0
   Signed w v =
       (signBit v < 2)
-      × (2 * distance n (component rows c) w (signBit v) + natAbs v ≡ 2 ^ n)
+      × (2 * distance n (component rows c) w (signBit v) + 2 * natAbs v ≡ 2 ^ n)
       × ((b : ℕ) → b < signBit v → distance n (component rows c) w (signBit v) < distance n (component rows c) w b)
 
   signed : (w : ℕ) → w < 2 ^ n → Signed w (valueAt values w)
   unfolding signBit
   signed w l = go (valueAt values w) (value-is w l)
     where
-      go : (v : ℤ) → v ≡ walsh n (component rows c) w → Signed w v
-      go (pos k) q = (omega arith, walsh-pos n (component rows c) w boolean k (sym q) .0, λ b l. absurd (omega arith))
+      twice : {v : ℤ} → v ≡ approximation n (component rows c) w → walsh n (component rows c) w ≡ v +ℤ v
+      twice q = sym (ap (λ (z : ℤ). z +ℤ z) q ∙ walsh-twice n (component rows c) w low)
+
+      go : (v : ℤ) → v ≡ approximation n (component rows c) w → Signed w v
+      go (pos k) q =
+          let h = walsh-pos n (component rows c) w boolean (k + k) (twice q) in
+          (omega arith, omega (arith, h .0), λ b l. absurd (omega arith))
       go (negsuc k) q =
-          let h = walsh-negsuc n (component rows c) w boolean k (sym q) in
-          (omega arith, h .0, λ b l. subst (λ (z : ℕ). distance n (component rows c) w 1 < distance n (component rows c) w z) (omega arith) (h .1))
+          let h = walsh-negsuc n (component rows c) w boolean (suc (k + k)) (twice q) in
+          (omega arith, omega (arith, h .0), λ b l. subst (λ (z : ℕ). distance n (component rows c) w 1 < distance n (component rows c) w z) (omega arith) (h .1))
 
   module _ {size : ℕ} (top : Largest values size) where
-    -- no value is above 2^n
-    pub largest-le : size ≤ 2 ^ n
+    -- no value is above half of the inputs
+    pub largest-le : size ≤ 2 ^ n / 2
     largest-le =
-        let l : top .place < 2 ^ n = omega (arith, values-length, top .inside) in
-        omega (arith, top .reached, ap natAbs (value-is (top .place) l), walsh-le n (component rows c) (top .place))
+        let l : top .place < 2 ^ n = omega (arith, values-length n rows c e, top .inside) in
+        omega (arith, top .reached, ap natAbs (value-is (top .place) l), approximation-le n low (component rows c) (top .place), half-power n low)
 
-    least-distance : (p : Candidate) → List·Memᴰ p (pairsOf n rows c) → (2 ^ n - size) / 2 ≤ p .figure
+    least-distance : (p : Candidate) → List·Memᴰ p (pairsOf n rows c) → 2 ^ n / 2 - size ≤ p .figure
     least-distance p k =
         let t = mem-pairsOf n rows c p k in
         omega (arith, ap (λ (p : Candidate). p .figure) (t .4), near (t .0) (t .1) (t .2) (t .3), top .bounds (t .0))
 
     -- where the largest magnitude is reached, the value's sign bit has that distance
-    figure-at : (w : ℕ) → w < 2 ^ n → natAbs (valueAt values w) ≡ size → (2 ^ n - size) / 2 ≡ distance n (component rows c) w (signBit (valueAt values w))
+    figure-at : (w : ℕ) → w < 2 ^ n → natAbs (valueAt values w) ≡ size → 2 ^ n / 2 - size ≡ distance n (component rows c) w (signBit (valueAt values w))
     figure-at w l has = omega (arith, signed w l .1)
 
     -- so it is the least
-    pub least-figure : firstLeast (pairsOf n rows c) .figure ≡ (2 ^ n - size) / 2
+    pub least-figure : firstLeast (pairsOf n rows c) .figure ≡ 2 ^ n / 2 - size
     least-figure =
-        let l : top .place < 2 ^ n = omega (arith, values-length, top .inside) in
+        let l : top .place < 2 ^ n = omega (arith, values-length n rows c e, top .inside) in
         let v = valueAt values (top .place) in
         let t = pairsOf-some n rows c in
         let reached = firstLeast-le (pairsOf n rows c) (pair n rows c (top .place) (signBit v)) (in-pairsOf n rows c (top .place) (signBit v) l (signed (top .place) l .0)) in
@@ -110,9 +117,9 @@ module _ (n : ℕ) (rows : List ℕ) (c : ℕ) {values : List ℤ} (e : values �
       sign = signBit (valueAt values w)
 
       inside : w < 2 ^ n
-      inside = omega (arith, values-length, place .inside)
+      inside = omega (arith, values-length n rows c e, place .inside)
 
-      figure-is : (2 ^ n - size) / 2 ≡ distance n (component rows c) w sign
+      figure-is : 2 ^ n / 2 - size ≡ distance n (component rows c) w sign
       figure-is = figure-at w inside (place .has)
 
       earlier : (v b : ℕ) → v < 2 ^ n → b < 2 → v * 2 + b < w * 2 + sign → distance n (component rows c) w sign < distance n (component rows c) v b
@@ -145,7 +152,7 @@ module _ (n : ℕ) (rows : List ℕ) (c : ℕ) {values : List ℤ} (e : values �
               omega (arith, ap (λ (p : Candidate). p .figure) (t .4), earlier (t .0) (t .1) (t .2) (t .3) lower-rank)
 
     -- what the code does: it counts, and takes that pair or keeps the best so far
-    module _ {count : ℕ} (half : count ≡ (2 ^ n - size) / 2) (b : Candidate) where
+    module _ {count : ℕ} (half : count ≡ 2 ^ n / 2 - size) (b : Candidate) where
       test : preferred count (b .figure) c (at (b .witness) 0) ≡ ranked lower outputs (firstLeast (pairsOf n rows c)) b
       test = lower-test (firstLeast (pairsOf n rows c)) b (half ∙ sym least-figure) (sym (least-names (blocks n rows) c))
 

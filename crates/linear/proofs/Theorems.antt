@@ -64,7 +64,7 @@ module _ (n m : ℕ) (rows : List ℕ) (i : ℕ) where
     boolean : (c x : ℕ) → x < 2 ^ n → component rows c x < 2
     boolean c x l = component-lt rows c x
 
-    -- what d leaves of 2^n is at least each spectrum value
+    -- what 2d leaves of 2^n is at least each Walsh value in size
     spectrum-within : (c w : ℕ) → Within i (2 ^ m) c → w < 2 ^ n → 2 * nonlinearity n m rows i .figure + natAbs (walsh n (component rows c) w) ≤ 2 ^ n
     spectrum-within c w mask l =
         let p = least c w 0 (record { mask = mask; w-high = l; b-high = zero-lt-suc 1 }) in
@@ -94,13 +94,13 @@ module _ (n m : ℕ) (rows : List ℕ) (i : ℕ) where
         (omega (arith, spectrum-within 1 0 (p .mask) (p .w-high)), le-trans (t .2) (squares-within 1 (t .0) (p .mask) (t .1)))
 
     -- it is met exactly where every component is bent
-    pub tight : (2 ^ n - 2 * nonlinearity n m rows i .figure) * (2 ^ n - 2 * nonlinearity n m rows i .figure) ≡ 2 ^ n
+    pub tight : 1 ≤ n → (2 ^ n - 2 * nonlinearity n m rows i .figure) * (2 ^ n - 2 * nonlinearity n m rows i .figure) ≡ 2 ^ n
         ↔ ((c : ℕ) → Within i (2 ^ m) c → Bent n (component rows c))
     unfolding square
-    tight = (
-      λ e c mask. bent-of-squares n (component rows c) (boolean c) (λ w l. le-trans (squares-within c w mask l) (le-of-eq e)),
+    tight low = (
+      λ e c mask. bent-of-squares n (component rows c) low (boolean c) (λ w l. le-trans (squares-within c w mask l) (le-of-eq e)),
       λ bent.
           let t = reached in
           let s : natAbs (walsh n (component rows (t .0)) (t .1)) ≡ 2 ^ n - 2 * nonlinearity n m rows i .figure = spectrum-reached (t .0) (t .1) (t .2) (t .3) (t .4) in
-          sym (ap₂ (λ (i j : ℕ). i * j) s s) ∙ bent-squares n (component rows (t .0)) (bent (t .0) (t .3 .mask)) (t .1) (t .3 .w-high),
+          sym (ap₂ (λ (i j : ℕ). i * j) s s) ∙ bent-squares n (component rows (t .0)) low (bent (t .0) (t .3 .mask)) (t .1) (t .3 .w-high),
     )

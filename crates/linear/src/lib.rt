@@ -135,7 +135,7 @@ fn with_spectrum(found: Found, n: u32, m: u32, rows: &[u32], c: u32, values: &[i
     ensures { λ r. ⌜ candidate r ≡ best (ranked lower outputs) (candidate found) (firstLeast (pairsOf n (now (rows .entry)) c) ∷ []) ⌝ }
 {
     let largest = largest_magnitude(values);
-    let count = (rows.len() as u32 - largest) / 2;
+    let count = rows.len() as u32 / 2 - largest;
     if masks::is_preferred(count, found.count, c, found.c) {
         let w = first_place(values, largest);
         let b = boolean::sign_bit(values[w]);

@@ -1,4 +1,4 @@
--- The largest magnitude of a product of spectra: it is the product of the largest, and the first masks that reach it are each box's own first.
+-- The largest magnitude of a product of Walsh values: it is the product of the largest, and the first masks that reach it are each box's own first.
 use mathlib.Core.Path.{_≡_, sym, subst}
 use mathlib.Core.List.{List, [], _∷_, List·Memᴰ, List·Memᴰ·eq-of-singleton}
 use Prim.Native.Nat.{ℕ, zero, suc, _*_, _^_, _<_, _≤_}
@@ -23,7 +23,7 @@ sizeOf s c w = natAbs (walshOf s c w)
 abbrev pub sizeAt : List Summand → ℕ → List ℕ → ℕ
 sizeAt ss c ws = natAbs (productAt ss c ws)
 
--- the first mask at which the spectrum of component c has its largest magnitude
+-- the first mask at which W(w) of component c has its largest magnitude
 pub record Peak (s : Summand) (c w : ℕ) : Type 0 where
   pub inside : w < 2 ^ s .inputs
   pub bounds : (v : ℕ) → v < 2 ^ s .inputs → sizeOf s c v ≤ sizeOf s c w

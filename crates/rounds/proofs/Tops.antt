@@ -2,21 +2,22 @@
 -- Assumes nothing.
 use mathlib.Core.Path.{_≡_, refl, sym, ap, _∙_, subst}
 use mathlib.Core.List.{List}
-use Prim.Native.Nat.{ℕ, suc, _+_, _-_, _<_, _≤_, _^_, max}
+use Prim.Native.Nat.{ℕ, suc, _+_, _-_, _*_, _<_, _≤_, _^_, max}
 use native.Mathlib.Nat.{le-antisymm, le-of-eq, le-trans, zero-lt-suc}
 use native.Mathlib.Numerals.{add-one}
 use native.Mathlib.Omega.{arith}
 use native.Mathlib.Decide.{decLt}
 use borrow.Author.Count.{below-more}
 use borrow.Author.Tests.{eq-eqb}
-use lib.IntN.{ℤ, pos, natAbs}
+use lib.IntN.{ℤ, pos, negsuc, _+ℤ_, natAbs}
 use lib.ListN.{length}
 use lib.Pow.{pow-mono}
 use Rattle.boolean.specs.Sums.{largestBelow}
-use Rattle.boolean.specs.Functions.{at, valueAt, component, walsh, spectrum, signBit}
-use Rattle.boolean.proofs.Largest.{largest-cong, largest-le, le-largest}
+use Rattle.boolean.specs.Functions.{at, valueAt, component, walsh, approximation, spectrum, signBit}
+use Rattle.boolean.proofs.Largest.{largest-le, le-largest}
 use Rattle.boolean.proofs.Lists.{length-listBelow, getD-listBelow}
 use Rattle.boolean.proofs.Walsh.{walsh-le}
+use Rattle.boolean.proofs.Approximations.{walsh-twice, walsh-size}
 use Rattle.refusals.specs.Table.{first, boxChecks, contentAfter, Box}
 use Rattle.refusals.specs.declared.Checked.the-variants.{Accepted}
 use Rattle.refusals.proofs.Bounds.{range-true}
@@ -117,34 +118,38 @@ module _ (n m : ℕ) (rows : List ℕ) (c : ℕ) (b : Box n m rows) (low : 1 ≤
       → values ≡ contentAfter (first (componentChecks n m rows c (length old))) (spectrum n (component rows c)) old → values ≡ spectrum n (component rows c)
   spectrum-written old e h = h ∙ sym (content-accepted (component-accepted (length old) e) (spectrum n (component rows c)) old)
 
--- ---- and the largest of it is the peak
-module _ (n m : ℕ) (rows : List ℕ) (c : ℕ) {values : List ℤ} (e : values ≡ spectrum n (component rows c)) where
+-- ---- and the largest of it, doubled, is the peak
+twice-sign : (z : ℤ) → signBit (z +ℤ z) ≡ signBit z
+unfolding signBit
+twice-sign (pos k) = refl
+twice-sign (negsuc k) = refl
+
+module _ (n m : ℕ) (rows : List ℕ) (c : ℕ) (low : 1 ≤ n) {values : List ℤ} (e : values ≡ spectrum n (component rows c)) where
   abbrev box : Summand
   box = boxOf n m rows
 
   pub values-length : length values ≡ 2 ^ n
   unfolding spectrum
-  values-length = ap length e ∙ length-listBelow (2 ^ n) (walsh n (component rows c))
+  values-length = ap length e ∙ length-listBelow (2 ^ n) (approximation n (component rows c))
 
-  value-is : (w : ℕ) → w < 2 ^ n → valueAt values w ≡ walsh n (component rows c) w
+  value-is : (w : ℕ) → w < 2 ^ n → valueAt values w ≡ approximation n (component rows c) w
   unfolding spectrum
-  value-is w l = ap (λ (vs : List ℤ). valueAt vs w) e ∙ getD-listBelow (2 ^ n) (walsh n (component rows c)) w (pos 0) l
+  value-is w l = ap (λ (vs : List ℤ). valueAt vs w) e ∙ getD-listBelow (2 ^ n) (approximation n (component rows c)) w (pos 0) l
 
-  size-is : (w : ℕ) → w < 2 ^ n → sizes values w ≡ sizeOf box c w
-  size-is w l = ap natAbs (value-is w l)
+  size-is : (w : ℕ) → w < 2 ^ n → sizes values w * 2 ≡ sizeOf box c w
+  size-is w l = ap (λ (z : ℤ). natAbs z * 2) (value-is w l) ∙ walsh-size n low (component rows c) w
 
   -- the largest magnitude
-  peak-largest : largestBelow (2 ^ n) (sizeOf box c) ≡ peak box c .figure
-  peak-largest =
+  pub largest-is : {size : ℕ} → size ≡ largestBelow (length values) (sizes values) → 2 * size ≡ peak box c .figure
+  largest-is h =
+      let place = at (peak box c .witness) 0 in
       let p = place-peak box c in
-      let q = peak-size box c in
-      le-antisymm (le-trans (largest-le (2 ^ n) _ (sizeOf box c) (p .bounds)) (le-of-eq (sym q)))
-      (le-trans (le-of-eq q) (le-largest (2 ^ n) (sizeOf box c) (at (peak box c .witness) 0) (p .inside)))
+      let top : largestBelow (2 ^ n) (sizes values) ≡ sizes values place =
+      le-antisymm (largest-le (2 ^ n) _ (sizes values) (λ w l. omega (arith, size-is w l, size-is place (p .inside), p .bounds w l)))
+      (le-largest (2 ^ n) (sizes values) place (p .inside)) in
+      omega (arith, h, ap (λ (k : ℕ). largestBelow k (sizes values)) values-length, size-is place (p .inside), peak-size box c)
 
-  pub largest-is : {size : ℕ} → size ≡ largestBelow (length values) (sizes values) → size ≡ peak box c .figure
-  largest-is h = h ∙ ap (λ (k : ℕ). largestBelow k (sizes values)) values-length ∙ largest-cong (2 ^ n) (sizes values) (sizeOf box c) size-is ∙ peak-largest
-
-  pub largest-small : n ≤ 8 → {size : ℕ} → size ≡ largestBelow (length values) (sizes values) → size ≤ 256
+  pub largest-small : n ≤ 8 → {size : ℕ} → size ≡ largestBelow (length values) (sizes values) → 2 * size ≤ 256
   largest-small small h =
       let few : 2 ^ n ≤ 256 = pow-mono small in
       let p = place-peak box c in
@@ -165,5 +170,7 @@ module _ (n m : ℕ) (rows : List ℕ) (c : ℕ) {values : List ℤ} (e : values
     pub top-of : TopOf box c t
     top-of = record {
       mask-is = peak-unique box c (t .mask) (at (peak box c .witness) 0) highest-peak (place-peak box c);
-      sign-is = h .signed ∙ ap signBit (value-is (t .mask) inside);
+      sign-is =
+          h .signed ∙ ap signBit (value-is (t .mask) inside) ∙ sym (twice-sign (approximation n (component rows c) (t .mask)))
+          ∙ ap signBit (walsh-twice n (component rows c) (t .mask) low);
     }

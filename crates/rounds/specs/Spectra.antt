@@ -1,4 +1,4 @@
--- The sum of boxes by the boxes' spectra: products of their largest magnitudes.
+-- The sum of boxes by the boxes' spectra: products of the largest magnitudes of W(w), each twice the spectrum's.
 use Prim.Native.Nat.{ℕ, _-_, _*_, _/_, _^_}
 use mathlib.Core.Bool.{Bool}
 use mathlib.Core.List.{List, [], _∷_, _++_}
@@ -10,7 +10,7 @@ use Rattle.boolean.specs.Functions.{at, component, walsh, signBit}
 use Rattle.boolean.specs.Selection.{Candidate, firstLargest}
 use Rattle.rounds.specs.Round.{Summand, inputsOf}
 
--- the largest magnitude in the spectrum of component c of a box, with the first mask that has it
+-- the largest magnitude of W(w) of component c of a box, with the first mask that has it
 unfoldable pub peak : Summand → ℕ → Candidate
 unfolding listBelow walsh firstLargest
 peak s c = firstLargest (listBelow (2 ^ s .inputs) (λ w. record { figure = natAbs (walsh (s .inputs) (component (s .rows) c) w); witness = w ∷ [] }))
@@ -27,7 +27,7 @@ unfolding peak
 places [] c = []
 places (s ∷ ss) c = at (peak s c .witness) 0 ∷ places ss c
 
--- the sign bit of the product of the spectrum values at a mask for each box: the XOR of their sign bits
+-- the sign bit of the product of W(w) at a mask for each box: the XOR of their sign bits
 unfoldable pub signAt : List Summand → ℕ → List ℕ → ℕ
 unfolding walsh component signBit
 signAt [] c ws = 0

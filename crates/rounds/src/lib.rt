@@ -79,13 +79,13 @@ fn largest(values: &[i32]) -> u32
     size
 }
 
-// The same of the spectrum of component c of a box, with an array for the spectrum lent.
+// Twice the same of the spectrum of component c of a box, the largest magnitude of a Walsh value, with an array for the spectrum lent.
 fn size_in(n: u32, m: u32, rows: &[u32], c: u32, values: &mut [i32]) -> u32
     requires { ⌜ Box n m (now rows) × (1 ≤ c) × (c < 2 ^ m) × (length (now values) ≡ 2 ^ n) ⌝ }
     ensures { λ r. ⌜ (r ≡ peak (boxOf n m (now (rows .entry))) c .figure) × (r ≤ 256) ⌝ }
 {
     linear::spectrum_of_component(n, m, rows, c, values);
-    largest(values)
+    2 * largest(values)
 }
 
 // The same for a box that the sum has, and else a factor of 1.

@@ -130,15 +130,17 @@ fn show_lines(text: &[u8]) {
     }
 }
 
-// Document 01's cases 4, 5 and 6, values that no sum could hold, and a width and a length that are refused.
+// Document 01's cases 4, 5 and 6, in the values of document 02's Request 9; values that no sum could hold, a value above half of the inputs, the
+// doubled values of case 4, and a width and a length that are refused.
 fn show_values() {
-    show_function(2, &[2i32, 2, 2, -2]);
-    show_function(2, &[2i32, 2, 2, 2]);
+    show_function(2, &[1i32, 1, 1, -1]);
+    show_function(2, &[1i32, 1, 1, 1]);
     show_function(1, &[0i32, 0]);
     show_function(1, &[2147483647i32, -2147483648]);
-    show_function(2, &[6i32, 2, 2, -2]);
+    show_function(2, &[3i32, 1, 1, -1]);
+    show_function(2, &[2i32, 2, 2, -2]);
     show_function(0, &[1i32]);
-    show_function(2, &[2i32, 2]);
+    show_function(2, &[1i32, 1]);
 }
 
 fn main() {

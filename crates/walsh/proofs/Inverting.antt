@@ -2,7 +2,7 @@
 use mathlib.Core.Path.{_≡_, refl, sym, ap, _∙_, subst}
 use mathlib.Core.Bool.{Bool, true, false}
 use mathlib.Core.List.{List}
-use Prim.Native.Nat.{ℕ, _^_, _≤_, _<_}
+use Prim.Native.Nat.{ℕ, _-_, _^_, _≤_, _<_}
 use native.Mathlib.Nat.{le-trans, le-of-eq, mul-le-mul}
 use native.Mathlib.Decide.{decLt}
 use native.Mathlib.Omega.{arith}
@@ -20,7 +20,7 @@ use Rattle.boolean.proofs.Lists.{length-listBelow, getD-listBelow, listBelow-co
 use Rattle.refusals.specs.Table.{first}
 use Rattle.refusals.specs.declared.Refusal.the-variants.{NoFunction}
 use Rattle.refusals.specs.declared.Checked.the-variants.{Accepted, Refused}
-use Rattle.refusals.proofs.Bounds.{range-high}
+use Rattle.refusals.proofs.Bounds.{range-low, range-high}
 use Rattle.refusals.proofs.Checks.{found, skip, stop, end, Passed, passed, first-append}
 use Rattle.walsh.specs.Calls.{inverseLengths, functionCheck, inverseChecks}
 use Rattle.walsh.specs.Work.{Invertible, Summable}
@@ -40,15 +40,15 @@ pub function-found : (n : ℕ) (values : List ℤ) → isSpectrum n values ≡ t
 unfolding functionCheck
 function-found n values e = sym (found (skip e end))
 
-module _ (n : ℕ) (values : List ℤ) (size : length values ≡ 2 ^ n) where
+module _ (n : ℕ) (values : List ℤ) (low : 1 ≤ n) (size : length values ≡ 2 ^ n) where
   -- a value that is too large is no function's
-  pub outside : (limit : ℕ) → limit ≡ 2 ^ n → every (λ v. leb (natAbs v) limit) values ≡ false → isSpectrum n values ≡ false
+  pub outside : (limit : ℕ) → limit ≡ 2 ^ (n - 1) → every (λ v. leb (natAbs v) limit) values ≡ false → isSpectrum n values ≡ false
   outside limit e h = same-test (isSpectrum n values) false (λ t. sym h ∙ inside t) (λ t. cc)
     where
       inside : isSpectrum n values ≡ true → every (λ v. leb (natAbs v) limit) values ≡ true
       inside t =
           every-of (λ v. leb (natAbs v) limit) (pos 0) values
-          (λ k l. le-leb (natAbs (valueAt values k)) limit (subst (λ (m : ℕ). natAbs (valueAt values k) ≤ m) (sym e) (is-spectrum-small n values size t k (omega (arith, size)))))
+          (λ k l. le-leb (natAbs (valueAt values k)) limit (subst (λ (m : ℕ). natAbs (valueAt values k) ≤ m) (sym e) (is-spectrum-small n values low size t k (omega (arith, size)))))
 
   -- the transform
   abbrev pub transformed : List ℤ
@@ -57,14 +57,14 @@ module _ (n : ℕ) (values : List ℤ) (size : length values ≡ 2 ^ n) where
   entry : (x : ℕ) → x < 2 ^ n → valueAt transformed x ≡ transform n (valueAt values) x
   entry x l = getD-listBelow (2 ^ n) (λ x. transform n (valueAt values) x) x (pos 0) l
 
-  -- it is 2^n or −2^n everywhere exactly when a function has the values
-  pub full-test : (limit : ℕ) → limit ≡ 2 ^ n → every (λ v. eqb (natAbs v) limit) transformed ≡ isSpectrum n values
+  -- it is 2^(n−1) or −2^(n−1) everywhere exactly when a function has the values
+  pub full-test : (limit : ℕ) → limit ≡ 2 ^ (n - 1) → every (λ v. eqb (natAbs v) limit) transformed ≡ isSpectrum n values
   full-test limit e =
       same-test (every (λ v. eqb (natAbs v) limit) transformed) (isSpectrum n values)
-      (λ t. full-is-spectrum n values size
+      (λ t. full-is-spectrum n values low size
       (λ x l. ap natAbs (sym (entry x l)) ∙ eqb-true _ _ (every-at (λ v. eqb (natAbs v) limit) (pos 0) transformed t x (below x l)) ∙ e))
       (λ t. every-of (λ v. eqb (natAbs v) limit) (pos 0) transformed
-      (λ x l. let l′ : x < 2 ^ n = above x l in eq-eqb _ _ (ap natAbs (entry x l′) ∙ is-spectrum-full n values size t x l′ ∙ sym e)))
+      (λ x l. let l′ : x < 2 ^ n = above x l in eq-eqb _ _ (ap natAbs (entry x l′) ∙ is-spectrum-full n values low size t x l′ ∙ sym e)))
     where
       below : (x : ℕ) → x < 2 ^ n → x < length transformed
       below x l = subst (λ (k : ℕ). x < k) (sym (length-listBelow (2 ^ n) (λ x. transform n (valueAt values) x))) l
@@ -84,15 +84,19 @@ pub summable : (n : ℕ) (values work : List ℤ) (table : List ℕ) → Inverti
 summable n values work table r = record {
   few = r .few;
   size = r .size;
-  bound = 2 ^ n;
+  bound = 2 ^ (n - 1);
   small = r .small;
-  total = le-trans (mul-le-mul (pow-mono {i = n} {j = 8} (r .few)) (pow-mono {i = n} {j = 8} (r .few))) (lit≤ tt);
+  total = le-trans (mul-le-mul (pow-mono {i = n} {j = 8} (r .few)) (pow-mono {i = n - 1} {j = 8} (omega (arith, r .few)))) (lit≤ tt);
 }
 
 -- what the call's own checks leave for the work
 module _ (n : ℕ) (values : List ℤ) (table : List ℕ) (ok : first (inverseLengths n (length values) (length table)) ≡ Accepted) where
   own : Passed (inverseLengths n (length values) (length table))
   own = passed (inverseLengths n (length values) (length table)) ok
+
+  pub inverse-low : 1 ≤ n
+  unfolding inverseLengths
+  inverse-low = range-low 1 8 n (own .0)
 
   pub inverse-few : n ≤ 8
   unfolding inverseLengths
@@ -114,9 +118,10 @@ module _ (n : ℕ) (values : List ℤ) (table : List ℕ) (ok : first (inverseLe
   unfolding inverseChecks
   inverse-decided = first-append (inverseLengths n (length values) (length table)) (functionCheck n values) ok
 
-  pub invertible : (limit : ℕ) → limit ≡ 2 ^ n → every (λ v. leb (natAbs v) limit) values ≡ true → (work : List ℤ) → length values ≤ length work
+  pub invertible : (limit : ℕ) → limit ≡ 2 ^ (n - 1) → every (λ v. leb (natAbs v) limit) values ≡ true → (work : List ℤ) → length values ≤ length work
       → Invertible n values (take (length values) work) table
   invertible limit e inside work fits = record {
+    low = inverse-low;
     few = inverse-few;
     size = inverse-size;
     work-size = length-take-le (length values) work fits ∙ inverse-size;
@@ -124,6 +129,6 @@ module _ (n : ℕ) (values : List ℤ) (table : List ℕ) (ok : first (inverseLe
     small = λ k. go k (decLt k (length values));
   }
     where
-      go : (k : ℕ) → Dec (k < length values) → natAbs (valueAt values k) ≤ 2 ^ n
+      go : (k : ℕ) → Dec (k < length values) → natAbs (valueAt values k) ≤ 2 ^ (n - 1)
       go k (yes l) = subst (λ (m : ℕ). natAbs (valueAt values k) ≤ m) e (leb-true _ _ (every-at (λ v. leb (natAbs v) limit) (pos 0) values inside k l))
-      go k (no g) = subst (λ (z : ℤ). natAbs z ≤ 2 ^ n) (sym (List·getD-eq-default values (pos 0) (let ge : length values ≤ k = omega arith in ge))) (omega arith)
+      go k (no g) = subst (λ (z : ℤ). natAbs z ≤ 2 ^ (n - 1)) (sym (List·getD-eq-default values (pos 0) (let ge : length values ≤ k = omega arith in ge))) (omega arith)

@@ -1,6 +1,5 @@
 pub mod Numbers
 pub mod Step
-pub mod Sum
 pub mod Turns
 pub mod SpectrumHalves
 pub mod TransformHalves

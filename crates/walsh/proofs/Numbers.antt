@@ -8,8 +8,8 @@ use native.Mathlib.Omega.{arith}
 use lib.IntN.{ℤ, pos}
 use lib.ListN.{set}
 use lib.Pow.{pow-mono}
-use Rattle.boolean.specs.Functions.{at, valueAt, walsh}
-use Rattle.boolean.proofs.Walsh.{walsh-cong}
+use Rattle.boolean.specs.Functions.{at, valueAt, approximation}
+use Rattle.boolean.proofs.Approximations.{approximation-cong}
 use Rattle.boolean.proofs.Filled.{Filled, filled-more}
 use Rattle.walsh.specs.Work.{numbered, withFour, Spectra}
 
@@ -66,28 +66,28 @@ numbered-whole table t x s e = whole (subst (Numbered table t) e s)
 
 -- what the fixed table has for a function that has the number t
 entry-is : (fixed : List ℤ) (f : ℕ → ℕ) (t w : ℕ) → Spectra fixed → t < 256 → ((x : ℕ) → x < 8 → numbered t x ≡ f x) → w < 8
-    → valueAt fixed (t * 8 + w) ≡ walsh 3 f w
+    → valueAt fixed (t * 8 + w) ≡ approximation 3 f w
 entry-is fixed f t w s small e h =
     let row : (t * 8 + w) / 8 ≡ t = omega arith in
     let place : (t * 8 + w) % 8 ≡ w = omega arith in
-    s .rule (t * 8 + w) (omega arith) ∙ ap₂ (λ (a b : ℕ). walsh 3 (numbered a) b) row place ∙ walsh-cong 3 (numbered t) f w e
+    s .rule (t * 8 + w) (omega arith) ∙ ap₂ (λ (a b : ℕ). approximation 3 (numbered a) b) row place ∙ approximation-cong 3 (numbered t) f w e
 
 -- four of its entries, written where the array is filled up to
 module _ (fixed : List ℤ) (f : ℕ → ℕ) (t : ℕ) (s : Spectra fixed) (small : t < 256) (e : (x : ℕ) → x < 8 → numbered t x ≡ f x) where
-  one-more : (from to k i : ℕ) (out : List ℤ) → from ≡ t * 8 + to → i ≡ to + k → to + k < 8 → Filled (pos 0) (λ v. walsh 3 f v) 8 i out →
-      Filled (pos 0) (λ v. walsh 3 f v) 8 (to + k + 1) (set out (to + k) (valueAt fixed (from + k)))
+  one-more : (from to k i : ℕ) (out : List ℤ) → from ≡ t * 8 + to → i ≡ to + k → to + k < 8 → Filled (pos 0) (λ v. approximation 3 f v) 8 i out →
+      Filled (pos 0) (λ v. approximation 3 f v) 8 (to + k + 1) (set out (to + k) (valueAt fixed (from + k)))
   one-more from to k i out place same inside filled =
       let index : from + k ≡ t * 8 + (to + k) = omega arith in
-      filled-more (pos 0) (λ v. walsh 3 f v) 8 (to + k) out (subst (λ (j : ℕ). Filled (pos 0) (λ v. walsh 3 f v) 8 j out) same filled) inside _
+      filled-more (pos 0) (λ v. approximation 3 f v) 8 (to + k) out (subst (λ (j : ℕ). Filled (pos 0) (λ v. approximation 3 f v) 8 j out) same filled) inside _
       (ap (valueAt fixed) index ∙ entry-is fixed f t (to + k) s small e inside)
 
-  pub four-more : (from to : ℕ) (out : List ℤ) → from ≡ t * 8 + to → to + 4 ≤ 8 → Filled (pos 0) (λ v. walsh 3 f v) 8 to out →
-      Filled (pos 0) (λ v. walsh 3 f v) 8 (to + 4) (withFour out to fixed from)
+  pub four-more : (from to : ℕ) (out : List ℤ) → from ≡ t * 8 + to → to + 4 ≤ 8 → Filled (pos 0) (λ v. approximation 3 f v) 8 to out →
+      Filled (pos 0) (λ v. approximation 3 f v) 8 (to + 4) (withFour out to fixed from)
   unfolding withFour
   four-more from to out place inside filled =
-      let a = filled-more (pos 0) (λ v. walsh 3 f v) 8 to out filled (omega arith) _ (ap (valueAt fixed) place ∙ entry-is fixed f t to s small e (omega arith)) in
+      let a = filled-more (pos 0) (λ v. approximation 3 f v) 8 to out filled (omega arith) _ (ap (valueAt fixed) place ∙ entry-is fixed f t to s small e (omega arith)) in
       let b = one-more from to 1 _ _ place refl (omega arith) a in
       let c = one-more from to 2 _ _ place (omega arith) (omega arith) b in
       let d = one-more from to 3 _ _ place (omega arith) (omega arith) c in
       let end : to + 3 + 1 ≡ to + 4 = omega arith in
-      subst (λ (j : ℕ). Filled (pos 0) (λ v. walsh 3 f v) 8 j (withFour out to fixed from)) end d
+      subst (λ (j : ℕ). Filled (pos 0) (λ v. approximation 3 f v) 8 j (withFour out to fixed from)) end d

@@ -10,9 +10,9 @@ use lib.Pow.{pow-mono}
 use lib.IntN.{ℤ, _+ℤ_, _-ℤ_, natAbs}
 use borrow.Rule.Slice.PartMut.{putMid}
 use Rattle.boolean.specs.Sums.{listBelow}
-use Rattle.boolean.specs.Functions.{at, walsh, spectrum}
+use Rattle.boolean.specs.Functions.{at, approximation, spectrum}
 use Rattle.boolean.proofs.Lists.{upper-part}
-use Rattle.boolean.proofs.Walsh.{walsh-cong, walsh-le, walsh-low, walsh-high}
+use Rattle.boolean.proofs.Approximations.{approximation-cong, approximation-le, approximation-low, approximation-high}
 use Rattle.walsh.specs.Work.{Ready, Halves, Crossed}
 use Rattle.walsh.proofs.Step as step
 
@@ -39,10 +39,10 @@ module _ {n m : ℕ} {table : List ℕ} {out : List ℤ} (c : Cut n m table out)
   few = omega (arith, c .one-less, c .ready .read .n-high)
 
   abbrev pub lower : ℕ → ℤ
-  lower w = walsh m (at (take h table)) w
+  lower w = approximation m (at (take h table)) w
 
   abbrev upper : ℕ → ℤ
-  upper w = walsh m (at (drop h table)) w
+  upper w = approximation m (at (drop h table)) w
 
   pub lower-ready : Ready m (take h table) (take h out)
   lower-ready = record {
@@ -85,8 +85,8 @@ module _ {n m : ℕ} {table : List ℕ} {out : List ℤ} (c : Cut n m table out)
       abbrev pub after-upper : List ℤ
       after-upper = putMid h (length after-lower - h) after-lower l₂
 
-      small : (f : ℕ → ℕ) (w : ℕ) → natAbs (walsh m f w) ≤ 2 ^ 29
-      small f w = le-trans (walsh-le m f w) (pow-mono {j = 29} (le-trans few (omega arith)))
+      small : (f : ℕ → ℕ) (w : ℕ) → natAbs (approximation m f w) ≤ 2 ^ 29
+      small f w = le-trans (approximation-le m (c .low) f w) (pow-mono {j = 29} (omega (arith, few)))
 
       pub crossing : Halves h after-upper
       crossing = step.halves h out room lower l₁ as-lower upper l₂ as-upper (λ k lt. small (at (take h table)) k) (λ k lt. small (at (drop h table)) k)
@@ -94,17 +94,17 @@ module _ {n m : ℕ} {table : List ℕ} {out : List ℤ} (c : Cut n m table out)
       pub same-long : length after-upper ≡ length out
       same-long = step.length-after-upper h out room lower l₁ as-lower upper l₂ as-upper ∙ sym room
 
-      lower-is : (w : ℕ) → walsh m (at table) w ≡ lower w
-      lower-is w = walsh-cong m _ _ w (λ x lt. step.lower-entry 0 h table x (omega (arith, half)))
+      lower-is : (w : ℕ) → approximation m (at table) w ≡ lower w
+      lower-is w = approximation-cong m _ _ w (λ x lt. step.lower-entry 0 h table x (omega (arith, half)))
 
-      upper-is : (w : ℕ) → walsh m (λ x. at table (2 ^ m + x)) w ≡ upper w
-      upper-is w = walsh-cong m _ _ w (λ x lt. step.upper-entry 0 h table x (2 ^ m) half)
+      upper-is : (w : ℕ) → approximation m (λ x. at table (2 ^ m + x)) w ≡ upper w
+      upper-is w = approximation-cong m _ _ w (λ x lt. step.upper-entry 0 h table x (2 ^ m) half)
 
       pub right : (new : List ℤ) → length new ≡ length after-upper → Crossed h after-upper new → new ≡ spectrum n (at table)
       unfolding spectrum
       right new kept crossed =
-          step.crossed-is h out room lower l₁ as-lower upper l₂ as-upper new kept crossed (λ w. walsh (suc m) (at table) w)
-          (λ k lt. walsh-low m (at table) k (λ x l. c .ready .read .bits x) (omega (arith, half)) ∙ ap₂ (λ (a b : ℤ). a +ℤ b) (lower-is k) (upper-is k))
-          (λ k lt. ap (λ (j : ℕ). walsh (suc m) (at table) (j + k)) half
-          ∙ walsh-high m (at table) k (λ x l. c .ready .read .bits x) (omega (arith, half)) ∙ ap₂ (λ (a b : ℤ). a -ℤ b) (lower-is k) (upper-is k))
-          ∙ ap₂ (λ (j k : ℕ). listBelow j (λ w. walsh k (at table) w)) (sym (step.two-halves m table size) ∙ c .ready .read .size) (sym (c .one-less))
+          step.crossed-is h out room lower l₁ as-lower upper l₂ as-upper new kept crossed (λ w. approximation (suc m) (at table) w)
+          (λ k lt. approximation-low m (c .low) (at table) k (λ x l. c .ready .read .bits x) (omega (arith, half)) ∙ ap₂ (λ (a b : ℤ). a +ℤ b) (lower-is k) (upper-is k))
+          (λ k lt. ap (λ (j : ℕ). approximation (suc m) (at table) (j + k)) half
+          ∙ approximation-high m (c .low) (at table) k (λ x l. c .ready .read .bits x) (omega (arith, half)) ∙ ap₂ (λ (a b : ℤ). a -ℤ b) (lower-is k) (upper-is k))
+          ∙ ap₂ (λ (j k : ℕ). listBelow j (λ w. approximation k (at table) w)) (sym (step.two-halves m table size) ∙ c .ready .read .size) (sym (c .one-less))

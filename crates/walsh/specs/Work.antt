@@ -1,10 +1,10 @@
 -- What the functions behind the spectrum calls ask and leave. The sweeps of the crates above ask them too, and meet the same conditions.
-use Prim.Native.Nat.{ℕ, _+_, _*_, _/_, _%_, _^_, _≤_, _<_}
+use Prim.Native.Nat.{ℕ, _+_, _-_, _*_, _/_, _%_, _^_, _≤_, _<_}
 use mathlib.Core.Path.{_≡_}
 use mathlib.Core.List.{List}
 use lib.ListN.{length, set}
 use lib.IntN.{ℤ, _+ℤ_, _-ℤ_, natAbs}
-use Rattle.boolean.specs.Functions.{valueAt, walsh}
+use Rattle.boolean.specs.Functions.{valueAt, approximation}
 use Rattle.refusals.specs.Table.{Table}
 
 -- the function of three inputs with the number t: its value at x is bit x of t, counted from 0
@@ -13,7 +13,7 @@ numbered t x = t / 2 ^ x % 2
 
 -- the fixed table's rule: entry 8t + w is the spectrum value at w of the function with the number t
 pub record Spectra (fixed : List ℤ) : Type 0 where
-  pub rule : (k : ℕ) → k < 2048 → valueAt fixed k ≡ walsh 3 (numbered (k / 8)) (k % 8)
+  pub rule : (k : ℕ) → k < 2048 → valueAt fixed k ≡ approximation 3 (numbered (k / 8)) (k % 8)
 
 -- the array, with the four entries of the fixed table from one place on written to it from the other place on
 unfoldable pub withFour : List ℤ → ℕ → List ℤ → ℕ → List ℤ
@@ -43,10 +43,11 @@ pub record Summable (n : ℕ) (values : List ℤ) : Type 0 where
   pub small : (k : ℕ) → natAbs (valueAt values k) ≤ bound
   pub total : 2 ^ n * bound ≤ 2 ^ 29
 
--- what the inverse works on: 2^n values between −2^n and 2^n, and two arrays as long
+-- what the inverse works on: 2^n values between −2^(n−1) and 2^(n−1), and two arrays as long
 pub record Invertible (n : ℕ) (values work : List ℤ) (table : List ℕ) : Type 0 where
+  pub low : 1 ≤ n
   pub few : n ≤ 8
   pub size : length values ≡ 2 ^ n
   pub work-size : length work ≡ 2 ^ n
   pub room : length table ≡ 2 ^ n
-  pub small : (k : ℕ) → natAbs (valueAt values k) ≤ 2 ^ n
+  pub small : (k : ℕ) → natAbs (valueAt values k) ≤ 2 ^ (n - 1)

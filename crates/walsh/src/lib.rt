@@ -1,4 +1,4 @@
-// The Walsh spectrum of a truth table, and the truth table of a spectrum.
+// The spectrum of a truth table, and the truth table of a spectrum. A spectrum holds the linear approximation values: each is half of the Walsh value.
 mod fixed;
 
 use refusals::Checked;
@@ -6,13 +6,13 @@ use refusals::Refusal;
 use refusals::Written;
 ghost use mathlib.Core.Path.{_≡_};
 ghost use mathlib.Core.List.{[]};
-ghost use Prim.Native.Nat.{ℕ, _+_, _*_, _^_, _≤_, _<_};
+ghost use Prim.Native.Nat.{ℕ, _+_, _*_, _/_, _^_, _≤_, _<_};
 ghost use lib.Dec.{leb, eqb};
-ghost use lib.IntN.{natAbs};
+ghost use lib.IntN.{pos, _-ℤ_, natAbs};
 ghost use lib.ListN.{length};
 ghost use Rattle.boolean.specs.Bits.{dot};
-ghost use Rattle.boolean.specs.Sums.{sumBelow, listBelow, every};
-ghost use Rattle.boolean.specs.Functions.{at, valueAt, agreement, signBit, inverse};
+ghost use Rattle.boolean.specs.Sums.{countBelow, listBelow, every};
+ghost use Rattle.boolean.specs.Functions.{at, valueAt, signBit, inverse};
 ghost use Rattle.boolean.specs.Functions as functions;
 ghost use Rattle.refusals.specs.Table.{tableCallChecks, first, replyAfter, contentAfter, written, Table};
 ghost use Rattle.walsh.specs.Calls.{inverseLengths, functionCheck, inverseChecks};
@@ -65,23 +65,21 @@ fn by_table(fixed: &[i32; 2048], table: &[u8], out: &mut [i32])
     copy_four(fixed, first + 4, out, 4);
 }
 
-// One spectrum value by its definition: +1 where the table equals w·x, and −1 elsewhere.
+// One spectrum value by its definition: the number of inputs where the table equals w·x, less half of all inputs.
 fn value(table: &[u8], w: u32) -> i32
     requires { ⌜ length (now table) ≤ 256 ⌝ }
-    ensures { λ r. ⌜ r ≡ sumBelow (length (now (table .entry))) (λ x. agreement (at (now (table .entry)) x) (dot w x)) ⌝ }
+    ensures { λ r. ⌜ r ≡ pos (countBelow (length (now (table .entry))) (λ x. eqb (at (now (table .entry)) x) (dot w x))) -ℤ pos (length (now (table .entry)) / 2) ⌝ }
 {
     let size = table.len() as u32;
-    let mut sum: i32 = 0;
+    let mut count: u32 = 0;
     let mut x: u32 = 0;
     while x < size {
         if table[x as usize] as u32 == boolean::dot(w, x) {
-            sum += 1;
-        } else {
-            sum -= 1;
+            count += 1;
         }
         x += 1;
     }
-    sum
+    count as i32 - (size / 2) as i32
 }
 
 // Widths 1 and 2: the definition.
@@ -280,7 +278,7 @@ fn check_lengths(n: u32, count: usize, room: usize) -> Checked
 }
 
 // The truth table that has the values, which are transformed in a second array. It is written only where a function has them: where
-// the transform is 2^n or −2^n everywhere.
+// the transform is 2^(n−1) or −2^(n−1) everywhere.
 fn invert(n: u32, values: &[i32], work: &mut [i32], table: &mut [u8]) -> Written
     requires { ⌜ Invertible n (now values) (now work) (now table) ⌝ }
     ensures reply { λ r. ⌜ written r ≡ replyAfter (first (functionCheck n (now (values .entry)))) [] ⌝ }
@@ -289,15 +287,15 @@ fn invert(n: u32, values: &[i32], work: &mut [i32], table: &mut [u8]) -> Written
 {
     copy(values, work);
     transform(n, work);
-    if !all_full(work, boolean::power_of_two(n) as u32) {
+    if !all_full(work, boolean::power_of_two(n - 1) as u32) {
         return Written::Declined(Refusal::NoFunction);
     }
     write_signs(work, table);
     Written::Done
 }
 
-// The truth table of a spectrum, or the refusal where no function has the values. Values outside −2^n to 2^n are refused before
-// any are added.
+// The truth table of a spectrum, or the refusal where no function has the values. Values outside −2^(n−1) to 2^(n−1) are refused
+// before any are added.
 pub fn inverse_spectrum(n: u32, values: &[i32], table: &mut [u8]) -> Written
     ensures reply { λ r. ⌜ written r ≡ replyAfter (first (inverseChecks n (now (values .entry)) (length (now (table .entry))))) [] ⌝ }
     ensures content { λ r. ⌜ now (table .exit) ≡ contentAfter (first (inverseChecks n (now (values .entry)) (length (now (table .entry))))) (listBelow (2 ^ n) (λ x. inverse n (valueAt (now (values .entry))) x)) (now (table .entry)) ⌝ }
@@ -305,7 +303,7 @@ pub fn inverse_spectrum(n: u32, values: &[i32], table: &mut [u8]) -> Written
     if let Checked::Refused(e) = check_lengths(n, values.len(), table.len()) {
         return Written::Declined(e);
     }
-    if !all_within(values, boolean::power_of_two(n) as u32) {
+    if !all_within(values, boolean::power_of_two(n - 1) as u32) {
         return Written::Declined(Refusal::NoFunction);
     }
     let mut work = [0i32; 256];

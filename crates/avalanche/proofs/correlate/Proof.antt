@@ -1,4 +1,4 @@
--- `avalanche::correlate` meets its contract: the spectrum, its squares, and their transform. Assumes nothing.
+-- `avalanche::correlate` meets its contract: the spectrum, the squares of its doubles, and their transform. Assumes nothing.
 use mathlib.Core.Path.{_≡_, sym, ap, _∙_, subst}
 use mathlib.Core.List.{List}
 use Prim.Native.Nat.{ℕ}
@@ -35,7 +35,7 @@ square-all-requires c κs =
     let done = c .before .before in
     let start = done .before .before .before .before in
     let a = start .args in
-    spectrum-small (a .n) (a .rows .now) (a .c) (start .pre .0 .box .n-high) (spectrum-is done)
+    spectrum-small (a .n) (a .rows .now) (a .c) (start .pre .0 .box .n-low) (start .pre .0 .box .n-high) (spectrum-is done)
 
 transform-requires : tie.Need-transform-requires
 transform-requires c κs =
@@ -43,7 +43,7 @@ transform-requires c κs =
     let done = squared .before .before .before in
     let start = done .before .before .before .before in
     let a = start .args in
-    squares-summable (a .n) (a .rows .now) (a .c) (start .pre .0 .box .n-high) (spectrum-is done) (squared .square-all .ensures)
+    squares-summable (a .n) (a .rows .now) (a .c) (start .pre .0 .box .n-low) (start .pre .0 .box .n-high) (spectrum-is done) (squared .square-all .ensures)
 
 same-length : tie.Need-same-length
 same-length c = search needs
@@ -55,7 +55,7 @@ returns c =
     let start = done .before .before .before .before in
     let a = start .args in
     c .before .transform .ensures
-    ∙ squares-correlate (a .n) (a .rows .now) (a .c) (start .pre .0 .box .n-high) (spectrum-is done) (squared .square-all .ensures)
+    ∙ squares-correlate (a .n) (a .rows .now) (a .c) (start .pre .0 .box .n-low) (start .pre .0 .box .n-high) (spectrum-is done) (squared .square-all .ensures)
 
 pub correlate-spec : {M : Type 1} → statement M
 correlate-spec =

@@ -1,19 +1,22 @@
--- `avalanche::square_all` meets its contract: each turn replaces one value by its square. Assumes nothing.
+-- `avalanche::square_all` meets its contract: each turn replaces one value by the square of its double. Assumes nothing.
 use mathlib.Core.Path.{_≡_, ap, _∙_}
 use Prim.Native.Nat.{ℕ, _-_, _≤_}
 use native.Mathlib.Nat.{le-refl, le-trans, le-of-eq}
 use native.Mathlib.Omega.{arith}
-use lib.IntN.{ℤ, pos, _*ℤ_, natAbs}
+use lib.IntN.{ℤ, pos, _+ℤ_, natAbs}
 use lib.ListN.{length}
-use Rattle.boolean.specs.Functions.{valueAt}
+use Rattle.boolean.specs.Functions.{valueAt, square}
 use Rattle.boolean.proofs.Replaced.{Replaced, replaced-none, replaced-more, replaced-whole}
+use Rattle.boolean.proofs.Sizes.{abs-twice}
+use Rattle.boolean.proofs.Spectrum.{square-is}
+use Rattle.boolean.proofs.Words.{word, word-is, sum-fits}
 use Rattle.boolean.proofs.Products.{product-fits, product-stored}
 use borrow.Author.Needs.{needs}
 use Rattle.avalanche.proofs.square_all.Statement.{statement}
 use Rattle.avalanche.proofs.square_all.Tie as tie
 
 abbrev squared : ℕ → ℤ → ℤ
-squared k v = v *ℤ v
+squared k v = pos (square (v +ℤ v))
 
 abbrev Inv-loop : tie.InvT-loop
 Inv-loop values₀ k₀ values k = Replaced (pos 0) squared values₀ k values
@@ -39,14 +42,27 @@ kept : (c : tie.After-value Inv-loop μ-loop) →
     read c ≡ valueAt (at-loop .before .args .values .now) (at-loop .loop .k)
 kept c = let at-loop = c .before .before in at-loop .loop .inv .rest (at-loop .loop .k) (le-refl _)
 
-small : (c : tie.After-value Inv-loop μ-loop) → natAbs (read c) ≤ 256
+small : (c : tie.After-value Inv-loop μ-loop) → natAbs (read c) ≤ 128
 small c = let at-loop = c .before .before in le-trans (le-of-eq (ap natAbs (kept c))) (at-loop .before .pre (at-loop .loop .k))
 
-mul-values : tie.Need-mul-values Inv-loop μ-loop
-mul-values c = product-fits (read c) (small c)
+add-double : tie.Need-add-double Inv-loop μ-loop
+add-double c = sum-fits (read c) (read c) (omega (arith, small c)) (omega (arith, small c))
 
-mul-t4 : tie.Need-mul-t4 Inv-loop μ-loop
-mul-t4 c = search needs
+-- its double
+abbrev double : tie.After-value Inv-loop μ-loop → ℤ
+double c = word (read c) +ℤ word (read c)
+
+double-is : (c : tie.After-value Inv-loop μ-loop) → double c ≡ read c +ℤ read c
+double-is c = ap (λ (z : ℤ). z +ℤ z) (word-is (read c) (omega (arith, small c)))
+
+double-small : (c : tie.After-value Inv-loop μ-loop) → natAbs (double c) ≤ 256
+double-small c = omega (arith, ap natAbs (double-is c), abs-twice (read c), small c)
+
+mul-values : tie.Need-mul-values Inv-loop μ-loop
+mul-values c = product-fits (double c) (double-small c)
+
+mul-t5 : tie.Need-mul-t5 Inv-loop μ-loop
+mul-t5 c = search needs
 
 slice-set-from-values : tie.Need-slice-set-from-values Inv-loop μ-loop
 slice-set-from-values c = search needs
@@ -61,7 +77,7 @@ loop-again : tie.Need-loop-again Inv-loop μ-loop
 loop-again c =
     let at-loop = c .before .before in
     replaced-more (pos 0) squared (at-loop .before .args .values .now) (at-loop .loop .k) (at-loop .loop .values) (at-loop .loop .inv)
-    (omega (arith, c .before .loop-test .taken, at-loop .loop .inv .long)) _ (product-stored (read c) (small c) ∙ ap (squared 0) (kept c))
+    (omega (arith, c .before .loop-test .taken, at-loop .loop .inv .long)) _ (product-stored (double c) (double-small c) ∙ square-is (double c) ∙ ap (λ (z : ℤ). pos (square z)) (double-is c) ∙ ap (squared 0) (kept c))
 
 same-length : tie.Need-same-length Inv-loop μ-loop
 same-length c = c .before .loop .inv .long
@@ -80,8 +96,9 @@ square-all-spec =
     loop-holds
     mul-value
     slice-copy-out-value
+    add-double
     mul-values
-    mul-t4
+    mul-t5
     slice-set-from-values
     add-k
     loop-less

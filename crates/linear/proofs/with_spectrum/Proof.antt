@@ -20,7 +20,7 @@ cast-count c = search needs
 sub-count : tie.Need-sub-count
 sub-count c =
     let a = c .before .before .args in
-    let h = largest-le (a .n) (a .rows .now) (a .c) (c .before .before .pre .1) (c .largest-magnitude .ensures) in
+    let h = largest-le (a .n) (a .rows .now) (a .c) (c .before .before .pre .1) (c .before .before .pre .0 .n-low) (c .largest-magnitude .ensures) in
     omega (arith, c .before .before .pre .0 .size)
 
 is-preferred-requires : tie.Need-is-preferred-requires
@@ -54,8 +54,8 @@ returns c =
     let counted = placed .before .before .before in
     let start = counted .before .before in
     let a = start .args in
-    taken (a .n) (a .rows .now) (a .c) (start .pre .1) (counted .largest-magnitude .ensures)
-    (ap (λ (k : ℕ). (k - counted .largest-magnitude .result) / 2) (start .pre .0 .size))
+    taken (a .n) (a .rows .now) (a .c) (start .pre .1) (start .pre .0 .n-low) (counted .largest-magnitude .ensures)
+    (ap (λ (k : ℕ). k / 2 - counted .largest-magnitude .result) (start .pre .0 .size))
     (candidate (a .found)) (sym (placed .before .before .is-preferred .ensures) ∙ placed .before .if1 .taken) (placed .first-place .ensures)
     (c .sign-bit .ensures ∙ ap signBit (word-told (valueAt (a .values .now) (placed .first-place .result)) (c .before .sign-bit-arg .given)))
 
@@ -64,8 +64,8 @@ returns-2 c =
     let counted = c .before .before in
     let start = counted .before .before in
     let a = start .args in
-    kept (a .n) (a .rows .now) (a .c) (start .pre .1) (counted .largest-magnitude .ensures)
-    (ap (λ (k : ℕ). (k - counted .largest-magnitude .result) / 2) (start .pre .0 .size)) (candidate (a .found)) (sym (c .before .is-preferred .ensures) ∙ c .if1 .left)
+    kept (a .n) (a .rows .now) (a .c) (start .pre .1) (start .pre .0 .n-low) (counted .largest-magnitude .ensures)
+    (ap (λ (k : ℕ). k / 2 - counted .largest-magnitude .result) (start .pre .0 .size)) (candidate (a .found)) (sym (c .before .is-preferred .ensures) ∙ c .if1 .left)
 
 pub with-spectrum-spec : {M : Type 1} → statement M
 with-spectrum-spec =

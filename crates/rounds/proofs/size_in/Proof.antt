@@ -1,5 +1,7 @@
--- `rounds::size_in` meets its contract: the call is accepted and leaves the spectrum, whose largest magnitude is the peak. Assumes nothing.
+-- `rounds::size_in` meets its contract: the call is accepted and leaves the spectrum, whose largest magnitude, doubled, is the peak. Assumes nothing.
 use mathlib.Core.Path.{_≡_}
+use Prim.Native.Nat.{_*_, _≤_}
+use native.Mathlib.Omega.{arith}
 use Rattle.boolean.specs.Functions.{spectrum, component}
 use Rattle.rounds.proofs.Tops.{spectrum-written, largest-is, largest-small}
 use borrow.Author.Needs.{needs}
@@ -19,6 +21,16 @@ written c =
 largest-requires : tie.Need-largest-requires
 largest-requires c κs = search needs
 
+-- twice the largest magnitude is small
+small : (c : tie.After-largest) → 2 * c .largest .result ≤ 256
+small c =
+    let start = c .before .before .before .before .before .before in
+    let a = start .args in
+    largest-small (a .n) (a .m) (a .rows .now) (a .c) (start .pre .0 .n-low) (written (c .before .before .before)) (start .pre .0 .n-high) (c .largest .ensures)
+
+mul-result : tie.Need-mul-result
+mul-result c = omega (arith, small c)
+
 same-length : tie.Need-same-length
 same-length c = search needs
 
@@ -26,9 +38,8 @@ returns : tie.Need-returns
 returns c =
     let start = c .before .before .before .before .before .before in
     let a = start .args in
-    let w = written (c .before .before .before) in
-    (largest-is (a .n) (a .m) (a .rows .now) (a .c) w (c .largest .ensures), largest-small (a .n) (a .m) (a .rows .now) (a .c) w (start .pre .0 .n-high) (c .largest .ensures))
+    (largest-is (a .n) (a .m) (a .rows .now) (a .c) (start .pre .0 .n-low) (written (c .before .before .before)) (c .largest .ensures), small c)
 
 pub size-in-spec : {M : Type 1} → statement M
 size-in-spec =
-    tie.close (tie.spec spectrum-of-component-requires largest-requires same-length returns)
+    tie.close (tie.spec spectrum-of-component-requires largest-requires mul-result same-length returns)

@@ -24,7 +24,7 @@ highest-requires c κs =
     let a = c .before .before .before .before .before .args in
     let b = c .before .before .before .before .before .pre .0 in
     let few : 2 ^ a .n ≤ 256 = pow-mono (b .n-high) in
-    let size = values-length (a .n) (a .m) (a .rows .now) (a .c) (written (c .before .before)) in
+    let size = values-length (a .n) (a .m) (a .rows .now) (a .c) (b .n-low) (written (c .before .before)) in
     (omega (arith, size, pow-pos (a .n)), omega (arith, size))
 
 same-length : tie.Need-same-length
@@ -34,7 +34,7 @@ returns : tie.Need-returns
 returns c =
     let start = c .before .before .before .before .before .before in
     let a = start .args in
-    top-of (a .n) (a .m) (a .rows .now) (a .c) (written (c .before .before .before)) (c .highest .ensures)
+    top-of (a .n) (a .m) (a .rows .now) (a .c) (start .pre .0 .n-low) (written (c .before .before .before)) (c .highest .ensures)
 
 pub top-in-spec : {M : Type 1} → statement M
 top-in-spec =

@@ -1,22 +1,25 @@
--- `walsh::by_definition` meets its contract: each value is its definition's sum. Assumes nothing.
-use mathlib.Core.Path.{_≡_, sym, ap, _∙_}
-use Prim.Native.Nat.{ℕ, _-_, _≤_, _^_}
+-- `walsh::by_definition` meets its contract: each value is its definition's count, less half of all inputs. Assumes nothing.
+use mathlib.Core.Path.{_≡_, sym, ap₂, _∙_}
+use Prim.Native.Nat.{ℕ, _-_, _/_, _≤_, _^_}
 use native.Mathlib.Nat.{le-trans, le-of-eq}
 use native.Mathlib.Omega.{arith}
 use borrow.Author.Needs.{needs}
 use mathlib.Core.List.{List}
 use lib.ListN.{length}
-use lib.IntN.{pos}
+use lib.Dec.{eqb}
+use lib.IntN.{pos, _-ℤ_}
 use lib.Pow.{pow-mono}
-use Rattle.boolean.specs.Functions.{at, walsh, spectrum}
+use Rattle.boolean.specs.Bits.{dot}
+use Rattle.boolean.specs.Sums.{countBelow}
+use Rattle.boolean.specs.Functions.{at, approximation, spectrum}
 use Rattle.boolean.proofs.Filled.{Filled, filled-none, filled-more, filled-whole}
+use Rattle.boolean.proofs.Approximations.{half-power}
 use Rattle.boolean.proofs.Words.{word-told}
-use Rattle.walsh.proofs.Sum.{partial}
 use Rattle.walsh.proofs.by_definition.Statement.{statement}
 use Rattle.walsh.proofs.by_definition.Tie as tie
 
 abbrev Inv-loop : tie.InvT-loop
-Inv-loop n table out₀ size w₀ out w = (size ≡ 2 ^ n) × Filled (pos 0) (λ v. walsh n (at table) v) (2 ^ n) w out
+Inv-loop n table out₀ size w₀ out w = (size ≡ 2 ^ n) × Filled (pos 0) (λ v. approximation n (at table) v) (2 ^ n) w out
 
 abbrev μ-loop : tie.MeasureT-loop
 μ-loop n table out₀ size w₀ out w = size - w
@@ -24,10 +27,13 @@ abbrev μ-loop : tie.MeasureT-loop
 few : (c : tie.Start Inv-loop μ-loop) → length (c .args .table .now) ≤ 256
 few c = le-trans (le-of-eq (c .pre .read .size)) (pow-mono {j = 8} (c .pre .read .n-high))
 
--- the definition's sum, over as many inputs as the table has
-by-size : (n : ℕ) (table : List ℕ) (w : ℕ) → length table ≡ 2 ^ n → partial table w (length table) ≡ walsh n (at table) w
-unfolding walsh
-by-size n table w e = ap (partial table w) e
+-- the definition, with as many inputs as the table has
+by-size : (n : ℕ) (table : List ℕ) (w : ℕ) → 1 ≤ n → length table ≡ 2 ^ n
+    → pos (countBelow (length table) (λ x. eqb (at table x) (dot w x))) -ℤ pos (length table / 2) ≡ approximation n (at table) w
+unfolding approximation
+by-size n table w low e =
+    let half : length table / 2 ≡ 2 ^ (n - 1) = omega (arith, half-power n low) in
+    ap₂ (λ (k h : ℕ). pos (countBelow k (λ x. eqb (at table x) (dot w x))) -ℤ pos h) e half
 
 cast-size : tie.Need-cast-size Inv-loop μ-loop
 cast-size c = omega (arith, few (c .before))
@@ -61,9 +67,9 @@ loop-again c =
     let w = at-loop .loop .w in
     let size = start .pre .read .size in (
       size,
-      filled-more (pos 0) (λ v. walsh (start .args .n) (at table) v) (2 ^ start .args .n) w (at-loop .loop .out) (at-loop .loop .inv .1)
+      filled-more (pos 0) (λ v. approximation (start .args .n) (at table) v) (2 ^ start .args .n) w (at-loop .loop .out) (at-loop .loop .inv .1)
           (omega (arith, c .before .loop-test .taken, size)) _
-          (word-told (c .value .result) (c .value .ok) ∙ c .value .ensures ∙ by-size (start .args .n) table w size),
+          (word-told (c .value .result) (c .value .ok) ∙ c .value .ensures ∙ by-size (start .args .n) table w (start .pre .read .n-low) size),
     )
 
 same-length : tie.Need-same-length Inv-loop μ-loop

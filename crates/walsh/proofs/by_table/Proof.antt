@@ -5,7 +5,7 @@ use Prim.Native.Nat.{_+_, _*_}
 use native.Mathlib.Nat.{le-refl, add-zero}
 use native.Mathlib.Omega.{arith}
 use lib.IntN.{ℤ, pos}
-use Rattle.boolean.specs.Functions.{at, walsh, spectrum}
+use Rattle.boolean.specs.Functions.{at, approximation, spectrum}
 use Rattle.boolean.proofs.Filled.{Filled, filled-none, filled-whole}
 use Rattle.walsh.proofs.Numbers.{four-more}
 use borrow.Author.Needs.{needs}
@@ -43,9 +43,9 @@ returns c =
     let told = numbered .number .ensures in
     let more = four-more fixed f t (start .pre .1) (told .0) (told .1) in
     let four = more (t * 8) 0 (start .args .out .now) (sym (add-zero (t * 8))) (omega arith) (filled-none (pos 0) _ 8 (start .args .out .now) (start .pre .0 .room)) in
-    let four-there = subst (λ (l : List ℤ). Filled (pos 0) (λ v. walsh 3 f v) 8 4 l) (sym (first .copy-four .ensures)) four in
+    let four-there = subst (λ (l : List ℤ). Filled (pos 0) (λ v. approximation 3 f v) 8 4 l) (sym (first .copy-four .ensures)) four in
     let eight = more (t * 8 + 4) 4 (first .copy-four .last .1 .1 .0) refl (omega arith) four-there in
-    second .copy-four2 .ensures ∙ filled-whole (pos 0) (λ v. walsh 3 f v) 8 8 _ eight (le-refl 8)
+    second .copy-four2 .ensures ∙ filled-whole (pos 0) (λ v. approximation 3 f v) 8 8 _ eight (le-refl 8)
 
 pub by-table-spec : {M : Type 1} → statement M
 by-table-spec =

@@ -1,11 +1,9 @@
 -- `walsh::inverse_spectrum` meets its contract: the width and the lengths, the size of the values, then the transform. Assumes nothing.
 use mathlib.Core.List.{[]}
 use mathlib.Core.Path.{_≡_, sym, ap, _∙_}
-use Prim.Native.Nat.{_^_}
-use native.Mathlib.Nat.{le-trans}
+use Prim.Native.Nat.{_-_, _^_}
 use native.Mathlib.Omega.{arith}
 use borrow.Author.Needs.{needs}
-use lib.Dec.{lit≤}
 use lib.ListN.{length}
 use lib.Pow.{pow-mono}
 use lib.Seq.{length-take-le}
@@ -16,7 +14,7 @@ use Rattle.refusals.specs.declared.Checked.{Checked}
 use Rattle.refusals.specs.declared.Checked.the-variants.{Accepted}
 use Rattle.refusals.proofs.Checks.{fails, holds, first-refused, reply-refused, content-refused}
 use Rattle.walsh.specs.Calls.{inverseLengths, functionCheck, inverseChecks}
-use Rattle.walsh.proofs.Inverting.{no-function-found, outside, inverse-few, inverse-size, inverse-short, inverse-decided, invertible}
+use Rattle.walsh.proofs.Inverting.{no-function-found, outside, inverse-low, inverse-few, inverse-size, inverse-short, inverse-decided, invertible}
 use Rattle.walsh.proofs.inverse_spectrum.Statement.{statement}
 use Rattle.walsh.proofs.inverse_spectrum.Tie as tie
 
@@ -44,16 +42,21 @@ lengths : (c : tie.After-enum-told) →
     first (inverseLengths (a .n) (length (a .values .now)) (length (a .table .now))) ≡ Accepted
 lengths c = sym (c .before .before .check-lengths .ensures) ∙ c .enum-told .given .1
 
+sub-power-of-two : tie.Need-sub-power-of-two
+sub-power-of-two c =
+    let a = c .before .before .before .before .args in
+    inverse-low (a .n) (a .values .now) (a .table .now) (lengths c)
+
 power-of-two-requires : tie.Need-power-of-two-requires
 power-of-two-requires c κs =
     let a = c .before .before .before .before .args in
-    le-trans (inverse-few (a .n) (a .values .now) (a .table .now) (lengths c)) (lit≤ tt)
+    omega (arith, inverse-few (a .n) (a .values .now) (a .table .now) (lengths c))
 
 cast-all-within : tie.Need-cast-all-within
 cast-all-within c =
     let told = c .before in
     let a = told .before .before .before .before .args in
-    omega (arith, c .power-of-two .ensures .0, pow-mono {i = a .n} {j = 8} (inverse-few (a .n) (a .values .now) (a .table .now) (lengths told)))
+    omega (arith, c .power-of-two .ensures .0, pow-mono {i = a .n - 1} {j = 8} (omega (arith, inverse-few (a .n) (a .values .now) (a .table .now) (lengths told))))
 
 all-within-requires : tie.Need-all-within-requires
 all-within-requires c κs = search needs
@@ -65,7 +68,7 @@ returns-2 c =
     let a = told .before .before .before .before .args in
     let h = inverse-decided (a .n) (a .values .now) (a .table .now) (lengths told)
     ∙ no-function-found (a .n) (a .values .now)
-    (outside (a .n) (a .values .now) (inverse-size (a .n) (a .values .now) (a .table .now) (lengths told)) (power .power-of-two .result) (power .power-of-two .ensures .0)
+    (outside (a .n) (a .values .now) (inverse-low (a .n) (a .values .now) (a .table .now) (lengths told)) (inverse-size (a .n) (a .values .now) (a .table .now) (lengths told)) (power .power-of-two .result) (power .power-of-two .ensures .0)
     (fails (c .before .all-within .ensures) (c .if1 .taken))) in
     (reply-refused h [], content-refused h _ _)
 
@@ -109,6 +112,7 @@ inverse-spectrum-spec =
     enum-known-e
     returns
     enum-told
+    sub-power-of-two
     power-of-two-requires
     cast-all-within
     all-within-requires

@@ -1,7 +1,7 @@
 -- `walsh::invert` meets its contract: the transform decides whether a function has the values, and its signs are the function. Assumes nothing.
 use mathlib.Core.List.{List, []}
 use mathlib.Core.Path.{_≡_, sym, ap, _∙_, subst}
-use Prim.Native.Nat.{_^_}
+use Prim.Native.Nat.{_-_, _^_}
 use native.Mathlib.Omega.{arith}
 use borrow.Author.Needs.{needs}
 use lib.Dec.{eqb}
@@ -34,13 +34,16 @@ is-transformed c =
     let n = copied .before .before .before .args .n in
     c .transform .ensures ∙ ap (λ (l : List ℤ). listBelow (2 ^ n) (λ x. transform n (valueAt l) x)) (copied .copy .ensures)
 
+sub-power-of-two : tie.Need-sub-power-of-two
+sub-power-of-two c = search needs
+
 power-of-two-requires : tie.Need-power-of-two-requires
 power-of-two-requires c κs = search needs
 
 cast-all-full : tie.Need-cast-all-full
 cast-all-full c =
     let s = c .before .before .before .before .before .before .before .before .before in
-    omega (arith, c .power-of-two .ensures .0, pow-mono {i = s .args .n} {j = 8} (s .pre .few))
+    omega (arith, c .power-of-two .ensures .0, pow-mono {i = s .args .n - 1} {j = 8} (omega (arith, s .pre .few)))
 
 all-full-requires : tie.Need-all-full-requires
 all-full-requires c κs = search needs
@@ -54,7 +57,7 @@ decided c =
     let after = c .before .before .before .before in
     let s = after .before .before .before .before .before .before in
     c .all-full .ensures ∙ ap (every (λ v. eqb (natAbs v) (power .result))) (is-transformed after)
-    ∙ full-test (s .args .n) (s .args .values .now) (s .pre .size) (power .result) (power .ensures .0)
+    ∙ full-test (s .args .n) (s .args .values .now) (s .pre .low) (s .pre .size) (power .result) (power .ensures .0)
 
 same-length : tie.Need-same-length
 same-length c = search needs
@@ -85,7 +88,7 @@ returns-2 c =
       reply-accepted h [],
       (
         signs .write-signs .ensures ∙ ap (λ (l : List ℤ). listBelow (length l) (λ x. signBit (valueAt l x))) (is-transformed after)
-            ∙ signs-are (s .args .n) (s .args .values .now) (s .pre .size) ∙ content-accepted h _ _,
+            ∙ signs-are (s .args .n) (s .args .values .now) (s .pre .low) (s .pre .size) ∙ content-accepted h _ _,
         is-transformed after,
       ),
     )
@@ -96,6 +99,7 @@ invert-spec =
     (tie.spec
     copy-requires
     transform-requires
+    sub-power-of-two
     power-of-two-requires
     cast-all-full
     all-full-requires
