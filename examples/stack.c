@@ -48,6 +48,7 @@ static uint32_t fetch_record(void) { return satmegwo_fetch_record(catalogue, 655
 static uint32_t remove_record(void) { return satmegwo_remove_record(catalogue, 65535, 0); }
 static uint32_t compact_catalogue(void) { return satmegwo_compact_catalogue(catalogue, 65535); }
 static uint32_t pack_columns(void) { return satmegwo_pack_columns(8, 32, rows, 256, packed, 1024); }
+static uint32_t raising_swap(void) { return satmegwo_raising_swap(8, 8, square_rows, 256, figures, 4); }
 static uint32_t unpack_columns(void) { return satmegwo_unpack_columns(8, 32, packed, 1024, out_rows, 256); }
 
 static const struct { const char *name; uint32_t (*call)(void); } calls[] = {
@@ -60,6 +61,7 @@ static const struct { const char *name; uint32_t (*call)(void); } calls[] = {
     {"check_catalogue", check_catalogue}, {"fetch_record", fetch_record}, {"remove_record", remove_record},
     {"compact_catalogue", compact_catalogue},
     {"pack_columns", pack_columns}, {"unpack_columns", unpack_columns},
+    {"raising_swap", raising_swap},
 };
 
 static uint32_t (*current)(void);

@@ -26,7 +26,8 @@
  *
  *    1  n is not 1 to 8 (in the two enlargements not 1 to 7, in the bent form not 2, 4,
  *       6 or 8)
- *    2  m is not 1 to 32 (for a row of the XOR table not 1 to 16)
+ *    2  m is not 1 to 32 (for a row of the XOR table not 1 to 16, for the raising swap not
+ *       1 to 8)
  *    3  an array that is read has not 2^n elements (in the bent form: 2^(n/2); packed
  *       columns have their own length)
  *    4  a row is not below 2^m, or a truth value is above 1
@@ -328,6 +329,19 @@ uint32_t satmegwo_pack_columns(uint32_t n, uint32_t m, const uint32_t *rows, siz
  *   rows    written, 2^n elements
  * Refusals: 1, 2, 3 (the packed array has another length), 16, 7. */
 uint32_t satmegwo_unpack_columns(uint32_t n, uint32_t m, const uint8_t *packed, size_t packed_len, uint32_t *rows, size_t rows_len);
+
+/* ---- Improving a box ----------------------------------------------------- */
+
+/* The smallest swap of two unlike rows that raises the nonlinearity over all combinations.
+ * Swaps are ordered by how many bits the two rows differ in, then by the lower input, then by
+ * the higher; the first whose box has a higher nonlinearity is given. "None" is said exactly
+ * when no swap of two unlike rows raises it. The rows stay; the caller swaps them.
+ *   m        1 to 8
+ *   rows     read, 2^n elements below 2^m
+ *   figures  written, 4 elements: 1, the lower input, the higher input, the new figure;
+ *            or for "none" 0, 0, 0, 0
+ * Refusals: 1, 2, 3, 4, 7. */
+uint32_t satmegwo_raising_swap(uint32_t n, uint32_t m, const uint32_t *rows, size_t rows_len, uint32_t *figures, size_t figures_len);
 
 #ifdef __cplusplus
 }

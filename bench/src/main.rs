@@ -5,11 +5,8 @@
 //! Each figure is measured on random boxes of 6 by 4, 8 by 8, 8 by 16 and 8 by 32, with the
 //! sheet's limit on combinations, and the list of cells and the degree on a few boxes that are
 //! chosen for them, the degree there beside the library's own nonlinearity too; so is the sum
-//! of four boxes.
-//! chosen for them, the degree there beside the library's own nonlinearity too. Then the calls on
-//! a catalogue.
-//! chosen for them, the degree there beside the library's own nonlinearity too; then packing
-//! and unpacking on random boxes of a few sizes.
+//! of four boxes. Then the calls on a catalogue, packing and unpacking on random boxes of a few
+//! sizes, and the raising swap of a few boxes.
 //! Both programs take turns, several rounds each, and the least time of all rounds is shown:
 //! what disturbs a measurement only ever makes it longer. With --anchor the C program FILE.c,
 //! which measures the nonlinearity of an 8 by 16 box and prints its time as `... T s`, is
@@ -21,6 +18,7 @@ mod catalogues;
 #[path = "../../tests/src/library.rs"]
 mod library;
 mod packing;
+mod swaps;
 mod table;
 
 use calls::{library_nonlinearity, library_nonlinearity_of_one, DEGREE, LIST, MEASURES, SUM};
@@ -82,6 +80,7 @@ fn run(seed: u64, anchor: Option<&str>) -> Result<(), String> {
     sums_of_boxes(&mut table, &mut random)?;
     catalogues::measure(&table, &mut random)?;
     packing::measure(&table, &mut random)?;
+    swaps::measure(&mut table, &mut random)?;
     if let Some(source) = anchor {
         let library = table.library("8x16", "nonlinearity");
         table.line("8x16", "nonlinearity, second is the C anchor", library, anchor::time(source)?);

@@ -5,6 +5,7 @@ use crate::damage;
 use crate::library;
 use crate::sums;
 use crate::packed;
+use crate::raised;
 use second_model::boxes::{self, KINDS};
 use second_model::combinations::quick_limit;
 use second_model::model::{self, all_outputs};
@@ -24,7 +25,8 @@ pub fn run(seed: u64, count: u64) -> bool {
     let damaged = |run: &mut Run| damage::all(run, count);
     let sums_of_boxes = |run: &mut Run| sums::all(run, count);
     let packing = |run: &mut Run| packed::all(run, count);
-    let parts: [(&str, Part); 7] = [
+    let swaps = |run: &mut Run| raised::all(run, count);
+    let parts: [(&str, Part); 8] = [
         ("bounds", &bounds::all),
         ("boxes of all widths", &boxes_of_all_widths),
         ("truth tables", &truth_tables),
@@ -32,6 +34,7 @@ pub fn run(seed: u64, count: u64) -> bool {
         ("lists of column additions", &lists_of_additions),
         ("sums of boxes", &sums_of_boxes),
         ("packed columns", &packing),
+        ("raising swaps", &swaps),
     ];
     for (name, part) in parts {
         let before = run.comparisons;

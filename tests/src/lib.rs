@@ -15,3 +15,4 @@ pub mod published;
 pub mod random;
 pub mod rounds;
 pub mod sheet;
+pub mod swaps;

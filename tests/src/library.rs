@@ -39,6 +39,7 @@ mod raw {
         pub fn satmegwo_fetch_record(catalogue: *const u8, catalogue_len: usize, index: u32, figures: *mut u32, figures_len: usize) -> u32;
         pub fn satmegwo_compact_catalogue(catalogue: *mut u8, catalogue_len: usize) -> u32;
         pub fn satmegwo_pack_columns(n: u32, m: u32, rows: *const u32, rows_len: usize, packed: *mut u8, packed_len: usize) -> u32;
+        pub fn satmegwo_raising_swap(n: u32, m: u32, rows: *const u32, rows_len: usize, figures: *mut u32, figures_len: usize) -> u32;
         pub fn satmegwo_unpack_columns(n: u32, m: u32, packed: *const u8, packed_len: usize, rows: *mut u32, rows_len: usize) -> u32;
     }
 }
@@ -166,4 +167,8 @@ pub fn pack_columns(n: u32, m: u32, rows: &[u32], packed: &mut [u8]) -> u32 {
 
 pub fn unpack_columns(n: u32, m: u32, packed: &[u8], rows: &mut [u32]) -> u32 {
     unsafe { raw::satmegwo_unpack_columns(n, m, packed.as_ptr(), packed.len(), rows.as_mut_ptr(), rows.len()) }
+}
+
+pub fn raising_swap(n: u32, m: u32, rows: &[u32], figures: &mut [u32]) -> u32 {
+    unsafe { raw::satmegwo_raising_swap(n, m, rows.as_ptr(), rows.len(), figures.as_mut_ptr(), figures.len()) }
 }

@@ -8,6 +8,7 @@ mod histories;
 mod lent;
 mod library;
 mod packed;
+mod raised;
 mod sheets;
 mod sums;
 

@@ -19,13 +19,20 @@ use Rattle.boolean.proofs.Lists.{each-same}
 use Rattle.boolean.proofs.Selection.{firstLeast-le, firstLeast-mem, firstLeast-first, firstLeast-any-order, first-ranked}
 use Rattle.linear.specs.Nonlinearity.{pair, pairsOf, pairs, nonlinearity}
 use Rattle.linear.specs.Statements.{IsPair, Before, pairRank}
-use Rattle.linear.proofs.Pairs.{before-rank, first-pair, in-pairs, mem-pairs, ascending-pairs, pairs-nonempty}
+use Rattle.linear.proofs.Pairs.{before-rank, first-pair, in-pairsOf, mem-pairsOf, pairsOf-some, in-pairs, mem-pairs, ascending-pairs, pairs-nonempty}
 
 module _ (n m : ℕ) (rows : List ℕ) (i : ℕ) where
   -- every pair differs at d inputs or more
   pub least : (c w b : ℕ) → IsPair n m i c w b → nonlinearity n m rows i .figure ≤ distance n (component rows c) w b
   unfolding nonlinearity
   least c w b h = firstLeast-le (pairs n m rows i) (pair n rows c w b) (in-pairs n m rows i c w b h)
+
+  -- so does the nearest pair of each component
+  pub component-least : (c : ℕ) → Within i (2 ^ m) c → nonlinearity n m rows i .figure ≤ firstLeast (pairsOf n rows c) .figure
+  component-least c mask =
+      let t = pairsOf-some n rows c in
+      let k = mem-pairsOf n rows c (firstLeast (pairsOf n rows c)) (subst (λ (l : List Candidate). List·Memᴰ (firstLeast l) l) (sym (t .2)) (firstLeast-mem (t .0) (t .1))) in
+      omega (arith, least c (k .0) (k .1) (record { mask = mask; w-high = k .2; b-high = k .3 }), ap (λ (p : Candidate). p .figure) (k .4))
 
   -- "Combinations may be visited in any order without effect on any answer." Over any list with the members of `pairs`, in any order and some of
   -- them more than once, the pair that differs at the fewest inputs, and of those the one of the lowest rank, is the nonlinearity with its witness.
@@ -48,6 +55,13 @@ module _ (n m : ℕ) (rows : List ℕ) (i : ℕ) where
     reached =
         let t = pairs-nonempty n m rows i m-low i-low in
         mem-pairs n m rows i (nonlinearity n m rows i) (subst (λ (l : List Candidate). List·Memᴰ (firstLeast l) l) (sym (t .2)) (firstLeast-mem (t .0) (t .1)))
+
+    -- so does the nearest pair of one component
+    pub component-reached : (c : ℕ) × Within i (2 ^ m) c × (firstLeast (pairsOf n rows c) .figure ≡ nonlinearity n m rows i .figure)
+    component-reached =
+        let t = reached in
+        let near = firstLeast-le (pairsOf n rows (t .0)) (pair n rows (t .0) (t .1) (t .2)) (in-pairsOf n rows (t .0) (t .1) (t .2) (t .3 .w-high) (t .3 .b-high)) in
+        (t .0, t .3 .mask, omega (arith, near, ap (λ (p : Candidate). p .figure) (t .4), component-least (t .0) (t .3 .mask)))
 
     -- and each pair before it at more
     pub first : (c w b : ℕ) → nonlinearity n m rows i ≡ pair n rows c w b

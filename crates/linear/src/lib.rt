@@ -116,6 +116,24 @@ fn largest_magnitude(values: &[i32]) -> u32
     largest
 }
 
+// The fewest inputs at which component c differs from an affine function, with the fixed table and two arrays to work in lent.
+pub fn component_count(
+    fixed: &[i32; 2048],
+    n: u32,
+    m: u32,
+    rows: &[u32],
+    c: u32,
+    table: &mut [u8],
+    values: &mut [i32],
+) -> u32
+    requires { ⌜ Swept n m (now rows) (now table) (now values) × Spectra (now fixed) ⌝ }
+    ensures { λ r. ⌜ r ≡ firstLeast (pairsOf n (now (rows .entry)) c) .figure ⌝ }
+{
+    component_spectrum(fixed, n, m, rows, c, table, values);
+    let largest = largest_magnitude(values);
+    rows.len() as u32 / 2 - largest
+}
+
 // The first place of a magnitude that some value has.
 fn first_place(values: &[i32], size: u32) -> usize
     requires { ⌜ Largest (now values) size ⌝ }

@@ -1,6 +1,6 @@
--- How many figures each call that sweeps over combinations gives. Assumes nothing.
+-- How many figures each call that sweeps over combinations or searches gives. Assumes nothing.
 use Prim.Native.Nat.{ℕ}
-use mathlib.Core.Path.{_≡_, ap, _∙_}
+use mathlib.Core.Path.{_≡_, refl, ap, _∙_}
 use mathlib.Core.List.{List, [], _∷_}
 use lib.ListN.{length}
 use Rattle.boolean.specs.Selection.{Candidate, shown}
@@ -15,6 +15,7 @@ use Rattle.avalanche.proofs.Distance.{distance-box, outputs-low, inputs-low}
 use Rattle.avalanche.proofs.Theorems.{autocorrelation-widest, distance-widest}
 use Rattle.algebraic.specs.Algebraic.{boxDegree}
 use Rattle.algebraic.proofs.Theorems.{degree-reported}
+use Rattle.swaps.specs.Swaps.{Swap, swaps, raises, firstOf, shownSwap, raised}
 
 module _ (n m : ℕ) (rows : List ℕ) (i : ℕ) (accepted : first (limitChecks n m rows i) ≡ Accepted) where
   pub pair-size : length (shown (nonlinearity n m rows i)) ≡ 4
@@ -38,3 +39,11 @@ pub distance-size : (n m : ℕ) (rows : List ℕ) (i j : ℕ) → first (distanc
 distance-size n m rows i j ok =
     ap (λ (p : Candidate). length (shown p))
     (distance-widest n m rows (distance-box n m rows i j ok) i j (outputs-low n m rows i j ok) (inputs-low n m rows i j ok) .reached)
+
+pub swap-size : (n m : ℕ) (rows : List ℕ) → length (raised n m rows) ≡ 4
+unfolding raised
+swap-size n m rows = four (firstOf (raises n m rows) (swaps n m rows))
+  where
+    four : (l : List Swap) → length (shownSwap n m rows l) ≡ 4
+    four [] = refl
+    four (s ∷ l) = refl

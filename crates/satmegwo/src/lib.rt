@@ -14,6 +14,7 @@ use refusals::Verdict;
 use refusals::Written;
 use rounds::LeastSum;
 use rounds::Widths;
+use swaps::RaisingSwap;
 ghost use mathlib.Core.Path.{_≡_};
 ghost use mathlib.Core.List.{[], _∷_, _++_};
 ghost use Prim.Native.Nat.{_^_};
@@ -35,6 +36,8 @@ ghost use Rattle.constructions.specs.Calls.{columnChecks, enlargeChecks, bentCh
 ghost use Rattle.boxfile.specs.File.{rowsOf};
 ghost use Rattle.rounds.specs.Round.{boxOf, boxes, sumReply};
 ghost use Rattle.rounds.specs.Calls.{leastSum};
+ghost use Rattle.swaps.specs.Swaps.{raisingReply};
+ghost use Rattle.swaps.specs.Calls.{raisingSwap};
 ghost use Rattle.satmegwo.specs.Exports.{status, lent, figuresAfter, cellsChecks, readBoxChecks, roomNumber, addRecordChecks};
 ghost use Rattle.catalogue.specs.Calls.{told, fetched, checkReply, fetchReply, catalogueChecks, indexChecks, gapFor, gapIndex, removed, added, compacted};
 ghost use Rattle.packing.specs.Packing.{packed as packedForm, unpacked, packChecks, unpackChecks};
@@ -142,6 +145,17 @@ fn give_place(answer: Fetched, figures: &mut [u32]) -> u32
     match answer {
         Fetched::Lies { offset, size } => give(&[offset, size], figures),
         Fetched::Unfetched(e) => refusals::number_of(e),
+    }
+}
+
+fn give_swap(answer: RaisingSwap, figures: &mut [u32]) -> u32
+    ensures number { λ r. ⌜ r ≡ status (lent (raisingSwap answer) (length (now (figures .entry)))) ⌝ }
+    ensures content { λ r. ⌜ now (figures .exit) ≡ figuresAfter (lent (raisingSwap answer) (length (now (figures .entry)))) (now (figures .entry)) ⌝ }
+{
+    match answer {
+        RaisingSwap::Raised { low, high, figure } => give(&[1u32, low, high, figure], figures),
+        RaisingSwap::NoSwap => give(&[0u32, 0u32, 0u32, 0u32], figures),
+        RaisingSwap::Declined(e) => refusals::number_of(e),
     }
 }
 
@@ -560,4 +574,17 @@ pub extern "C" fn satmegwo_unpack_columns(n: u32, m: u32, packed: &[u8], rows: &
     ensures content { λ r. ⌜ now (rows .exit) ≡ contentAfter (first (unpackChecks n m (now (packed .entry)) (length (now (rows .entry))))) (unpacked n m (now (packed .entry))) (now (rows .entry)) ⌝ }
 {
     status_of(packing::unpack(n, m, packed, rows))
+}
+
+// The first swap of two unlike rows that raises the nonlinearity over all combinations: 1, both inputs and the new figure, or four zeros for "none".
+#[no_mangle]
+pub extern "C" fn satmegwo_raising_swap(n: u32, m: u32, rows: &[u32], figures: &mut [u32]) -> u32
+    ensures number { λ r. ⌜ r ≡ status (lent (raisingReply n m (now (rows .entry))) (length (now (figures .entry)))) ⌝ }
+    ensures content { λ r. ⌜ now (figures .exit) ≡ figuresAfter (lent (raisingReply n m (now (rows .entry))) (length (now (figures .entry)))) (now (figures .entry)) ⌝ }
+{
+    let size = figures.len();
+    if size != 4 {
+        return number_for_room(refusals::check_box_up_to(8, n, m, rows));
+    }
+    give_swap(swaps::raising_swap(n, m, rows), figures)
 }

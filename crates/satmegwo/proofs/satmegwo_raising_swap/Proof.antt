@@ -1,0 +1,52 @@
+-- `satmegwo::satmegwo_raising_swap` meets its contract: that of the call, with its figures in the lent array, whose length is looked at before the search.
+-- Assumes nothing.
+use mathlib.Core.Path.{ap, _∙_}
+use Rattle.refusals.specs.Table.{first, boxChecksUpTo}
+use Rattle.swaps.specs.Swaps.{raised}
+use Rattle.satmegwo.specs.Exports.{roomNumber}
+use Rattle.satmegwo.proofs.Giving.{gives-same, room-first}
+use Rattle.satmegwo.proofs.Sizes.{swap-size}
+use borrow.Author.Needs.{needs}
+use Rattle.satmegwo.proofs.satmegwo_raising_swap.Statement.{statement}
+use Rattle.satmegwo.proofs.satmegwo_raising_swap.Tie as tie
+
+check-box-up-to-requires : tie.Need-check-box-up-to-requires
+check-box-up-to-requires c κs = search needs
+
+number-for-room-requires : tie.Need-number-for-room-requires
+number-for-room-requires c κs = search needs
+
+returns : tie.Need-returns
+returns c =
+    let else = c .before .before in
+    let a = else .before .before .before .args in
+    let found = first (boxChecksUpTo 8 (a .n) (a .m) (a .rows .now)) in
+    let told = room-first found (raised (a .n) (a .m) (a .rows .now)) (a .figures .now) (λ ok e. else .if1 .taken (e ∙ swap-size (a .n) (a .m) (a .rows .now))) in
+    (c .number-for-room .ensures ∙ ap roomNumber (c .before .check-box-up-to .ensures) ∙ told .0, told .1)
+
+raising-swap-requires : tie.Need-raising-swap-requires
+raising-swap-requires c κs = search needs
+
+give-swap-requires : tie.Need-give-swap-requires
+give-swap-requires c κs = search needs
+
+same-length : tie.Need-same-length
+same-length c = search needs
+
+returns-2 : tie.Need-returns-2
+returns-2 c =
+    let given = c .before .before in
+    let called = given .before .before in
+    gives-same (called .before .before .before .before .args .figures .now) (called .raising-swap .ensures) (given .give-swap .ensures)
+
+pub satmegwo-raising-swap-spec : {M : Type 1} → statement M
+satmegwo-raising-swap-spec =
+    tie.close
+    (tie.spec
+    check-box-up-to-requires
+    number-for-room-requires
+    returns
+    raising-swap-requires
+    give-swap-requires
+    same-length
+    returns-2)

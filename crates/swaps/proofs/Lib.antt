@@ -1,0 +1,9 @@
+pub mod Firsts
+pub mod Swapped
+pub mod Apart
+pub mod Trying
+pub mod Raising
+pub mod Searches
+pub mod Members
+pub mod Accepted
+pub mod Theorems

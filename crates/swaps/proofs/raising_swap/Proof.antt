@@ -1,0 +1,71 @@
+-- `swaps::raising_swap` meets its contract: what the checks found says which case it is, and of an accepted box the search has the rest. Assumes
+-- nothing.
+use mathlib.Core.Path.{_≡_, sym, ap, _∙_}
+use mathlib.Core.List.{[]}
+use lib.Dec.{lit≤}
+use Rattle.refusals.specs.Table.{Box, boxChecksUpTo, first}
+use Rattle.refusals.specs.declared.Checked.the-variants.{Accepted}
+use Rattle.refusals.proofs.Checks.{box-up-to, few-outputs, reply-refused, reply-accepted}
+use Rattle.linear.specs.Calls.{leastPair}
+use Rattle.swaps.proofs.Accepted.{pair-reached, never-declined}
+use borrow.Author.Needs.{needs}
+use Rattle.swaps.proofs.raising_swap.Statement.{statement}
+use Rattle.swaps.proofs.raising_swap.Tie as tie
+
+check-box-up-to-requires : tie.Need-check-box-up-to-requires
+check-box-up-to-requires c κs = search needs
+
+enum-known-e : tie.Need-enum-known-e
+enum-known-e c = search needs
+
+returns : tie.Need-returns
+returns c = reply-refused (sym (c .before .before .before .check-box-up-to .ensures) ∙ c .before .e .given .1) _
+
+enum-told : tie.Need-enum-told
+enum-told c = search needs
+
+-- accepted: the rows are a box
+accepted : (c : tie.After-enum-told) → let a = c .before .before .before .before .args in first (boxChecksUpTo 8 (a .n) (a .m) (a .rows .now)) ≡ Accepted
+accepted c = sym (c .before .before .check-box-up-to .ensures) ∙ c .enum-told .given .1
+
+boxed : (c : tie.After-enum-told) → let a = c .before .before .before .before .args in Box (a .n) (a .m) (a .rows .now)
+boxed c = let a = c .before .before .before .before .args in box-up-to 8 (a .n) (a .m) (a .rows .now) [] (lit≤ tt) (accepted c)
+
+nonlinearity-requires : tie.Need-nonlinearity-requires
+nonlinearity-requires c κs = search needs
+
+enum-known-present : tie.Need-enum-known-present
+enum-known-present c = search needs
+
+enum-told-2 : tie.Need-enum-told-2
+enum-told-2 c = search needs
+
+returns-2 : tie.Need-returns-2
+returns-2 c = never-declined (boxed (c .before .before .before)) (sym (ap leastPair (c .enum-told2 .given .1)) ∙ c .before .before .nonlinearity .ensures)
+
+search-box-requires : tie.Need-search-box-requires
+search-box-requires c κs =
+    let told = c .before .before .before .before in
+    let a = told .before .before .before .before .args in (
+      boxed told,
+      few-outputs 8 (a .n) (a .m) (a .rows .now) [] (accepted told),
+      pair-reached (boxed told) (sym (ap leastPair (c .before .present .given .1)) ∙ c .before .before .before .nonlinearity .ensures),
+    )
+
+returns-3 : tie.Need-returns-3
+returns-3 c = c .search-box .ensures ∙ reply-accepted (accepted (c .before .before .before .before .before)) _
+
+pub raising-swap-spec : {M : Type 1} → statement M
+raising-swap-spec =
+    tie.close
+    (tie.spec
+    check-box-up-to-requires
+    enum-known-e
+    returns
+    enum-told
+    nonlinearity-requires
+    enum-known-present
+    enum-told-2
+    returns-2
+    search-box-requires
+    returns-3)

@@ -1,0 +1,102 @@
+-- `swaps::reaching` meets its contract: the nearest pairs of the components before c differ at more inputs. Assumes nothing.
+use mathlib.Core.Path.{sym, _∙_}
+use Prim.Native.Nat.{_-_}
+use native.Mathlib.Omega.{arith}
+use borrow.Author.Needs.{needs}
+use lib.Pow.{pow-mono}
+use Rattle.swaps.proofs.Trying.{Reaching, again, reaching-starts, reaching-next, reaching-ends, reaches}
+use Rattle.swaps.proofs.reaching.Statement.{statement}
+use Rattle.swaps.proofs.reaching.Tie as tie
+
+abbrev Inv-loop : tie.InvT-loop
+Inv-loop fixed n m rows count hint bits₀ out₀ masks c₀ bits out c = Reaching n m rows count bits out c
+
+abbrev μ-loop : tie.MeasureT-loop
+μ-loop fixed n m rows count hint bits₀ out₀ masks c₀ bits out c = masks - c
+
+component-count-requires : tie.Need-component-count-requires Inv-loop μ-loop
+component-count-requires c κs = (c .before .before .before .before .pre .0, c .before .before .before .before .pre .1)
+
+same-length : tie.Need-same-length Inv-loop μ-loop
+same-length c = c .before .before .before .bits .given
+
+same-length-2 : tie.Need-same-length-2 Inv-loop μ-loop
+same-length-2 c = c .before .out .given
+
+returns : tie.Need-returns Inv-loop μ-loop
+returns c =
+    let hint = c .before .before .before .before .before .before .before .before .before .pre .2 in
+    reaches (hint .low) (hint .high) (c .before .before .before .before .component-count .ensures) (c .if1 .taken)
+
+power-of-two-requires : tie.Need-power-of-two-requires Inv-loop μ-loop
+power-of-two-requires c κs = c .before .before .before .before .before .before .before .before .before .pre .0 .box .m-high
+
+cast-masks : tie.Need-cast-masks Inv-loop μ-loop
+cast-masks c =
+    let most = pow-mono {j = 8} (c .before .before .before .before .before .before .before .before .before .before .pre .3) in
+    omega (arith, c .power-of-two .ensures .0)
+
+loop-holds : tie.Need-loop-holds Inv-loop μ-loop
+loop-holds c = reaching-starts (again (c .before .before .before .before .before .before .before .before .before .before .pre .0) (c .before .before .before .before .bits .given) (c .before .before .out .given))
+
+component-count-requires-2 : tie.Need-component-count-requires-2 Inv-loop μ-loop
+component-count-requires-2 c κs = (c .before .before .before .loop .inv .arrays, c .before .before .before .before .before .before .before .before .before .before .before .before .before .before .pre .1)
+
+same-length-3 : tie.Need-same-length-3 Inv-loop μ-loop
+same-length-3 c = c .before .before .before .bits2 .given ∙ c .before .before .before .before .before .before .before .before .loop .inv .arrays .table-size ∙ sym (c .before .before .before .before .before .before .before .before .before .before .before .before .before .before .before .before .before .before .before .pre .0 .table-size)
+
+same-length-4 : tie.Need-same-length-4 Inv-loop μ-loop
+same-length-4 c = c .before .out2 .given ∙ c .before .before .before .before .before .before .before .before .loop .inv .arrays .out-size ∙ sym (c .before .before .before .before .before .before .before .before .before .before .before .before .before .before .before .before .before .before .before .pre .0 .out-size)
+
+returns-2 : tie.Need-returns-2 Inv-loop μ-loop
+returns-2 c =
+    let i = c .before .before .before .before .before .before .before .before .loop .inv in
+    reaches (i .c-low)
+    (omega (arith, c .before .before .before .before .before .before .before .loop-test .taken, c .before .before .before .before .before .before .before .before .before .power-of-two .ensures .0))
+    (c .before .before .before .before .component-count2 .ensures) (c .if2 .taken)
+
+add-c : tie.Need-add-c Inv-loop μ-loop
+add-c c =
+    let most = pow-mono {j = 8} (c .before .before .before .before .before .before .before .before .before .before .before .before .before .before .before .before .before .before .before .pre .3) in
+    omega (arith, c .before .before .before .before .before .before .before .loop-test .taken, c .before .before .before .before .before .before .before .before .before .power-of-two .ensures .0)
+
+loop-less : tie.Need-loop-less Inv-loop μ-loop
+loop-less c = search needs
+
+loop-again : tie.Need-loop-again Inv-loop μ-loop
+loop-again c =
+    let i = c .before .before .before .before .before .before .before .before .loop .inv in
+    reaching-next i (again (i .arrays) (c .before .before .before .bits2 .given) (c .before .out2 .given)) (c .before .before .before .before .component-count2 .ensures) (c .if2 .left)
+
+same-length-5 : tie.Need-same-length-5 Inv-loop μ-loop
+same-length-5 c = c .before .loop .inv .arrays .table-size ∙ sym (c .before .before .before .before .before .before .before .before .before .before .before .before .pre .0 .table-size)
+
+same-length-6 : tie.Need-same-length-6 Inv-loop μ-loop
+same-length-6 c = c .before .loop .inv .arrays .out-size ∙ sym (c .before .before .before .before .before .before .before .before .before .before .before .before .pre .0 .out-size)
+
+returns-3 : tie.Need-returns-3 Inv-loop μ-loop
+returns-3 c = reaching-ends (c .before .loop .inv) (omega (arith, c .loop-test .left, c .before .before .power-of-two .ensures .0))
+
+pub reaching-spec : {M : Type 1} → statement M
+reaching-spec =
+    tie.close
+    (tie.spec
+    Inv-loop
+    μ-loop
+    component-count-requires
+    same-length
+    same-length-2
+    returns
+    power-of-two-requires
+    cast-masks
+    loop-holds
+    component-count-requires-2
+    same-length-3
+    same-length-4
+    returns-2
+    add-c
+    loop-less
+    loop-again
+    same-length-5
+    same-length-6
+    returns-3)
