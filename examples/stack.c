@@ -1,6 +1,7 @@
 /* How much stack the calls of the library need: each is run on a stack that was painted
  * before, and what is no longer painted was used. Prints the largest need in bytes, and
- * the call that has it; fails if it is above SATMEGWO_STACK, which the header states.
+ * the call that has it, for each library; fails if it is above SATMEGWO_STACK or
+ * SATMEGWO_DESIGN_STACK, which the headers state.
  *
  * No proof speaks of the machine's stack, so this is measured.
  */
@@ -11,9 +12,13 @@
 #include <string.h>
 #include <sys/mman.h>
 #include "satmegwo.h"
+#include "satmegwo_design.h"
 
 #define SIZE (1u << 20)
 #define PAINT 0xA5
+#define LENGTH(array) (sizeof(array) / sizeof((array)[0]))
+
+struct measured { const char *name; uint32_t (*call)(void); };
 
 static uint32_t rows[256], narrow_rows[256], square_rows[256], half_rows[128], out_rows[256], figures[4], sum_figures[7];
 static uint16_t counts[65536];
@@ -51,7 +56,7 @@ static uint32_t pack_columns(void) { return satmegwo_pack_columns(8, 32, rows, 2
 static uint32_t raising_swap(void) { return satmegwo_raising_swap(8, 8, square_rows, 256, figures, 4); }
 static uint32_t unpack_columns(void) { return satmegwo_unpack_columns(8, 32, packed, 1024, out_rows, 256); }
 
-static const struct { const char *name; uint32_t (*call)(void); } calls[] = {
+static const struct measured calls[] = {
     {"spectrum", spectrum}, {"inverse_spectrum", inverse}, {"component_spectrum", component}, {"nonlinearity", nonlinearity},
     {"add_to_column", add_to_column}, {"xor_row", xor_row}, {"largest_cell", largest_cell}, {"largest_cells", largest_cells},
     {"autocorrelation", autocorrelation}, {"dynamic_distance", distance}, {"normal_form", normal_form}, {"degree", degree},
@@ -62,6 +67,20 @@ static const struct { const char *name; uint32_t (*call)(void); } calls[] = {
     {"compact_catalogue", compact_catalogue},
     {"pack_columns", pack_columns}, {"unpack_columns", unpack_columns},
     {"raising_swap", raising_swap},
+};
+
+static satmegwo_outcome now;
+
+static uint32_t design_begin(void) { return (now = satmegwo_design_begin(8, 32, rows, 256)).status; }
+static uint32_t design_mark(void) { return (now = satmegwo_design_mark(now.design, 16)).status; }
+static uint32_t design_swap(void) { return (now = satmegwo_design_swap(now.design, 255, 0)).status; }
+static uint32_t design_add(void) { return (now = satmegwo_design_add(now.design, 32, 255, 1)).status; }
+static uint32_t design_return(void) { return (now = satmegwo_design_return(now.design, 16)).status; }
+static uint32_t design_read(void) { return satmegwo_design_read(now.design, out_rows, 256, figures, 2); }
+
+static const struct measured design_calls[] = {
+    {"design_begin", design_begin}, {"design_mark", design_mark}, {"design_swap", design_swap}, {"design_add", design_add},
+    {"design_return", design_return}, {"design_read", design_read},
 };
 
 static uint32_t (*current)(void);
@@ -92,9 +111,28 @@ static size_t need(uint8_t *stack, uint32_t (*call)(void))
     return (size_t)(top - (stack + at));
 }
 
-int main(void)
+/* Whether each of these calls needs no more stack than its header states. */
+static int within(uint8_t *stack, const struct measured *calls, size_t count, size_t stated)
 {
     size_t largest = 0, which = 0;
+    for (size_t i = 0; i < count; i++) {
+        size_t bytes = need(stack, calls[i].call);
+        if (bytes == 0) {
+            printf("%s could not be run\n", calls[i].name);
+            return 0;
+        }
+        printf("%-20s %zu\n", calls[i].name, bytes);
+        if (largest < bytes) {
+            largest = bytes;
+            which = i;
+        }
+    }
+    printf("the largest need of stack is %zu bytes (%s); the header states %zu\n", largest, calls[which].name, stated);
+    return largest <= stated;
+}
+
+int main(void)
+{
     uint8_t *stack = mmap(NULL, SIZE, PROT_READ | PROT_WRITE, MAP_PRIVATE | MAP_ANONYMOUS, -1, 0);
     if (stack == MAP_FAILED)
         return 1;
@@ -108,18 +146,5 @@ int main(void)
         table[x] = (uint8_t)((x * x / 8) % 2);
         permutation[x % 16] = (uint8_t)(x % 16);
     }
-    for (size_t i = 0; i < sizeof calls / sizeof calls[0]; i++) {
-        size_t bytes = need(stack, calls[i].call);
-        if (bytes == 0) {
-            printf("%s could not be run\n", calls[i].name);
-            return 1;
-        }
-        printf("%-20s %zu\n", calls[i].name, bytes);
-        if (largest < bytes) {
-            largest = bytes;
-            which = i;
-        }
-    }
-    printf("the largest need of stack is %zu bytes (%s); the header states %u\n", largest, calls[which].name, SATMEGWO_STACK);
-    return largest <= SATMEGWO_STACK ? 0 : 1;
+    return within(stack, calls, LENGTH(calls), SATMEGWO_STACK) && within(stack, design_calls, LENGTH(design_calls), SATMEGWO_DESIGN_STACK) ? 0 : 1;
 }

@@ -43,6 +43,7 @@
  *   14  a catalogue has no gap that is long enough, or has 64 records
  *   15  a catalogue has no record of this index
  *   16  an unused bit of a packed column is set (looked for at the place of 4)
+ *   17  a mark of a design was never set (satmegwo_design.h)
  *
  * All lengths (3) are looked at before any value (4). Each function below names the
  * refusals it can give, in the order in which it looks for them.

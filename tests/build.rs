@@ -1,5 +1,6 @@
-//! Says where the library lies. `#[link]` in src/library.rs names it, so that only the
-//! program that declares the exports needs it and the model's tests link without it.
+//! Says where the libraries lie. `#[link]` in src/library.rs and src/library_design.rs names
+//! them, so that only the program that declares the exports needs them and the model's tests
+//! link without them.
 use std::env;
 use std::path::PathBuf;
 
@@ -10,6 +11,8 @@ fn main() {
         Err(_) => package.join("../target/staticlib"),
     };
     println!("cargo:rustc-link-search=native={}", directory.display());
-    println!("cargo:rerun-if-changed={}", directory.join("libsatmegwo.a").display());
+    for name in ["libsatmegwo.a", "libsatmegwo_design.a"] {
+        println!("cargo:rerun-if-changed={}", directory.join(name).display());
+    }
     println!("cargo:rerun-if-env-changed=SATMEGWO_STATICLIB");
 }

@@ -2,11 +2,13 @@
 //! alone.
 //!
 //! `model` follows the definitions word for word and is slow; `fast` and `fast_cells` give the
-//! same figures quickly; `sheet` prints the box sheet; `catalogue` keeps boxes in one buffer.
+//! same figures quickly; `sheet` prints the box sheet; `catalogue` keeps boxes in one buffer;
+//! `design` tunes one box.
 //! None of them uses the library.
 pub mod boxes;
 pub mod catalogue;
 pub mod combinations;
+pub mod design;
 pub mod fast;
 pub mod fast_cells;
 pub mod model;

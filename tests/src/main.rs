@@ -7,10 +7,12 @@ mod files;
 mod histories;
 mod lent;
 mod library;
+mod library_design;
 mod packed;
 mod raised;
 mod sheets;
 mod sums;
+mod tuning;
 
 use std::path::Path;
 use std::process::ExitCode;
@@ -20,6 +22,8 @@ const USAGE: &str = "usage:
       every call of the library against the model; COUNT damaged argument sets for each call
   second catalogue [SEED] [COUNT]
       the library's calls on a catalogue against the model; COUNT calls in histories
+  second designs [SEED] [COUNT]
+      the library's calls on a design against the model; COUNT operations in histories
   second sheets PROGRAM DIR [SEED] [COUNT]
       the box sheet PROGRAM against the model, on COUNT files made from SEED and on DIR/*.box
   second files DIR
@@ -34,6 +38,9 @@ fn main() -> ExitCode {
         }
         ["catalogue", ref rest @ ..] if rest.len() <= 2 => {
             numbers(rest, 1, histories::DEFAULT_COUNT).map(|(seed, count)| histories::run(seed, count))
+        }
+        ["designs", ref rest @ ..] if rest.len() <= 2 => {
+            numbers(rest, 1, tuning::DEFAULT_COUNT).map(|(seed, count)| tuning::run(seed, count))
         }
         ["sheets", program, directory, ref rest @ ..] if rest.len() <= 2 => {
             numbers(rest, 1, sheets::DEFAULT_COUNT).and_then(|(seed, count)| sheets::run(program, Path::new(directory), seed, count))

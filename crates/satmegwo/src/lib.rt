@@ -43,7 +43,7 @@ ghost use Rattle.catalogue.specs.Calls.{told, fetched, checkReply, fetchReply, 
 ghost use Rattle.packing.specs.Packing.{packed as packedForm, unpacked, packChecks, unpackChecks};
 
 // The number of a call that only writes.
-fn status_of(answer: Written) -> u32
+pub fn status_of(answer: Written) -> u32
     ensures { λ r. ⌜ r ≡ status (written answer) ⌝ }
 {
     match answer {
@@ -65,7 +65,7 @@ fn copy(found: &[u32], figures: &mut [u32])
 }
 
 // The figures go to the lent array, or it has another length.
-fn give(found: &[u32], figures: &mut [u32]) -> u32
+pub fn give(found: &[u32], figures: &mut [u32]) -> u32
     ensures number { λ r. ⌜ r ≡ status (lent (given (now (found .entry))) (length (now (figures .entry)))) ⌝ }
     ensures content { λ r. ⌜ now (figures .exit) ≡ figuresAfter (lent (given (now (found .entry))) (length (now (figures .entry)))) (now (figures .entry)) ⌝ }
 {

@@ -1,0 +1,5 @@
+pub mod Rows
+pub mod Operations
+pub mod Histories
+pub mod Held
+pub mod Theorems

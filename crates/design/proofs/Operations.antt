@@ -1,0 +1,157 @@
+-- Each operation of the model: what its checks say, what it leaves alone, and that the box and each mark's box stay accepted. Assumes nothing.
+use Prim.Native.Nat.{ℕ, zero, suc, _-_, _^_, _<_, _≤_}
+use mathlib.Core.Path.{_≡_, refl, sym, ap, _∙_}
+use mathlib.Core.Bool.{Bool, true, false}
+use mathlib.Core.List.{List, [], _∷_, _++_}
+use native.Mathlib.Omega.{arith}
+use borrow.Author.Tests.{ltb-true, lt-ltb, le-ltb, eq-eqb}
+use lib.Dec.{ltb, eqb}
+use lib.ListN.{getD, set, length-set}
+use Rattle.boolean.specs.Sums.{listBelow, listFrom}
+use Rattle.refusals.specs.Table.{Check, _unless_, first, inRange, boxChecks, Box, refusal, figures, replyAfter}
+use Rattle.refusals.specs.declared.Refusal.{Refusal}
+use Rattle.refusals.specs.declared.Refusal.the-variants.{Parameter, WrittenLength}
+use Rattle.refusals.specs.declared.Checked.{Checked}
+use Rattle.refusals.specs.declared.Checked.the-variants.{Accepted, Refused}
+use Rattle.refusals.proofs.Checks.{passed, found, first-append, box-accepted, skip, stop, end}
+use Rattle.refusals.proofs.Bounds.{range-low, range-high}
+use Rattle.columns.specs.Addition.{addedRows, additionChecks}
+use Rattle.columns.proofs.Additions.{Fits, addition-keeps-box}
+use Rattle.design.specs.Model.{Mark, unset, keeps, State, begun, markAt, rowsKept, withRows, withMark, swapped, swapChecks, addChecks, markChecks, returnChecks, stateAfter, swap, add, mark, returnTo, SoundMark, SoundMarks, SoundState}
+use Rattle.design.specs.Statements.{Operation, swaps, adds, sets, returns, after}
+use Rattle.design.proofs.Rows.{swapped-box}
+
+-- what holds of both outcomes
+pub after-cases : (k : Checked) (new old : State) (P : State → Type 0) → (k ≡ Accepted → P new) → P old → P (stateAfter k new old)
+after-cases Accepted new old P p q = p refl
+after-cases (Refused e) new old P p q = q
+
+pub taken-over : {k : Checked} (new old : State) → k ≡ Accepted → new ≡ stateAfter k new old
+taken-over new old h = sym (ap (λ (k : Checked). stateAfter k new old) h)
+
+pub left-alone : {k : Checked} {e : Refusal} (new old : State) → k ≡ Refused e → old ≡ stateAfter k new old
+left-alone new old h = sym (ap (λ (k : Checked). stateAfter k new old) h)
+
+-- what a reply says of the checks
+pub declined-leaves : (k : Checked) (v : ℕ) (new old : State) → refusal v ≡ replyAfter k [] → old ≡ stateAfter k new old
+declined-leaves Accepted v new old h = cc
+declined-leaves (Refused e) v new old h = refl
+
+pub done-accepted : (k : Checked) → figures [] ≡ replyAfter k [] → k ≡ Accepted
+done-accepted Accepted h = refl
+done-accepted (Refused e) h = cc
+
+-- what checks found is one thing
+pub not-both : {k : Checked} {e : Refusal} → k ≡ Refused e → k ≡ Accepted → ⊥
+not-both {k} {e} p q = let z : _≡_ {A = ℕ} 0 1 = cc in omega arith
+
+-- an accepted call's answer is no refusal
+pub not-refused : {given : List ℕ} {k : ℕ} → figures given ≡ refusal k → ⊥
+not-refused {given} {k} h = let z : _≡_ {A = ℕ} 0 1 = cc in omega arith
+
+-- ---- marks
+pub sound-at : (n m : ℕ) (xs : List Mark) (i : ℕ) → SoundMarks n m xs → SoundMark n m (getD xs i unset)
+sound-at n m [] i h = tt
+sound-at n m (x ∷ xs) zero h = h .0
+sound-at n m (x ∷ xs) (suc i) h = sound-at n m xs i (h .1)
+
+pub sound-set : (n m : ℕ) (xs : List Mark) (i : ℕ) (x : Mark) → SoundMarks n m xs → SoundMark n m x → SoundMarks n m (set xs i x)
+sound-set n m [] i x h k = h
+sound-set n m (y ∷ xs) zero x h k = (k, h .1)
+sound-set n m (y ∷ xs) (suc i) x h k = (h .0, sound-set n m xs i x (h .1) k)
+
+kept-box : (n m : ℕ) (x : Mark) (rows : List ℕ) → SoundMark n m x → Box n m rows → Box n m (rowsKept x rows)
+kept-box n m unset rows h b = b
+kept-box n m (keeps kept) rows h b = h
+
+-- ---- a design begins sound, and each operation keeps it so
+pub sound-begun : (n m : ℕ) (rows : List ℕ) → Box n m rows → SoundState (begun n m rows)
+unfolding begun listBelow listFrom
+sound-begun n m rows b = record {
+  box = b;
+  kept = (tt, (tt, (tt, (tt, (tt, (tt, (tt, (tt, (tt, (tt, (tt, (tt, (tt, (tt, (tt, (tt, tt))))))))))))))));
+  sixteen = refl;
+}
+
+module _ (s : State) (t : SoundState s) where
+  pub sound-swap : (x y : ℕ) → SoundState (swap s x y)
+  unfolding swap
+  sound-swap x y =
+      after-cases (first (swapChecks s x y)) (withRows s (swapped x y (s .rows))) s SoundState
+      (λ h. record { box = swapped-box (s .n) (s .m) x y (s .rows) (t .box); kept = t .kept; sixteen = t .sixteen }) t
+
+  pub add-fits : (j w b : ℕ) → first (addChecks s j w b) ≡ Accepted → Fits (s .n) (s .m) (record { column = j; mask = w; constant = b; lent = [] })
+  unfolding addChecks
+  add-fits j w b h =
+      let p = passed (addChecks s j w b) h in
+      record {
+        column-low = range-low 1 (s .m) j (p .0);
+        column-high = range-high 1 (s .m) j (p .0);
+        mask-high = ltb-true w (2 ^ s .n) (p .1 .0);
+        constant-high = ltb-true b 2 (p .1 .1 .0);
+      }
+
+  pub sound-add : (j w b : ℕ) → SoundState (add s j w b)
+  unfolding add
+  sound-add j w b =
+      after-cases (first (addChecks s j w b)) (withRows s (addedRows j w b (s .rows))) s SoundState
+      (λ h. record {
+        box = addition-keeps-box (s .n) (s .m) (s .rows) (t .box) (record { column = j; mask = w; constant = b; lent = [] }) (add-fits j w b h);
+        kept = t .kept;
+        sixteen = t .sixteen;
+      }) t
+
+  pub sound-mark : (k : ℕ) → SoundState (mark s k)
+  unfolding mark
+  sound-mark k =
+      after-cases (first (markChecks k)) (withMark s k (keeps (s .rows))) s SoundState
+      (λ h. record {
+        box = t .box;
+        kept = sound-set (s .n) (s .m) (s .marks) (k - 1) (keeps (s .rows)) (t .kept) (t .box);
+        sixteen = length-set (s .marks) (k - 1) (keeps (s .rows)) ∙ t .sixteen;
+      }) t
+
+  pub sound-return : (k : ℕ) → SoundState (returnTo s k)
+  unfolding returnTo
+  sound-return k =
+      after-cases (first (returnChecks s k)) (withRows s (rowsKept (markAt s k) (s .rows))) s SoundState
+      (λ h. record {
+        box = kept-box (s .n) (s .m) (markAt s k) (s .rows) (sound-at (s .n) (s .m) (s .marks) (k - 1) (t .kept)) (t .box);
+        kept = t .kept;
+        sixteen = t .sixteen;
+      }) t
+
+  pub sound-after : (o : Operation) → SoundState (after s o)
+  unfolding after
+  sound-after (swaps x y) = sound-swap x y
+  sound-after (adds j w b) = sound-add j w b
+  sound-after (sets k) = sound-mark k
+  sound-after (returns k) = sound-return k
+
+-- ---- add has the outcome of column addition: on a box, with an array as long as the rows, the checks find the same
+first-last : (e : Refusal) (ok : Bool) (cs : List Check) → ok ≡ true → first (cs ++ ((e unless ok) ∷ [])) ≡ first cs
+unfolding first
+first-last e ok [] h = rw h
+first-last e ok ((f unless true) ∷ cs) h = first-last e ok cs h
+first-last e ok ((f unless false) ∷ cs) h = refl
+
+pub same-checks : (s : State) → SoundState s → (j w b room : ℕ) → room ≡ 2 ^ s .n → first (additionChecks (s .n) (s .m) (s .rows) j w b room) ≡ first (addChecks s j w b)
+unfolding additionChecks addChecks
+same-checks s t j w b room e =
+    first-append (boxChecks (s .n) (s .m) (s .rows)) _ (box-accepted (s .n) (s .m) (s .rows) (t .box))
+    ∙ first-last WrittenLength (eqb room (2 ^ s .n))
+    ((Parameter unless inRange 1 (s .m) j) ∷ (Parameter unless ltb w (2 ^ s .n)) ∷ (Parameter unless ltb b 2) ∷ []) (eq-eqb room (2 ^ s .n) e)
+
+-- ---- the checks of a swap, by the tests that the code runs
+module _ (s : State) (x y : ℕ) where
+  pub swap-first-out : 2 ^ s .n ≤ x → first (swapChecks s x y) ≡ Refused Parameter
+  unfolding swapChecks
+  swap-first-out h = sym (found (stop (le-ltb x (2 ^ s .n) h)))
+
+  pub swap-second-out : x < 2 ^ s .n → 2 ^ s .n ≤ y → first (swapChecks s x y) ≡ Refused Parameter
+  unfolding swapChecks
+  swap-second-out l h = sym (found (skip (lt-ltb x (2 ^ s .n) l) (stop (le-ltb y (2 ^ s .n) h))))
+
+  pub swap-in : x < 2 ^ s .n → y < 2 ^ s .n → first (swapChecks s x y) ≡ Accepted
+  unfolding swapChecks
+  swap-in l h = sym (found (skip (lt-ltb x (2 ^ s .n) l) (skip (lt-ltb y (2 ^ s .n) h) end)))
