@@ -3,6 +3,7 @@ use crate::bounds;
 use crate::calls::{Run, FIGURE_CALLS, LIMITED_CALLS};
 use crate::damage;
 use crate::library;
+use crate::lists;
 use crate::sums;
 use crate::packed;
 use crate::raised;
@@ -26,7 +27,8 @@ pub fn run(seed: u64, count: u64) -> bool {
     let sums_of_boxes = |run: &mut Run| sums::all(run, count);
     let packing = |run: &mut Run| packed::all(run, count);
     let swaps = |run: &mut Run| raised::all(run, count);
-    let parts: [(&str, Part); 8] = [
+    let shorter_lists = |run: &mut Run| lists::all(run, count);
+    let parts: [(&str, Part); 9] = [
         ("bounds", &bounds::all),
         ("boxes of all widths", &boxes_of_all_widths),
         ("truth tables", &truth_tables),
@@ -35,6 +37,7 @@ pub fn run(seed: u64, count: u64) -> bool {
         ("sums of boxes", &sums_of_boxes),
         ("packed columns", &packing),
         ("raising swaps", &swaps),
+        ("shorter lists of additions", &shorter_lists),
     ];
     for (name, part) in parts {
         let before = run.comparisons;

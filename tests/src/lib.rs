@@ -5,6 +5,7 @@
 //! same figures quickly; `sheet` prints the box sheet; `catalogue` keeps boxes in one buffer;
 //! `design` tunes one box.
 //! None of them uses the library.
+pub mod additions;
 pub mod boxes;
 pub mod catalogue;
 pub mod combinations;

@@ -8,6 +8,7 @@ mod histories;
 mod lent;
 mod library;
 mod library_design;
+mod lists;
 mod packed;
 mod raised;
 mod sheets;

@@ -9,7 +9,7 @@ use Rattle.boolean.specs.Sums.{each}
 use Rattle.boolean.specs.Functions.{Within, components, maskRank}
 use Rattle.boolean.specs.Selection.{Candidate, Ascending, SameMembers}
 use Rattle.boolean.proofs.Lists.{some-member, mem-each, in-each, each-same, ascending-each, ascending-blocks}
-use Rattle.boolean.proofs.Kept.{each-cong}
+use Rattle.boolean.proofs.Kept.{each-cong-on}
 use Rattle.boolean.proofs.Components.{mem-masksBelow, in-masksBelow, ascending-masksBelow, first-masksBelow, mem-components, in-components, ascending-components, first-component, first-mask}
 use Rattle.avalanche.specs.Avalanche.{shifts, atMost, measured}
 use Rattle.avalanche.specs.Calls.{change, changesOf}
@@ -106,9 +106,9 @@ module _ (n m i j : ℕ) (figure : ℕ → ℕ → ℕ) where
   unfolding measured changesOf
   measured-same order same = each-same order (components m i) (changesOf n j figure) same
 
-  -- equal figures make equal lists
-  pub measured-cong : (other : ℕ → ℕ → ℕ) → ((c s : ℕ) → figure c s ≡ other c s) → measured n m i j figure ≡ measured n m i j other
+  -- figures that are equal within the limits make equal lists
+  pub measured-cong : (other : ℕ → ℕ → ℕ) → ((c s : ℕ) → Within i (2 ^ m) c → Within j (2 ^ n) s → figure c s ≡ other c s) → measured n m i j figure ≡ measured n m i j other
   unfolding measured
   measured-cong other h =
-      each-cong (components m i) _ _ (λ c. each-cong (atMost j (shifts n)) _ _
-      (λ s. ap (λ (k : ℕ). record { figure = k; witness = c ∷ s ∷ [] } ∷ []) (h c s)))
+      each-cong-on (components m i) _ _ (λ c k. each-cong-on (atMost j (shifts n)) _ _
+      (λ s l. ap (λ (v : ℕ). record { figure = v; witness = c ∷ s ∷ [] } ∷ []) (h c s (mem-components m i c k) (mem-shifts n j s l))))

@@ -59,7 +59,7 @@ correlation-doubled : (n m : ℕ) (rows : List ℕ) (i j : ℕ) → 1 ≤ n
 unfolding dynamicDistance imbalance
 correlation-doubled n m rows i j h =
     ap firstLargest
-    (measured-cong n m i j (correlated n rows) (λ c d. twice (imbalance n (component rows c) d)) (λ c d. sym (correlation-half n (component rows c) d h))
+    (measured-cong n m i j (correlated n rows) (λ c d. twice (imbalance n (component rows c) d)) (λ c d hc hd. sym (correlation-half n (component rows c) d h))
     ∙ measured-changed n m i j (λ c d. imbalance n (component rows c) d) twice)
     ∙ firstLargest-changed twice refl twice-order (measured n m i j (λ c d. imbalance n (component rows c) d))
 

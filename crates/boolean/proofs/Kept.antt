@@ -1,18 +1,21 @@
 -- What a rule gives for each member of a list, and what a test keeps of it.
 use mathlib.Core.Path.{_≡_, refl, sym, ap, ap₂, _∙_, subst}
 use mathlib.Core.Bool.{Bool, true, false}
-use mathlib.Core.List.{List, [], _∷_, _++_, List·Memᴰ, List·Memᴰ·head, List·Memᴰ·not-nil, List·Memᴰ·eq-of-singleton}
+use mathlib.Core.List.{List, [], _∷_, _++_, List·Memᴰ, List·Memᴰ·head, List·Memᴰ·tail, List·Memᴰ·not-nil, List·Memᴰ·eq-of-singleton}
 use Prim.Native.Nat.{ℕ, _<_}
 use Rattle.boolean.specs.Sums.{each, keep}
 use Rattle.boolean.specs.Selection.{Ascending, SameMembers}
 use Rattle.boolean.proofs.Lists.{each-append, mem-each, in-each, each-same, ascending-each}
 
 module _ {A B : Type 0} where
-  -- equal rules give equal lists
-  pub each-cong : (xs : List A) (f g : A → List B) → ((x : A) → f x ≡ g x) → each xs f ≡ each xs g
+  -- rules that are equal on the members give equal lists
+  pub each-cong-on : (xs : List A) (f g : A → List B) → ((x : A) → List·Memᴰ x xs → f x ≡ g x) → each xs f ≡ each xs g
   unfolding each
-  each-cong [] f g h = refl
-  each-cong (x ∷ xs) f g h = ap₂ (λ (a b : List B). a ++ b) (h x) (each-cong xs f g h)
+  each-cong-on [] f g h = refl
+  each-cong-on (x ∷ xs) f g h = ap₂ (λ (a b : List B). a ++ b) (h x (List·Memᴰ·head refl)) (each-cong-on xs f g (λ y m. h y (List·Memᴰ·tail m)))
+
+  pub each-cong : (xs : List A) (f g : A → List B) → ((x : A) → f x ≡ g x) → each xs f ≡ each xs g
+  each-cong xs f g h = each-cong-on xs f g (λ x m. h x)
 
   -- one rule after another
   pub each-each : {C : Type 0} (xs : List A) (f : A → List B) (g : B → List C) → each (each xs f) g ≡ each xs (λ x. each (f x) g)

@@ -47,7 +47,8 @@ cases-abs z k (inr e) = ap natAbs e ∙ abs-neg (pos k)
 pub abs-sub : (a b : ℤ) → natAbs (a -ℤ b) ≤ natAbs a + natAbs b
 abs-sub a b = omega (arith, abs-add a (negℤ b), abs-neg b)
 
-abs-sign : (b : ℕ) (z : ℤ) → natAbs (sign b *ℤ z) ≡ natAbs z
+-- a sign does not change the size
+pub abs-sign : (b : ℕ) (z : ℤ) → natAbs (sign b *ℤ z) ≡ natAbs z
 unfolding sign
 abs-sign zero z = ap natAbs (one-*ℤ z)
 abs-sign (suc b) z = ap natAbs (minus-one-*ℤ z) ∙ abs-neg z

@@ -81,14 +81,15 @@ pub record Fits (n m : ℕ) (a : Addition) : Type 0 where
   pub column-high : a .column ≤ m
   pub mask-high : a .mask < 2 ^ n
   pub constant-high : a .constant < 2
+  pub room : length (a .lent) ≡ 2 ^ n
 
 pub accepted-fits : (n m : ℕ) (rows : List ℕ) (a : Addition) → additionChecked n m rows a ≡ Accepted → Fits n m a
 unfolding additionChecked
 accepted-fits n m rows a h =
     let r = accepts n m rows (a .column) (a .mask) (a .constant) (length (a .lent)) h in
-    record { column-low = r .j-low; column-high = r .j-high; mask-high = r .w-below; constant-high = r .b-bit }
+    record { column-low = r .j-low; column-high = r .j-high; mask-high = r .w-below; constant-high = r .b-bit; room = r .room-is }
 
-times-lt : (k v t : ℕ) → v < k → t < 2 → v * t < k
+pub times-lt : (k v t : ℕ) → v < k → t < 2 → v * t < k
 times-lt k v t h = bit-cases (λ t. v * t < k) (omega (arith, mul-zero v)) (omega (arith, mul-one v)) t
 
 -- the new rows of an addition
@@ -156,7 +157,7 @@ module _ (n m : ℕ) (rows : List ℕ) (box : Box n m rows) (a : Addition) (fits
           ∙ sym (ap (λ (p : Candidate). p .figure) (t .4))))
 
 -- ---- any addition, refused ones included: the standing rows are the new rows of an addition that fits, or the old ones
-standing-cases : (n m : ℕ) (rows : List ℕ) (a : Addition) (P : List ℕ → Type 0) → (Fits n m a → P (rowsWith a rows)) → P rows → P (standing n m rows a)
+pub standing-cases : (n m : ℕ) (rows : List ℕ) (a : Addition) (P : List ℕ → Type 0) → (Fits n m a → P (rowsWith a rows)) → P rows → P (standing n m rows a)
 unfolding standing
 standing-cases n m rows a P p q = go (additionChecked n m rows a) (accepted-fits n m rows a)
   where

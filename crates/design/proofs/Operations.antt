@@ -80,7 +80,7 @@ module _ (s : State) (t : SoundState s) where
       after-cases (first (swapChecks s x y)) (withRows s (swapped x y (s .rows))) s SoundState
       (λ h. record { box = swapped-box (s .n) (s .m) x y (s .rows) (t .box); kept = t .kept; sixteen = t .sixteen }) t
 
-  pub add-fits : (j w b : ℕ) → first (addChecks s j w b) ≡ Accepted → Fits (s .n) (s .m) (record { column = j; mask = w; constant = b; lent = [] })
+  pub add-fits : (j w b : ℕ) → first (addChecks s j w b) ≡ Accepted → Fits (s .n) (s .m) (record { column = j; mask = w; constant = b; lent = s .rows })
   unfolding addChecks
   add-fits j w b h =
       let p = passed (addChecks s j w b) h in
@@ -89,6 +89,7 @@ module _ (s : State) (t : SoundState s) where
         column-high = range-high 1 (s .m) j (p .0);
         mask-high = ltb-true w (2 ^ s .n) (p .1 .0);
         constant-high = ltb-true b 2 (p .1 .1 .0);
+        room = t .box .size;
       }
 
   pub sound-add : (j w b : ℕ) → SoundState (add s j w b)
@@ -96,7 +97,7 @@ module _ (s : State) (t : SoundState s) where
   sound-add j w b =
       after-cases (first (addChecks s j w b)) (withRows s (addedRows j w b (s .rows))) s SoundState
       (λ h. record {
-        box = addition-keeps-box (s .n) (s .m) (s .rows) (t .box) (record { column = j; mask = w; constant = b; lent = [] }) (add-fits j w b h);
+        box = addition-keeps-box (s .n) (s .m) (s .rows) (t .box) (record { column = j; mask = w; constant = b; lent = s .rows }) (add-fits j w b h);
         kept = t .kept;
         sixteen = t .sixteen;
       }) t

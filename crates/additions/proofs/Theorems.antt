@@ -1,0 +1,145 @@
+-- Document 02 §12, sentence by sentence: two additions to one column are one, an addition made twice restores the box, any may be exchanged, and
+-- a list equals one with at most one addition for each column. Assumes nothing.
+use mathlib.Core.Path.{_≡_, refl, sym, ap, ap₂, _∙_, subst}
+use mathlib.Core.Bool.{true, not, false≢true}
+use mathlib.Core.List.{List, [], _∷_, _++_, List·Memᴰ}
+use Prim.Native.Nat.{ℕ, _*_, _-_, _^_, _≤_}
+use native.Mathlib.Omega.{arith}
+use borrow.Author.Tests.{not-false}
+use lib.Bits.{bitXor, xor-self, xor-zero-r}
+use lib.ListN.{length}
+use Rattle.boolean.specs.Bits.{affine}
+use Rattle.boolean.proofs.Kept.{mem-keep}
+use Rattle.boolean.proofs.Lists.{mem-listFrom}
+use Rattle.boolean.proofs.Xor.{xor-left-comm}
+use Rattle.refusals.specs.Table.{Box, first, boxChecks}
+use Rattle.refusals.specs.declared.Checked.{Checked}
+use Rattle.refusals.specs.declared.Checked.the-variants.{Accepted, Refused}
+use Rattle.refusals.proofs.Checks.{box}
+use Rattle.columns.specs.Addition.{Addition, additionChecked, standing, standingAfter}
+use Rattle.columns.proofs.Accepted.{accepts}
+use Rattle.columns.proofs.Additions.{Fits, accepted-fits, standing-keeps-box}
+use Rattle.additions.specs.Shortening.{isAccepted, acceptedOnly, together, toColumn, merged, oneForEach, addsNothing, shortened}
+use Rattle.additions.proofs.Effects.{checked-own, fits-accepted, term, effect, effect-fits, effects, effects-append, same-effects}
+use Rattle.additions.proofs.Merging.{AllFit, together-term, together-fits, merged-fits, columns-effects, dropped-effects, refused-effect, nothing-effect}
+use Rattle.additions.proofs.Shorter.{short, column-once, ascending-columns, no-longer}
+
+-- the rows of an accepted addition are a box
+accepted-sound : (n m : ℕ) (rows : List ℕ) (a : Addition) → additionChecked n m rows a ≡ Accepted → Box n m rows
+unfolding additionChecked
+accepted-sound n m rows a h = accepts n m rows (a .column) (a .mask) (a .constant) (length (a .lent)) h .sound
+
+-- ---- two additions to one column, each accepted when its turn comes
+module _ (n m : ℕ) (rows : List ℕ) (a b : Addition)
+    (first-accepted : additionChecked n m rows a ≡ Accepted) (second-accepted : additionChecked n m (standing n m rows a) b ≡ Accepted)
+    (one-column : a .column ≡ b .column) where
+  sound : Box n m rows
+  sound = accepted-sound n m rows a first-accepted
+
+  fits-a : Fits n m a
+  fits-a = accepted-fits n m rows a first-accepted
+
+  fits-b : Fits n m b
+  fits-b = accepted-fits n m (standing n m rows a) b second-accepted
+
+  both-terms : (x : ℕ) → effects n m (a ∷ b ∷ []) x ≡ bitXor (term a x) (term b x)
+  unfolding effects
+  both-terms x = ap₂ bitXor (effect-fits fits-a x) (xor-zero-r (effect n m b x) ∙ effect-fits fits-b x)
+
+  -- "two accepted additions to one column equal one whose mask and constant are the XORs of theirs"
+  pub two-are-one : standingAfter n m rows (a ∷ b ∷ []) ≡ standing n m rows (together a b)
+  unfolding effects standingAfter
+  two-are-one = same-effects sound (a ∷ b ∷ []) (together a b ∷ []) (λ x l.
+      both-terms x ∙ sym (xor-zero-r (effect n m (together a b) x) ∙ effect-fits (together-fits fits-a fits-b) x ∙ together-term a b x one-column))
+
+  -- which is accepted too
+  pub together-accepted : additionChecked n m rows (together a b) ≡ Accepted
+  together-accepted = fits-accepted sound (together-fits fits-a fits-b)
+
+  -- "an accepted addition made twice restores the box", whatever the two arrays that it is lent hold
+  pub twice-restores : a .mask ≡ b .mask → a .constant ≡ b .constant → standingAfter n m rows (a ∷ b ∷ []) ≡ rows
+  unfolding effects standingAfter
+  twice-restores p q = same-effects sound (a ∷ b ∷ []) [] (λ x l.
+      both-terms x ∙ ap (bitXor (term a x)) (sym (same-term x)) ∙ xor-self (term a x))
+    where
+      same-term : (x : ℕ) → term a x ≡ term b x
+      same-term x =
+          ap (λ (j : ℕ). affine (a .mask) (a .constant) x * 2 ^ (j - 1)) one-column
+          ∙ ap₂ (λ (w c : ℕ). affine w c x * 2 ^ (b .column - 1)) p q
+
+-- whether an addition to a box is accepted does not change with the additions before it
+pub still-accepted : (n m : ℕ) (rows : List ℕ) (a b : Addition) → Box n m rows → additionChecked n m (standing n m rows a) b ≡ additionChecked n m rows b
+still-accepted n m rows a b box = checked-own (standing-keeps-box n m rows box a) b ∙ sym (checked-own box b)
+
+-- so one that is accepted is accepted again, and restores the box
+pub made-twice : (n m : ℕ) (rows : List ℕ) (a : Addition) → additionChecked n m rows a ≡ Accepted → standingAfter n m rows (a ∷ a ∷ []) ≡ rows
+made-twice n m rows a h =
+    twice-restores n m rows a a h (still-accepted n m rows a a (accepted-sound n m rows a h) ∙ h) refl refl refl
+
+-- ---- lists of additions to an accepted box
+module _ (n m : ℕ) (rows : List ℕ) (accepted : first (boxChecks n m rows) ≡ Accepted) where
+  accepted-box : Box n m rows
+  accepted-box = box n m rows [] accepted
+
+  -- "accepted additions to any columns may be exchanged", anywhere in a list; and refused ones too
+  pub exchanged : (before rest : List Addition) (a b : Addition)
+      → standingAfter n m rows (before ++ (a ∷ b ∷ rest)) ≡ standingAfter n m rows (before ++ (b ∷ a ∷ rest))
+  unfolding effects
+  exchanged before rest a b = same-effects accepted-box (before ++ (a ∷ b ∷ rest)) (before ++ (b ∷ a ∷ rest)) (λ x l.
+      effects-append n m before (a ∷ b ∷ rest) x
+      ∙ ap (bitXor (effects n m before x)) (xor-left-comm (effect n m a x) (effect n m b x) (effects n m rest x))
+      ∙ sym (effects-append n m before (b ∷ a ∷ rest) x))
+
+  -- "Any list, its refused additions dropped,"
+  list-fits : (list : List Addition) → AllFit n m (acceptedOnly n m rows list)
+  unfolding acceptedOnly
+  list-fits list a k = accepted-fits n m rows a (yes (additionChecked n m rows a) (mem-keep (λ a. isAccepted (additionChecked n m rows a)) list a k .1))
+    where
+      yes : (k : Checked) → isAccepted k ≡ true → k ≡ Accepted
+      yes Accepted e = refl
+      yes (Refused r) e = absurd (false≢true e)
+
+  accepted-effects : (list : List Addition) (x : ℕ) → effects n m (acceptedOnly n m rows list) x ≡ effects n m list x
+  unfolding acceptedOnly
+  accepted-effects list x =
+      dropped-effects n m (λ a. isAccepted (additionChecked n m rows a)) x list
+      (λ a k e. refused-effect n m a x (ap isAccepted (sym (checked-own accepted-box a)) ∙ e))
+
+  pub refused-dropped : (list : List Addition) → standingAfter n m rows list ≡ standingAfter n m rows (acceptedOnly n m rows list)
+  refused-dropped list = same-effects accepted-box list (acceptedOnly n m rows list) (λ x l. sym (accepted-effects list x))
+
+  -- "then equals one with at most one addition for each column": each of them is lent an array of 2^n entries
+  module _ (lent : List ℕ) (room : length lent ≡ 2 ^ n) (list : List Addition) where
+    abbrev kept : List Addition
+    kept = acceptedOnly n m rows list
+
+    -- one for each column
+    one-for-each : standingAfter n m rows list ≡ standingAfter n m rows (oneForEach m lent kept)
+    one-for-each = same-effects accepted-box list (oneForEach m lent kept) (λ x l.
+        sym (columns-effects n m lent room x kept (list-fits list) ∙ accepted-effects list x))
+
+    -- the rows that stand are equal
+    pub short-list : standingAfter n m rows list ≡ standingAfter n m rows (shortened n m rows lent list)
+    unfolding shortened
+    short-list =
+        one-for-each ∙ same-effects accepted-box (oneForEach m lent kept) (short m lent kept) (λ x l.
+        sym (dropped-effects n m (λ a. not (addsNothing a)) x (oneForEach m lent kept)
+        (λ a k e. nothing-effect n m a x (not-false (addsNothing a) e))))
+
+    -- no column has two additions
+    pub short-once : (j : ℕ) → length (toColumn j (shortened n m rows lent list)) ≤ 1
+    unfolding shortened
+    short-once j = column-once j (short m lent kept) (ascending-columns m lent kept)
+
+    -- none is refused
+    pub short-accepted : (a : Addition) → List·Memᴰ a (shortened n m rows lent list) → additionChecked n m rows a ≡ Accepted
+    unfolding shortened oneForEach
+    short-accepted a k =
+        let t = mem-listFrom 1 m (merged lent kept) a (mem-keep (λ a. not (addsNothing a)) (oneForEach m lent kept) a k .0) in
+        fits-accepted accepted-box
+        (subst (Fits n m) (sym (t .3)) (merged-fits {list = kept} room (list-fits list) (t .0) (t .1) (omega (arith, t .2))))
+
+    -- and there are no more than were accepted
+    pub short-no-longer : length (shortened n m rows lent list) ≤ length kept
+    unfolding shortened
+    short-no-longer = no-longer m lent kept
