@@ -1,4 +1,5 @@
 //! `second compare`: every call of the library against the model.
+use crate::avalanches;
 use crate::bounds;
 use crate::calls::{Run, FIGURE_CALLS, LIMITED_CALLS};
 use crate::damage;
@@ -28,7 +29,7 @@ pub fn run(seed: u64, count: u64) -> bool {
     let packing = |run: &mut Run| packed::all(run, count);
     let swaps = |run: &mut Run| raised::all(run, count);
     let shorter_lists = |run: &mut Run| lists::all(run, count);
-    let parts: [(&str, Part); 9] = [
+    let parts: [(&str, Part); 10] = [
         ("bounds", &bounds::all),
         ("boxes of all widths", &boxes_of_all_widths),
         ("truth tables", &truth_tables),
@@ -38,6 +39,7 @@ pub fn run(seed: u64, count: u64) -> bool {
         ("packed columns", &packing),
         ("raising swaps", &swaps),
         ("shorter lists of additions", &shorter_lists),
+        ("even and bent boxes", &avalanches::all),
     ];
     for (name, part) in parts {
         let before = run.comparisons;

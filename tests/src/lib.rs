@@ -12,6 +12,7 @@ pub mod combinations;
 pub mod design;
 pub mod fast;
 pub mod fast_cells;
+pub mod maximal;
 pub mod model;
 pub mod packing;
 pub mod published;

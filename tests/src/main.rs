@@ -1,4 +1,5 @@
 //! The second program beside the library. See the usage text below.
+mod avalanches;
 mod bounds;
 mod calls;
 mod compare;

@@ -80,6 +80,23 @@ module _ (n m : ℕ) (rows : List ℕ) (i : ℕ) where
   distance-any-component-order j order same =
       distance-any-order j (each order (changesOf n j (distanceOf n rows))) (measured-same n m i j (distanceOf n rows) order same)
 
+-- ---- a figure of 0: changes at half of the inputs
+pub no-size : (z : ℤ) → natAbs z ≡ 0 → z ≡ pos 0
+no-size (pos k) e = ap pos e
+no-size (negsuc k) e = absurd (omega arith)
+
+module _ (n : ℕ) (f : ℕ → ℕ) (d : ℕ) where
+  pub balanced : imbalance n f d ≡ 0 → changes n f d ≡ 2 ^ (n - 1)
+  unfolding imbalance
+  balanced e =
+      ap natAbs
+      (sym (sym (-ℤ-+ℤ-cancel (pos (2 ^ (n - 1))) (pos (changes n f d)))
+      ∙ ap (λ (z : ℤ). z +ℤ pos (changes n f d)) (no-size (pos (2 ^ (n - 1)) -ℤ pos (changes n f d)) e) ∙ +ℤ-idl (pos (changes n f d))))
+
+  pub no-imbalance : changes n f d ≡ 2 ^ (n - 1) → imbalance n f d ≡ 0
+  unfolding imbalance
+  no-imbalance e = ap (λ (k : ℕ). natAbs (pos (2 ^ (n - 1)) -ℤ pos k)) e ∙ ap natAbs (+ℤ-invr (pos (2 ^ (n - 1))))
+
 module _ (n m : ℕ) (rows : List ℕ) (b : Box n m rows) where
   -- ---- the autocorrelation: no component within the limit and no change from 1 is left out
   pub autocorrelation-widest : (i : ℕ) → 1 ≤ i → Widest n m i n (correlated n rows) (boxAutocorrelation n m rows i)
@@ -95,21 +112,6 @@ module _ (n m : ℕ) (rows : List ℕ) (b : Box n m rows) where
   distance-widest i j i-low j-low = widest n m i j (distanceOf n rows) (b .n-low) (b .m-low) i-low j-low
 
   -- ---- the criteria, which ask for changes at half of the inputs
-  no-size : (z : ℤ) → natAbs z ≡ 0 → z ≡ pos 0
-  no-size (pos k) e = ap pos e
-  no-size (negsuc k) e = absurd (omega arith)
-
-  balanced : (f : ℕ → ℕ) (d : ℕ) → imbalance n f d ≡ 0 → changes n f d ≡ 2 ^ (n - 1)
-  unfolding imbalance
-  balanced f d e =
-      ap natAbs
-      (sym (sym (-ℤ-+ℤ-cancel (pos (2 ^ (n - 1))) (pos (changes n f d)))
-      ∙ ap (λ (z : ℤ). z +ℤ pos (changes n f d)) (no-size (pos (2 ^ (n - 1)) -ℤ pos (changes n f d)) e) ∙ +ℤ-idl (pos (changes n f d))))
-
-  no-imbalance : (f : ℕ → ℕ) (d : ℕ) → changes n f d ≡ 2 ^ (n - 1) → imbalance n f d ≡ 0
-  unfolding imbalance
-  no-imbalance f d e = ap (λ (k : ℕ). natAbs (pos (2 ^ (n - 1)) -ℤ pos k)) e ∙ ap natAbs (+ℤ-invr (pos (2 ^ (n - 1))))
-
   -- columns and input bits are counted from 1
   back : (p : ℕ) → p ≡ suc p - 1
   back p = omega arith
@@ -131,11 +133,11 @@ module _ (n m : ℕ) (rows : List ℕ) (b : Box n m rows) where
         λ e c k w lk hk.
             let low = t .most c (2 ^ (k - 1)) w (single n k lk hk) in
             let z : distanceOf n rows c (2 ^ (k - 1)) ≡ 0 = omega arith in
-            balanced (component rows c) (2 ^ (k - 1)) z,
+            balanced n (component rows c) (2 ^ (k - 1)) z,
         λ h.
             let k = power (t .s-within) in
             ap (λ (p : Candidate). p .figure) (t .reached)
-            ∙ no-imbalance (component rows (t .c)) (t .s)
+            ∙ no-imbalance n (component rows (t .c)) (t .s)
             (ap (changes n (component rows (t .c))) (k .3) ∙ h (t .c) (k .0) (t .c-within) (k .1) (k .2)),
       )
 
