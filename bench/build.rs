@@ -1,4 +1,4 @@
-//! Says where the library lies; the shared file library.rs names it.
+//! Says where the libraries lie; the shared files library.rs and library_server.rs name them.
 use std::env;
 use std::path::PathBuf;
 
@@ -9,6 +9,8 @@ fn main() {
         Err(_) => package.join("../target/staticlib"),
     };
     println!("cargo:rustc-link-search=native={}", directory.display());
-    println!("cargo:rerun-if-changed={}", directory.join("libsatmegwo.a").display());
+    for library in ["libsatmegwo.a", "libsatmegwo_server.a"] {
+        println!("cargo:rerun-if-changed={}", directory.join(library).display());
+    }
     println!("cargo:rerun-if-env-changed=SATMEGWO_STATICLIB");
 }

@@ -1,7 +1,7 @@
-/* How much stack the calls of the library need: each is run on a stack that was painted
+/* How much stack the calls of the libraries need: each is run on a stack that was painted
  * before, and what is no longer painted was used. Prints the largest need in bytes, and
- * the call that has it, for each library; fails if it is above SATMEGWO_STACK or
- * SATMEGWO_DESIGN_STACK, which the headers state.
+ * the call that has it, for each library; fails if it is above what that library's header
+ * states.
  *
  * No proof speaks of the machine's stack, so this is measured.
  */
@@ -13,6 +13,7 @@
 #include <sys/mman.h>
 #include "satmegwo.h"
 #include "satmegwo_design.h"
+#include "satmegwo_server.h"
 
 #define SIZE (1u << 20)
 #define PAINT 0xA5
@@ -20,7 +21,7 @@
 
 struct measured { const char *name; uint32_t (*call)(void); };
 
-static uint32_t rows[256], narrow_rows[256], square_rows[256], half_rows[128], out_rows[256], figures[4], sum_figures[7];
+static uint32_t rows[256], narrow_rows[256], square_rows[256], half_rows[128], out_rows[256], figures[4], sum_figures[7], standing[5];
 static uint16_t counts[65536];
 static uint8_t table[256], out_table[256], permutation[16], file[1026], catalogue[65535];
 static int32_t values[256];
@@ -81,6 +82,21 @@ static uint32_t design_read(void) { return satmegwo_design_read(now.design, out_
 static const struct measured design_calls[] = {
     {"design_begin", design_begin}, {"design_mark", design_mark}, {"design_swap", design_swap}, {"design_add", design_add},
     {"design_return", design_return}, {"design_read", design_read},
+};
+
+/* The server's: a server by value is on the caller's stack, and counted here too. */
+static struct satmegwo_server server;
+static uint32_t kept(struct satmegwo_server_outcome outcome) { server = outcome.server; return outcome.status; }
+static uint32_t server_begin(void) { server = satmegwo_server_begin(); return 0; }
+static uint32_t server_put(void) { return kept(satmegwo_server_put(server, 8, 8, 16, narrow_rows, 256)); }
+static uint32_t server_step(void) { server = satmegwo_server_step(server); return 0; }
+static uint32_t server_run(void) { server = satmegwo_server_run(server, 100); return 0; }
+static uint32_t server_ask(void) { return satmegwo_server_ask(server, 8, standing, 5); }
+static uint32_t server_withdraw(void) { return kept(satmegwo_server_withdraw(server, 8)); }
+
+static const struct measured server_calls[] = {
+    {"server_begin", server_begin}, {"server_put", server_put}, {"server_step", server_step}, {"server_run", server_run},
+    {"server_ask", server_ask}, {"server_withdraw", server_withdraw},
 };
 
 static uint32_t (*current)(void);
@@ -146,5 +162,9 @@ int main(void)
         table[x] = (uint8_t)((x * x / 8) % 2);
         permutation[x % 16] = (uint8_t)(x % 16);
     }
-    return within(stack, calls, LENGTH(calls), SATMEGWO_STACK) && within(stack, design_calls, LENGTH(design_calls), SATMEGWO_DESIGN_STACK) ? 0 : 1;
+    if (!within(stack, calls, LENGTH(calls), SATMEGWO_STACK))
+        return 1;
+    if (!within(stack, design_calls, LENGTH(design_calls), SATMEGWO_DESIGN_STACK))
+        return 1;
+    return within(stack, server_calls, LENGTH(server_calls), SATMEGWO_SERVER_STACK) ? 0 : 1;
 }

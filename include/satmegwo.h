@@ -44,6 +44,10 @@
  *   15  a catalogue has no record of this index
  *   16  an unused bit of a packed column is set (looked for at the place of 4)
  *   17  a mark of a design was never set (satmegwo_design.h)
+ *   18  the place of a server is not 1 to 8 (satmegwo_server.h)
+ *   19  the place is taken on putting, or empty on asking or withdrawing (satmegwo_server.h)
+ *
+ * 17 to 19 are given by the calls on designs and servers alone, each in a library of its own.
  *
  * All lengths (3) are looked at before any value (4). Each function below names the
  * refusals it can give, in the order in which it looks for them.

@@ -1,4 +1,4 @@
-//! Says where the libraries lie. `#[link]` in src/library.rs and src/library_design.rs names
+//! Says where the libraries lie. `#[link]` in src/library.rs, src/library_design.rs and src/library_server.rs names
 //! them, so that only the program that declares the exports needs them and the model's tests
 //! link without them.
 use std::env;
@@ -11,7 +11,7 @@ fn main() {
         Err(_) => package.join("../target/staticlib"),
     };
     println!("cargo:rustc-link-search=native={}", directory.display());
-    for name in ["libsatmegwo.a", "libsatmegwo_design.a"] {
+    for name in ["libsatmegwo.a", "libsatmegwo_design.a", "libsatmegwo_server.a"] {
         println!("cargo:rerun-if-changed={}", directory.join(name).display());
     }
     println!("cargo:rerun-if-env-changed=SATMEGWO_STATICLIB");

@@ -6,7 +6,7 @@
 //! sheet's limit on combinations, and the list of cells and the degree on a few boxes that are
 //! chosen for them, the degree there beside the library's own nonlinearity too; so is the sum
 //! of four boxes. Then the calls on a catalogue, packing and unpacking on random boxes of a few
-//! sizes, and the raising swap of a few boxes.
+//! sizes, the raising swap of a few boxes, and boxes that the evaluation server runs to the end.
 //! Both programs take turns, several rounds each, and the least time of all rounds is shown:
 //! what disturbs a measurement only ever makes it longer. With --anchor the C program FILE.c,
 //! which measures the nonlinearity of an 8 by 16 box and prints its time as `... T s`, is
@@ -15,8 +15,11 @@
 mod anchor;
 mod calls;
 mod catalogues;
+mod evaluations;
 #[path = "../../tests/src/library.rs"]
 mod library;
+#[path = "../../tests/src/library_server.rs"]
+mod library_server;
 mod packing;
 mod swaps;
 mod table;
@@ -81,6 +84,7 @@ fn run(seed: u64, anchor: Option<&str>) -> Result<(), String> {
     catalogues::measure(&table, &mut random)?;
     packing::measure(&table, &mut random)?;
     swaps::measure(&mut table, &mut random)?;
+    evaluations::measure(&table, &mut random)?;
     if let Some(source) = anchor {
         let library = table.library("8x16", "nonlinearity");
         table.line("8x16", "nonlinearity, second is the C anchor", library, anchor::time(source)?);

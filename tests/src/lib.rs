@@ -3,7 +3,7 @@
 //!
 //! `model` follows the definitions word for word and is slow; `fast` and `fast_cells` give the
 //! same figures quickly; `sheet` prints the box sheet; `catalogue` keeps boxes in one buffer;
-//! `design` tunes one box.
+//! `design` tunes one box; `server` has several boxes under analysis.
 //! None of them uses the library.
 pub mod additions;
 pub mod boxes;
@@ -18,5 +18,6 @@ pub mod packing;
 pub mod published;
 pub mod random;
 pub mod rounds;
+pub mod server;
 pub mod sheet;
 pub mod swaps;

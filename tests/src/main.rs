@@ -4,11 +4,13 @@ mod bounds;
 mod calls;
 mod compare;
 mod damage;
+mod evaluations;
 mod files;
 mod histories;
 mod lent;
 mod library;
 mod library_design;
+mod library_server;
 mod lists;
 mod packed;
 mod raised;
@@ -26,6 +28,8 @@ const USAGE: &str = "usage:
       the library's calls on a catalogue against the model; COUNT calls in histories
   second designs [SEED] [COUNT]
       the library's calls on a design against the model; COUNT operations in histories
+  second server [SEED] [COUNT]
+      the library's calls on the evaluation server against the model; COUNT calls in histories
   second sheets PROGRAM DIR [SEED] [COUNT]
       the box sheet PROGRAM against the model, on COUNT files made from SEED and on DIR/*.box
   second files DIR
@@ -43,6 +47,9 @@ fn main() -> ExitCode {
         }
         ["designs", ref rest @ ..] if rest.len() <= 2 => {
             numbers(rest, 1, tuning::DEFAULT_COUNT).map(|(seed, count)| tuning::run(seed, count))
+        }
+        ["server", ref rest @ ..] if rest.len() <= 2 => {
+            numbers(rest, 1, evaluations::DEFAULT_COUNT).map(|(seed, count)| evaluations::run(seed, count))
         }
         ["sheets", program, directory, ref rest @ ..] if rest.len() <= 2 => {
             numbers(rest, 1, sheets::DEFAULT_COUNT).and_then(|(seed, count)| sheets::run(program, Path::new(directory), seed, count))

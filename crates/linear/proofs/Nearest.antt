@@ -172,7 +172,7 @@ distance-le : (n : ℕ) (f : ℕ → ℕ) (w b : ℕ) → distance n f w b ≤ 2
 unfolding distance
 distance-le n f w b = count-le (2 ^ n) _
 
-least-le : (n : ℕ) (rows : List ℕ) (c : ℕ) → firstLeast (pairsOf n rows c) .figure ≤ 2 ^ n
+pub least-le : (n : ℕ) (rows : List ℕ) (c : ℕ) → firstLeast (pairsOf n rows c) .figure ≤ 2 ^ n
 least-le n rows c =
     le-trans (firstLeast-le (pairsOf n rows c) (pair n rows c 0 0) (in-pairsOf n rows c 0 0 (pow-pos n) (zero-lt-suc 1))) (distance-le n (component rows c) 0 0)
 

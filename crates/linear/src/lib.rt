@@ -18,6 +18,7 @@ ghost use Rattle.linear.specs.Nonlinearity as spec;
 ghost use Rattle.linear.specs.Calls.{componentChecks, leastPair, candidate, Swept, Largest, FirstPlace};
 
 // The best pair so far.
+#[repr(C)]
 pub struct Found {
     pub count: u32,
     pub c: u32,
@@ -32,7 +33,7 @@ pub enum LeastPair {
 }
 
 // The spectrum of component c, with the fixed table and an array for the truth table lent.
-fn component_spectrum(
+pub fn component_spectrum(
     fixed: &[i32; 2048],
     n: u32,
     m: u32,
@@ -148,7 +149,7 @@ fn first_place(values: &[i32], size: u32) -> usize
 
 // The best pair so far, or the first nearest pair of component c, whose spectrum is given: by the count, and among equal counts by fewer outputs.
 // The largest magnitude has the fewest differing inputs, and its sign decides b. Its place is looked for only where the pair is taken.
-fn with_spectrum(found: Found, n: u32, m: u32, rows: &[u32], c: u32, values: &[i32]) -> Found
+pub fn with_spectrum(found: Found, n: u32, m: u32, rows: &[u32], c: u32, values: &[i32]) -> Found
     requires { ⌜ Box n m (now rows) × (now values ≡ spectrum n (component (now rows) c)) ⌝ }
     ensures { λ r. ⌜ candidate r ≡ best (ranked lower outputs) (candidate found) (firstLeast (pairsOf n (now (rows .entry)) c) ∷ []) ⌝ }
 {

@@ -14,7 +14,7 @@ use lib.Dec.{ltb, eqb}
 use lib.Pow.{pow-pos}
 use Rattle.boolean.specs.Sums.{each}
 use Rattle.boolean.specs.Functions.{at, components, maskRank}
-use Rattle.boolean.specs.Selection.{Candidate, best, lower, higher, firstBest, firstLeast, firstLargest, ranked, Ascending}
+use Rattle.boolean.specs.Selection.{Candidate, best, lower, higher, firstBest, firstLeast, firstLargest, ranked, Ascending, SameMembers}
 use Rattle.boolean.proofs.Blocks.{first-blocks}
 use Rattle.boolean.proofs.Components.{masksBelow, mem-masksBelow, ascending-masksBelow, first-masksBelow, ascending-components, same-masks, rank-of-before}
 use Rattle.boolean.proofs.Lists.{mem-each, each-same, ascending-each}
@@ -47,8 +47,30 @@ module _ (v b : Candidate) {figure c : ℕ} (p : figure ≡ v .figure) (q : c �
 pub record Named (rule : ℕ → Candidate) : Type 0 where
   pub names : (c : ℕ) → mask (rule c) ≡ c
 
+-- Masks as a loop visits them, rising from 1 on and below 2^m, and the same masks in the components' order.
+pub record Visit (m : ℕ) (visited ordered : List ℕ) : Type 0 where
+  pub rest : List ℕ
+  pub starts : visited ≡ 1 ∷ rest
+  pub rises : Ascending (λ c. c) visited
+  pub high : (c : ℕ) → List·Memᴰ c visited → c < 2 ^ m
+  pub in-order : Ascending (maskRank m) ordered
+  pub same : SameMembers visited ordered
+
+-- so are the masks within a limit
+pub visit-within : (m i : ℕ) → 1 ≤ m → 1 ≤ i → Visit m (masksBelow i (2 ^ m)) (components m i)
+visit-within m i m-low i-low =
+    let t = first-masksBelow i m m-low i-low in
+    record {
+      rest = t .0;
+      starts = t .1;
+      rises = ascending-masksBelow i (2 ^ m);
+      high = λ c k. mem-masksBelow i (2 ^ m) (pow-pos m) c k .high;
+      in-order = ascending-components m i;
+      same = same-masks m i;
+    }
+
 module _ {beats : Candidate → Candidate → Bool} {R S : Candidate → Candidate → Type 0} (o : Ordered beats R S) (f : ByFigure R S)
-    (m i : ℕ) {rule : ℕ → Candidate} (named : Named rule) where
+    {m : ℕ} {visited ordered : List ℕ} (visit : Visit m visited ordered) {rule : ℕ → Candidate} (named : Named rule) where
   abbrev one : ℕ → List Candidate
   one c = rule c ∷ []
 
@@ -62,14 +84,14 @@ module _ {beats : Candidate → Candidate → Bool} {R S : Candidate → Candida
       is c p k = ap (λ (p : Candidate). rank (mask p)) (List·Memᴰ·eq-of-singleton k) ∙ ap rank (named .names c)
 
   -- of a mask that comes later, fewer ones decide as the rank does
-  same-test : (x y : Candidate) → List·Memᴰ y (each (masksBelow i (2 ^ m)) one) → mask x < mask y
+  same-test : (x y : Candidate) → List·Memᴰ y (each visited one) → mask x < mask y
       → ranked beats outputs y x ≡ ranked beats (λ p. maskRank m (mask p)) y x
   same-test x y k l = ap (λ (t : Bool). beats y x || (eqb (y .figure) (x .figure) && t)) (go (decLt (outputs y) (outputs x)))
     where
       high : mask y < 2 ^ m
       high =
-          let t = mem-each (masksBelow i (2 ^ m)) one y k in
-          omega (arith, ap mask (List·Memᴰ·eq-of-singleton (t .2)), named .names (t .0), mem-masksBelow i (2 ^ m) (pow-pos m) (t .0) (t .1) .high)
+          let t = mem-each visited one y k in
+          omega (arith, ap mask (List·Memᴰ·eq-of-singleton (t .2)), named .names (t .0), visit .high (t .0) (t .1))
 
       go : Dec (outputs y < outputs x) → ltb (outputs y) (outputs x) ≡ ltb (maskRank m (mask y)) (maskRank m (mask x))
       go (yes h) = lt-ltb _ _ h ∙ sym (lt-ltb _ _ (rank-of-before m (mask y) (mask x) high (inl h)))
@@ -77,19 +99,17 @@ module _ {beats : Candidate → Candidate → Bool} {R S : Candidate → Candida
           let fewer : ones (mask x) ≤ ones (mask y) = omega arith in
           le-ltb (outputs y) (outputs x) fewer ∙ sym (le-ltb (maskRank m (mask y)) (maskRank m (mask x)) (omega (arith, mul-le-mul-right (2 ^ m) fewer)))
 
-  pub swept : 1 ≤ m → 1 ≤ i → {start : Candidate} → (start ≡ rule 1) ⊎ (ranked beats outputs (rule 1) start ≡ true)
-      → best (ranked beats outputs) start (each (masksBelow i (2 ^ m)) one) ≡ firstBest beats (each (components m i) one)
+  pub swept : {start : Candidate} → (start ≡ rule 1) ⊎ (ranked beats outputs (rule 1) start ≡ true)
+      → best (ranked beats outputs) start (each visited one) ≡ firstBest beats (each ordered one)
   unfolding each
-  swept m-low i-low {start} h =
-      let masks : List ℕ = masksBelow i (2 ^ m) in
-      let t = first-masksBelow i m m-low i-low in
-      let from : best (ranked beats outputs) start (each masks one) ≡ firstBest (ranked beats outputs) (each masks one)
-      = ap (λ (l : List ℕ). best (ranked beats outputs) start (each l one)) (t .1)
-      ∙ best-from (ranked beats outputs) start (rule 1) (each (t .0) one) h
-      ∙ ap (λ (l : List ℕ). firstBest (ranked beats outputs) (each l one)) (sym (t .1)) in
-      from ∙ agrees (each masks one) (λ x y. same-test x y) (ascending-rule (λ c. c) masks (ascending-masksBelow i (2 ^ m)))
-      ∙ any-order o f (λ p. maskRank m (mask p)) (each (components m i) one) (each masks one)
-      (ascending-rule (maskRank m) (components m i) (ascending-components m i)) (each-same masks (components m i) one (same-masks m i))
+  swept {start} h =
+      let from : best (ranked beats outputs) start (each visited one) ≡ firstBest (ranked beats outputs) (each visited one)
+      = ap (λ (l : List ℕ). best (ranked beats outputs) start (each l one)) (visit .starts)
+      ∙ best-from (ranked beats outputs) start (rule 1) (each (visit .rest) one) h
+      ∙ ap (λ (l : List ℕ). firstBest (ranked beats outputs) (each l one)) (sym (visit .starts)) in
+      from ∙ agrees (each visited one) (λ x y. same-test x y) (ascending-rule (λ c. c) visited (visit .rises))
+      ∙ any-order o f (λ p. maskRank m (mask p)) (each ordered one) (each visited one)
+      (ascending-rule (maskRank m) ordered (visit .in-order)) (each-same visited ordered one (visit .same))
     where
       agrees : (cs : List Candidate) → ((x y : Candidate) → List·Memᴰ y cs → mask x < mask y → ranked beats outputs y x ≡ ranked beats (λ p. maskRank m (mask p)) y x)
           → Ascending mask cs → firstBest (ranked beats outputs) cs ≡ firstBest (ranked beats (λ p. maskRank m (mask p))) cs
@@ -116,21 +136,26 @@ module _ {f : ℕ → List Candidate} (b : Blocks f) where
   unfolding firstLargest
   largest-names = leader-names higher
 
+  -- from a figure that is higher than the first block's, the least of any masks so visited
+  pub least-visited : {m : ℕ} {visited ordered : List ℕ} → Visit m visited ordered → (start : Candidate) → firstLeast (f 1) .figure < start .figure
+      → best (ranked lower outputs) start (each visited (λ c. firstLeast (f c) ∷ [])) ≡ firstLeast (each ordered f)
+  unfolding firstLeast
+  least-visited {ordered = ordered} visit start h =
+      swept least by-least visit (record { names = leader-names lower }) (inr (ranked-wins lower outputs (firstLeast (f 1)) start (lt-ltb _ _ h)))
+      ∙ sym (first-blocks least by-least f (b .some) ordered)
+
   module _ (m i : ℕ) (m-low : 1 ≤ m) (i-low : 1 ≤ i) (start : Candidate) where
-    -- from a figure that is higher than the first block's, the least
+    -- and of the masks within the limit
     pub least-swept : firstLeast (f 1) .figure < start .figure
         → best (ranked lower outputs) start (each (masksBelow i (2 ^ m)) (λ c. firstLeast (f c) ∷ [])) ≡ firstLeast (each (components m i) f)
-    unfolding firstLeast
-    least-swept h =
-        swept least by-least m i (record { names = leader-names lower }) m-low i-low (inr (ranked-wins lower outputs (firstLeast (f 1)) start (lt-ltb _ _ h)))
-        ∙ sym (first-blocks least by-least f (b .some) (components m i))
+    least-swept h = least-visited (visit-within m i m-low i-low) start h
 
     -- from the figure 0 with the first block's witness, the largest
     pub largest-swept : start .figure ≡ 0 → (firstLargest (f 1) .figure ≡ 0 → firstLargest (f 1) ≡ start)
         → best (ranked higher outputs) start (each (masksBelow i (2 ^ m)) (λ c. firstLargest (f c) ∷ [])) ≡ firstLargest (each (components m i) f)
     unfolding firstLargest
     largest-swept z none =
-        swept largest by-largest m i (record { names = leader-names higher }) m-low i-low (from (firstLargest (f 1) .figure) refl)
+        swept largest by-largest (visit-within m i m-low i-low) (record { names = leader-names higher }) (from (firstLargest (f 1) .figure) refl)
         ∙ sym (first-blocks largest by-largest f (b .some) (components m i))
       where
         from : (k : ℕ) → firstLargest (f 1) .figure ≡ k → (start ≡ firstLargest (f 1)) ⊎ (ranked higher outputs (firstLargest (f 1)) start ≡ true)

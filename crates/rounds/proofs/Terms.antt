@@ -16,7 +16,7 @@ use Rattle.boolean.proofs.Components.{masksBelow}
 use Rattle.boolean.proofs.FirstLargest.{best-changed}
 use Rattle.boolean.proofs.Selection.{best-mem, best-takes, best-keeps, largest, by-largest}
 use Rattle.masks.specs.Masks.{Next, outputs, preferred}
-use Rattle.masks.proofs.Fewest.{swept, ranked-wins, higher-test}
+use Rattle.masks.proofs.Fewest.{visit-within, swept, ranked-wins, higher-test}
 use Rattle.masks.proofs.Walk.{Walk, walk-starts, walk-next, best-starts, best-next, best-ends}
 use Rattle.rounds.specs.Round.{Summand, inputsOf, boxes, sumNonlinearity}
 use Rattle.rounds.specs.Spectra.{peak, product, places, signAt, bySpectra, larger, factored, largestProduct}
@@ -151,7 +151,7 @@ module _ (ss : List Summand) (m i : ℕ) where
     unfolding largestProduct firstLargest
     sweep-ends h low =
         best-ends (t .walk) (ranked higher outputs) (alone ss) (foundCandidate start) h (t .so-far)
-        ∙ swept largest by-largest m i (record { names = λ c. refl }) low (t .walk .limit)
+        ∙ swept largest by-largest (visit-within m i low (t .walk .limit)) (record { names = λ c. refl })
         (inr (ranked-wins higher outputs (factored ss 1) (foundCandidate start) (lt-ltb 0 (product ss 1) (product-positive ss 1))))
 
 -- ---- the answer

@@ -1,0 +1,29 @@
+-- `satmegwo_server::satmegwo_server_ask` meets its contract: the answer's figures, or the number. Assumes nothing.
+use mathlib.Core.Path.{ap}
+use borrow.Author.Needs.{needs}
+use Rattle.satmegwo.proofs.Giving.{gives-same}
+use Rattle.satmegwo_server.specs.Exports.{standingReply}
+use Rattle.satmegwo_server.proofs.satmegwo_server_ask.Statement.{statement}
+use Rattle.satmegwo_server.proofs.satmegwo_server_ask.Tie as tie
+
+ask-requires : tie.Need-ask-requires
+ask-requires c κs = search needs
+
+give-standing-requires : tie.Need-give-standing-requires
+give-standing-requires c κs = search needs
+
+same-length : tie.Need-same-length
+same-length c = search needs
+
+returns : tie.Need-returns
+returns c =
+    let given = c .before .before in
+    let called = given .before .before in
+    let old = called .before .before .args .figures .now in (
+      λ h. gives-same old (ap standingReply (called .ask .ensures h)) (given .give-standing .ensures) .0,
+      λ h. gives-same old (ap standingReply (called .ask .ensures h)) (given .give-standing .ensures) .1,
+    )
+
+pub satmegwo-server-ask-spec : {M : Type 1} → statement M
+satmegwo-server-ask-spec =
+    tie.close (tie.spec ask-requires give-standing-requires same-length returns)

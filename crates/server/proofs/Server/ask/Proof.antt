@@ -1,0 +1,74 @@
+-- `server::Server::ask` meets its contract: what the checks found says which case it is, and then what is left to examine. Assumes nothing.
+use mathlib.Core.Path.{_≡_, sym, _∙_}
+use native.Mathlib.Omega.{arith}
+use borrow.Author.Needs.{needs}
+use Rattle.refusals.specs.Table.{first}
+use Rattle.refusals.specs.declared.Checked.the-variants.{Accepted}
+use Rattle.server.specs.Model.{heldChecks}
+use Rattle.server.specs.Calls.{state}
+use Rattle.server.proofs.Places.{held-low, held-high, sound-at, ask-refused, ask-unfinished, ask-finished}
+use Rattle.server.proofs.Server.ask.Statement.{statement}
+use Rattle.server.proofs.Server.ask.Tie as tie
+
+check-held-requires : tie.Need-check-held-requires
+check-held-requires c κs = search needs
+
+enum-known-e : tie.Need-enum-known-e
+enum-known-e c = search needs
+
+returns : tie.Need-returns
+returns c h =
+    let p = c .before .before .before in
+    ask-refused (state (p .before .args .t1)) (p .before .args .place) (sym (p .check-held .ensures) ∙ c .before .e .given .1)
+
+enum-told : tie.Need-enum-told
+enum-told c = search needs
+
+accepted : (c : tie.After-enum-told) →
+    let a = c .before .before .before .args in
+    first (heldChecks (state (a .t1)) (a .place)) ≡ Accepted
+accepted c = sym (c .before .before .check-held .ensures) ∙ c .enum-told .given .1
+
+sub-i : tie.Need-sub-i
+sub-i c = held-low _ _ (accepted c)
+
+cast-i : tie.Need-cast-i
+cast-i c = search needs
+
+mul-asked : tie.Need-mul-asked
+mul-asked c = search needs
+
+element-copy-out-asked : tie.Need-element-copy-out-asked
+element-copy-out-asked c = let a = c .before .before .before .args in omega (arith, held-low (a .t1) (a .place) (accepted c), held-high (a .t1) (a .place) (accepted c))
+
+unfinished-requires : tie.Need-unfinished-requires
+unfinished-requires c κs = search needs
+
+returns-2 : tie.Need-returns-2
+returns-2 c h =
+    let told = c .before .before .before in
+    let a = told .before .before .before .args in
+    ask-unfinished (a .t1) (a .place) (accepted told) (sym (c .before .unfinished .ensures (sound-at (a .t1 .places) _ h)) ∙ c .if1 .taken)
+
+returns-3 : tie.Need-returns-3
+returns-3 c h =
+    let test = c .before .before in
+    let told = test .before .before in
+    let a = told .before .before .before .args in
+    ask-finished (a .t1) (a .place) (accepted told) h (sym (test .unfinished .ensures (sound-at (a .t1 .places) _ h)) ∙ c .before .if1 .left)
+
+pub ask-spec : {M : Type 1} → statement M
+ask-spec =
+    tie.close
+    (tie.spec
+    check-held-requires
+    enum-known-e
+    returns
+    enum-told
+    sub-i
+    cast-i
+    mul-asked
+    element-copy-out-asked
+    unfinished-requires
+    returns-2
+    returns-3)

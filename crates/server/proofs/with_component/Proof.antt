@@ -1,0 +1,66 @@
+-- `server::with_component` meets its contract: an accepted box, and arrays that are as long. Assumes nothing.
+use mathlib.Core.List.{[]}
+use mathlib.Core.Path.{_∙_, sym}
+use borrow.Author.Needs.{needs}
+use lib.Seq.{length-take-le}
+use Rattle.refusals.specs.Table.{Box}
+use Rattle.refusals.proofs.Checks.{box, box-accepted}
+use Rattle.server.proofs.Boxes.{not-both}
+use Rattle.server.proofs.with_component.Statement.{statement}
+use Rattle.server.proofs.with_component.Tie as tie
+
+check-box-requires : tie.Need-check-box-requires
+check-box-requires c κs = search needs
+
+enum-told : tie.Need-enum-told
+enum-told c = search needs
+
+returns : tie.Need-returns
+returns c b =
+    let p = c .before .before in
+    let a = p .before .before .args in
+    absurd (not-both (sym (p .check-box .ensures) ∙ c .enum-told .given .1) (box-accepted (a .n) (a .m) (a .rows .now) b))
+
+enum-told-2 : tie.Need-enum-told-2
+enum-told-2 c = search needs
+
+boxed : (c : tie.After-enum-told2) → let a = c .before .before .before .before .args in Box (a .n) (a .m) (a .rows .now)
+boxed c = let a = c .before .before .before .before .args in box (a .n) (a .m) (a .rows .now) [] (sym (c .before .before .check-box .ensures) ∙ c .enum-told2 .given .1)
+
+array-borrow-prefix-table : tie.Need-array-borrow-prefix-table
+array-borrow-prefix-table c = boxed c .small
+
+slice-aggregate-with-arrays : tie.Need-slice-aggregate-with-arrays
+slice-aggregate-with-arrays c = sym (length-take-le _ _ (boxed (c .before) .small))
+
+array-borrow-prefix-values : tie.Need-array-borrow-prefix-values
+array-borrow-prefix-values c = boxed (c .before) .small
+
+slice-aggregate-with-arrays-2 : tie.Need-slice-aggregate-with-arrays-2
+slice-aggregate-with-arrays-2 c = sym (length-take-le _ _ (boxed (c .before .before) .small))
+
+with-arrays-requires : tie.Need-with-arrays-requires
+with-arrays-requires c κs =
+    let told = c .before .before in
+    let b = boxed told in (
+      record { box = b; table-size = length-take-le _ _ (b .small) ∙ b .size; out-size = length-take-le _ _ (b .small) ∙ b .size },
+      told .before .before .before .before .pre,
+    )
+
+returns-2 : tie.Need-returns-2
+returns-2 c = search needs
+
+pub with-component-spec : {M : Type 1} → statement M
+with-component-spec =
+    tie.close
+    (tie.spec
+    check-box-requires
+    enum-told
+    returns
+    enum-told-2
+    array-borrow-prefix-table
+    slice-aggregate-with-arrays
+    array-borrow-prefix-values
+    slice-aggregate-with-arrays-2
+    with-arrays-requires
+    returns-2)

@@ -1,0 +1,361 @@
+// The evaluation server: up to eight boxes under analysis for their nonlinearity, one combination a step.
+use linear::Found;
+use refusals::Checked;
+use refusals::Refusal;
+use refusals::Written;
+ghost use mathlib.Core.Path.{_≡_};
+ghost use mathlib.Core.List.{[], _∷_};
+ghost use Prim.Native.Nat.{_≤_, _<_};
+ghost use lib.ListN.{length, take};
+ghost use Rattle.boolean.specs.Selection.{best, lower, firstLeast, ranked};
+ghost use Rattle.refusals.specs.Table.{Box, first, replyAfter, written};
+ghost use Rattle.walsh.specs.Work.{Spectra};
+ghost use Rattle.masks.specs.Masks.{outputs};
+ghost use Rattle.linear.specs.Nonlinearity.{pairsOf};
+ghost use Rattle.linear.specs.Calls.{candidate, Swept};
+ghost use Rattle.server.specs.Model as model;
+ghost use Rattle.server.specs.Calls.{spot, state, answered, Sound, SoundPlace, Unexamined, Examined};
+
+// A place: a box with the number of its combinations that were examined and the best pair among exactly those, or, where `taken` is not 1, none. A
+// caller in C may hand in any number, so it is no bool.
+#[repr(C)]
+pub struct Place {
+    pub taken: u32,
+    pub n: u32,
+    pub m: u32,
+    pub rows: [u32; 256],
+    pub examined: u32,
+    pub found: Found,
+}
+
+// The eight places, and the one last served: 0 before the first step.
+#[repr(C)]
+pub struct Server {
+    pub places: [Place; 8],
+    pub last: u32,
+}
+
+// The server after a call, with the call's answer.
+pub struct Served {
+    pub server: Server,
+    pub answer: Written,
+}
+
+// The answer of asking.
+pub enum Asked {
+    Unfinished,
+    Finished { count: u32, c: u32, w: u32, b: u32 },
+    Declined(Refusal),
+}
+
+// An empty place.
+fn vacant() -> Place
+    ensures { λ r. ⌜ (r .taken ≡ 1 → ⊥) ⌝ }
+{
+    let found = Found {
+        count: 0,
+        c: 0,
+        w: 0,
+        b: 0,
+    };
+    let none = 0;
+    let rows = [0u32; 256];
+    Place {
+        taken: none,
+        n: none,
+        m: none,
+        rows,
+        examined: none,
+        found,
+    }
+}
+
+// Whether a box stands there of which a combination is left.
+fn unfinished(p: Place) -> bool
+    ensures { λ r. ⌜ (SoundPlace p → r ≡ model.unfinished (spot p)) ⌝ }
+{
+    if p.taken != 1 {
+        return false;
+    }
+    let m = p.m;
+    if 16 < m {
+        return false;
+    }
+    let masks = boolean::power_of_two(m) as u32;
+    p.examined < masks - 1
+}
+
+// The rows of a box, in an array for the most rows that a box has.
+fn padded(rows: &[u32]) -> [u32; 256]
+    requires { ⌜ length (now rows) ≤ 256 ⌝ }
+    ensures { λ r. ⌜ take (length (now (rows .entry))) r ≡ now (rows .entry) ⌝ }
+{
+    let mut out = [0u32; 256];
+    let mut i = 0;
+    while i < rows.len() {
+        out[i] = rows[i];
+        i += 1;
+    }
+    out
+}
+
+// A box of which no combination was examined, with a count that no pair has.
+fn fresh(n: u32, m: u32, rows: &[u32]) -> Place
+    requires { ⌜ Box n m (now rows) × (m ≤ 16) ⌝ }
+    ensures { λ r. ⌜ SoundPlace r × (spot r ≡ model.holds (model.analysis n m (now (rows .entry)) 0)) ⌝ }
+{
+    let found = Found {
+        count: rows.len() as u32 + 1,
+        c: 0,
+        w: 0,
+        b: 0,
+    };
+    let kept = padded(rows);
+    Place {
+        taken: 1,
+        n,
+        m,
+        rows: kept,
+        examined: 0,
+        found,
+    }
+}
+
+// The best pair so far, or the first nearest pair of component c, in arrays that are lent.
+fn with_arrays(
+    found: Found,
+    fixed: &[i32; 2048],
+    n: u32,
+    m: u32,
+    rows: &[u32],
+    c: u32,
+    table: &mut [u8],
+    values: &mut [i32],
+) -> Found
+    requires { ⌜ Swept n m (now rows) (now table) (now values) × Spectra (now fixed) ⌝ }
+    ensures { λ r. ⌜ candidate r ≡ best (ranked lower outputs) (candidate found) (firstLeast (pairsOf n (now (rows .entry)) c) ∷ []) ⌝ }
+{
+    linear::component_spectrum(fixed, n, m, rows, c, table, values);
+    linear::with_spectrum(found, n, m, rows, c, values)
+}
+
+// The best pair so far, or the first nearest pair of component c. What is no box is left alone: a server that was not made by its calls may hold anything.
+fn with_component(fixed: &[i32; 2048], found: Found, n: u32, m: u32, rows: &[u32], c: u32) -> Found
+    requires { ⌜ Spectra (now fixed) ⌝ }
+    ensures { λ r. ⌜ (Box n m (now (rows .entry)) → candidate r ≡ best (ranked lower outputs) (candidate found) (firstLeast (pairsOf n (now (rows .entry)) c) ∷ [])) ⌝ }
+{
+    if let Checked::Refused(_) = refusals::check_box(n, m, rows) {
+        return found;
+    }
+    let mut table = [0u8; 256];
+    let mut values = [0i32; 256];
+    let size = rows.len();
+    with_arrays(
+        found,
+        fixed,
+        n,
+        m,
+        rows,
+        c,
+        &mut table[..size],
+        &mut values[..size],
+    )
+}
+
+// The next combination of an unfinished box is examined.
+fn examine(fixed: &[i32; 2048], p: Place) -> Place
+    requires { ⌜ Spectra (now fixed) ⌝ }
+    ensures { λ r. ⌜ (Unexamined p → Examined p r) ⌝ }
+{
+    let n = p.n;
+    let k = p.examined;
+    if 8 < n {
+        return p;
+    }
+    if 65535 <= k {
+        return p;
+    }
+    let m = p.m;
+    let rows = p.rows;
+    let old = p.found;
+    let all = &rows[..];
+    let size = boolean::power_of_two(n);
+    if all.len() < size {
+        return p;
+    }
+    let found = with_component(fixed, old, n, m, &all[..size], k + 1);
+    Place {
+        taken: 1,
+        n,
+        m,
+        rows,
+        examined: k + 1,
+        found,
+    }
+}
+
+impl Server {
+    // No box on any place.
+    pub fn begin() -> Self
+        ensures { λ r. ⌜ Sound r × (state r ≡ model.start) ⌝ }
+    {
+        let none = vacant();
+        let places = [none; 8];
+        Server { places, last: 0 }
+    }
+
+    // The checks of asking and withdrawing: a place of the server, and a box on it.
+    fn check_held(self, place: u32) -> Checked
+        ensures { λ r. ⌜ r ≡ first (model.heldChecks (state self) place) ⌝ }
+    {
+        if !refusals::in_range(1, 8, place) {
+            return Checked::Refused(Refusal::NoPlace);
+        }
+        let i = (place - 1) as usize;
+        let here = self.places[i];
+        if here.taken != 1 {
+            return Checked::Refused(Refusal::PlaceState);
+        }
+        Checked::Accepted
+    }
+
+    // Whether a box is finished, and its nonlinearity with the first pair that reaches it.
+    pub fn ask(self, place: u32) -> Asked
+        ensures { λ r. ⌜ (Sound self → answered r ≡ model.ask (state self) place) ⌝ }
+    {
+        if let Checked::Refused(e) = self.check_held(place) {
+            return Asked::Declined(e);
+        }
+        let i = (place - 1) as usize;
+        let asked = self.places[i];
+        if unfinished(asked) {
+            return Asked::Unfinished;
+        }
+        let found = asked.found;
+        Asked::Finished {
+            count: found.count,
+            c: found.c,
+            w: found.w,
+            b: found.b,
+        }
+    }
+
+    // Takes the box off a place.
+    pub fn withdraw(self, place: u32) -> Served
+        ensures kept { λ r. ⌜ (Sound self → Sound (r .server)) ⌝ }
+        ensures reply { λ r. ⌜ written (r .answer) ≡ replyAfter (first (model.heldChecks (state self) place)) [] ⌝ }
+        ensures content { λ r. ⌜ state (r .server) ≡ model.withdraw (state self) place ⌝ }
+    {
+        if let Checked::Refused(reason) = self.check_held(place) {
+            return Served {
+                server: self,
+                answer: Written::Declined(reason),
+            };
+        }
+        let i = (place - 1) as usize;
+        let mut cleared = self;
+        cleared.places[i] = vacant();
+        Served {
+            server: cleared,
+            answer: Written::Done,
+        }
+    }
+
+    // The checks of putting: a place of the server, no box on it, and a box.
+    fn check_put(self, place: u32, n: u32, m: u32, rows: &[u32]) -> Checked
+        ensures { λ r. ⌜ r ≡ first (model.putChecks (state self) place n m (now (rows .entry))) ⌝ }
+    {
+        if !refusals::in_range(1, 8, place) {
+            return Checked::Refused(Refusal::NoPlace);
+        }
+        let i = (place - 1) as usize;
+        let here = self.places[i];
+        if here.taken == 1 {
+            return Checked::Refused(Refusal::PlaceState);
+        }
+        refusals::check_box_up_to(16, n, m, rows)
+    }
+
+    // Puts a box on a place. No combination of it is examined yet.
+    pub fn put(self, place: u32, n: u32, m: u32, rows: &[u32]) -> Served
+        ensures kept { λ r. ⌜ (Sound self → Sound (r .server)) ⌝ }
+        ensures reply { λ r. ⌜ written (r .answer) ≡ replyAfter (first (model.putChecks (state self) place n m (now (rows .entry)))) [] ⌝ }
+        ensures content { λ r. ⌜ state (r .server) ≡ model.put (state self) place n m (now (rows .entry)) ⌝ }
+    {
+        if let Checked::Refused(e) = self.check_put(place, n, m, rows) {
+            return Served {
+                server: self,
+                answer: Written::Declined(e),
+            };
+        }
+        let i = (place - 1) as usize;
+        let mut filled = self;
+        filled.places[i] = fresh(n, m, rows);
+        Served {
+            server: filled,
+            answer: Written::Done,
+        }
+    }
+
+    // The next place after the one last served, in a circle, whose box is unfinished, and 0 where there is none.
+    fn next_place(self) -> u32
+        ensures { λ r. ⌜ (r ≤ 8) × (Sound self → r ≡ model.served (state self)) ⌝ }
+    {
+        let start = self.last % 8;
+        let mut k = 0;
+        while k < 8 {
+            let i = (start + k) % 8;
+            let j = i as usize;
+            let here = self.places[j];
+            if unfinished(here) {
+                return i + 1;
+            }
+            k += 1;
+        }
+        0
+    }
+
+    // Examines one combination of the box on a place, whose turn it is.
+    fn serve(self, fixed: &[i32; 2048], place: u32) -> Self
+        requires { ⌜ Spectra (now fixed) × (0 < place) × (place ≤ 8) ⌝ }
+        ensures { λ r. ⌜ (Sound self → place ≡ model.served (state self) → Sound r × (state r ≡ model.step (state self))) ⌝ }
+    {
+        let before = place - 1;
+        let i = before as usize;
+        let here = self.places[i];
+        let mut server = self;
+        server.places[i] = examine(fixed, here);
+        server.last = place;
+        server
+    }
+
+    // Examines one combination, not examined before, of the next unfinished box; with none unfinished it does nothing.
+    pub fn step(self) -> Self
+        ensures { λ r. ⌜ (Sound self → Sound r × (state r ≡ model.step (state self))) ⌝ }
+    {
+        let turn = self.next_place();
+        if turn == 0 {
+            return self;
+        }
+        let fixed = walsh::spectra();
+        self.serve(&fixed, turn)
+    }
+
+    // So many steps, one after the other. It stops where none is unfinished, since a step then does nothing.
+    pub fn run(self, budget: u32) -> Self
+        ensures { λ r. ⌜ (Sound self → Sound r × (state r ≡ model.run (state self) budget)) ⌝ }
+    {
+        let fixed = walsh::spectra();
+        let mut server = self;
+        let mut done = 0;
+        while done < budget {
+            let place = server.next_place();
+            if place == 0 {
+                return server;
+            }
+            server = server.serve(&fixed, place);
+            done += 1;
+        }
+        server
+    }
+}

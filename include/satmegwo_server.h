@@ -1,0 +1,83 @@
+/* Satmegwo's evaluation server: up to eight boxes under analysis for their nonlinearity,
+ * one combination a step. The words "box", "combination" and "first" are those of
+ * satmegwo.h, and so are the numbers of the refusals.
+ *
+ * A server is a value: it goes into a call and comes out of it, and the library keeps
+ * nothing of it. It begins empty. Its places are 1 to 8.
+ *
+ * A STEP examines one combination, not examined before, of the next unfinished box after
+ * the place last served, in a circle, from place 1 at the start; with none unfinished it
+ * does nothing. A box that is not withdrawn is finished within 8 x (2^m - 1) steps of being
+ * put there, whatever is called for other places, and then has the figure and the witness
+ * that satmegwo_nonlinearity gives with the limit m.
+ *
+ * A server that anything but these calls has made or changed gets a free answer, but no
+ * call reads or writes outside of it: it may hold any bytes.
+ *
+ * Refusals: 18 the place is not 1 to 8; then 19 it is taken (on putting) or empty (on asking
+ * and withdrawing); then those of a box, where 2 means that m is not 1 to 16. A refused call
+ * hands the server back as it was.
+ */
+#ifndef SATMEGWO_SERVER_H
+#define SATMEGWO_SERVER_H
+#include <stddef.h>
+#include <stdint.h>
+
+#ifdef __cplusplus
+extern "C" {
+#endif
+
+/* A place: a box where `taken` is 1, and else none. Of the box it holds the widths and rows,
+ * how many combinations were examined (1, 2, 3 and so on, as many as this says), and the
+ * least count among exactly those with its first witness. */
+struct satmegwo_place {
+    uint32_t taken, n, m;
+    uint32_t rows[256];
+    uint32_t examined;
+    uint32_t count, c, w, b;
+};
+
+struct satmegwo_server {
+    struct satmegwo_place places[8];
+    uint32_t last; /* the place last served; 0 at the start */
+};
+
+/* The server after a call that may be refused, and 0 or the number of the refusal. */
+struct satmegwo_server_outcome {
+    struct satmegwo_server server;
+    uint32_t status;
+};
+
+/* STACK. Measured as for satmegwo.h (examples/stack.c): a call needs at most this many bytes,
+ * among them the servers that the caller hands in and gets back by value. */
+#define SATMEGWO_SERVER_STACK 60000u
+
+/* An empty server. */
+struct satmegwo_server satmegwo_server_begin(void);
+
+/* Puts a box on a place. Putting examines no combination.
+ *   rows  read, 2^n elements below 2^m
+ * Refusals: 18, 19, 1, 2, 3, 4. */
+struct satmegwo_server_outcome satmegwo_server_put(struct satmegwo_server server, uint32_t place, uint32_t n, uint32_t m, const uint32_t *rows, size_t rows_len);
+
+/* Takes the box off a place, finished or not: the place is empty again.
+ * Refusals: 18, 19. */
+struct satmegwo_server_outcome satmegwo_server_withdraw(struct satmegwo_server server, uint32_t place);
+
+/* One step. */
+struct satmegwo_server satmegwo_server_step(struct satmegwo_server server);
+
+/* So many steps, one after the other; it returns early where no box is unfinished. */
+struct satmegwo_server satmegwo_server_run(struct satmegwo_server server, uint32_t budget);
+
+/* What stands on a place. A finished box keeps its result until it is withdrawn.
+ *   figures  written, 5 elements: 1, the nonlinearity over all combinations, c, w and b of
+ *            its first witness; or five zeros until all combinations were examined
+ * Returns 0 or the number of a refusal.
+ * Refusals: 18, 19, 7. */
+uint32_t satmegwo_server_ask(struct satmegwo_server server, uint32_t place, uint32_t *figures, size_t figures_len);
+
+#ifdef __cplusplus
+}
+#endif
+#endif
