@@ -78,18 +78,6 @@ fn write_bits(words: &[u32], out: &mut [u8])
     }
 }
 
-// The rows, copied to the words that the transform works on.
-fn copy(rows: &[u32], words: &mut [u32])
-    requires { ⌜ length (now words) ≡ length (now rows) ⌝ }
-    ensures { λ _. ⌜ now (words .exit) ≡ now (rows .entry) ⌝ }
-{
-    let mut x = 0;
-    while x < rows.len() {
-        words[x] = rows[x];
-        x += 1;
-    }
-}
-
 // The lower half is XORed to the upper half, and stays.
 fn add_lower_half(values: &mut [u32], h: usize)
     requires { ⌜ length (now values) ≡ h + h ⌝ }
@@ -329,7 +317,7 @@ fn weakest_of(n: u32, m: u32, rows: &[u32], i: u32, words: &mut [u32], inputs: &
     requires { ⌜ Box n m (now rows) × (1 ≤ i) × (length (now words) ≡ 2 ^ n) × (length (now inputs) ≡ 256) ⌝ }
     ensures { λ r. ⌜ candidate r ≡ boxDegree n m (now (rows .entry)) i ⌝ }
 {
-    copy(rows, words);
+    boolean::copy(rows, words);
     moebius(n, words);
     let count = gather(m, words, inputs);
     sweep(n, m, words, i, inputs, count)

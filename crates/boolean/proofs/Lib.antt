@@ -39,3 +39,4 @@ pub mod NormalForm
 pub mod Degrees
 pub mod AffineForms
 pub mod Shifts
+pub mod Swapped

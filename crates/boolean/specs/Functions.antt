@@ -7,7 +7,7 @@ use mathlib.Core.List.{List, [], _∷_}
 use lib.Bits.{bitAnd, bitXor}
 use lib.Count.{ones}
 use lib.Dec.{eqb}
-use lib.ListN.{getD}
+use lib.ListN.{getD, set}
 use lib.IntN.{ℤ, pos, negsuc, _-ℤ_, _*ℤ_, negℤ, natAbs}
 use Rattle.boolean.specs.Bits.{parity, dot, affine, bit, within}
 use Rattle.boolean.specs.Sums.{sumBelow, countBelow, xorBelow, largestBelow, listFrom, listBelow, each, keep}
@@ -19,6 +19,10 @@ Boolean n f = (x : ℕ) → x < 2 ^ n → f x < 2
 -- a truth table, or the rows of a box, as a function: the entry at x
 abbrev pub at : List ℕ → ℕ → ℕ
 at table x = getD table x 0
+
+-- the rows with those at x and y exchanged
+unfoldable pub swapped : List ℕ → ℕ → ℕ → List ℕ
+swapped rows x y = set (set rows x (at rows y)) y (at rows x)
 
 -- the same of a list of integers
 abbrev pub valueAt : List ℤ → ℕ → ℤ

@@ -1,7 +1,8 @@
-// Boolean functions: the inner product and powers of two. The definitions are in specs/, their laws in proofs/.
+// Boolean functions: the inner product, powers of two and copies of rows. The definitions are in specs/, their laws in proofs/.
 ghost use mathlib.Core.Path.{_≡_};
 ghost use Prim.Native.Nat.{_^_, _≤_, _<_};
 ghost use lib.IntN.{natAbs};
+ghost use lib.ListN.{length};
 ghost use Rattle.boolean.specs.Bits as bits;
 ghost use Rattle.boolean.specs.Functions.{signBit};
 
@@ -37,4 +38,16 @@ pub fn sign_bit(v: i32) -> u8
     ensures { λ r. ⌜ r ≡ signBit v ⌝ }
 {
     if v < 0 { 1 } else { 0 }
+}
+
+// A copy of rows, or of other numbers.
+pub fn copy(rows: &[u32], out: &mut [u32])
+    requires { ⌜ length (now out) ≡ length (now rows) ⌝ }
+    ensures { λ _. ⌜ now (out .exit) ≡ now (rows .entry) ⌝ }
+{
+    let mut x = 0;
+    while x < rows.len() {
+        out[x] = rows[x];
+        x += 1;
+    }
 }

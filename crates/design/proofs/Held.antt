@@ -9,7 +9,7 @@ use lib.ListN.{length, getD, set, take, length-take, replicate}
 use lib.Pow.{pow-mono}
 use lib.Seq.{take-set-lt, getD-take, length-take-le, take-append-seam}
 use Rattle.boolean.specs.Sums.{listBelow, listFrom}
-use Rattle.boolean.specs.Functions.{at}
+use Rattle.boolean.specs.Functions.{at, swapped}
 use Rattle.refusals.specs.Table.{first, boxChecks, refusal, figures, replyAfter, contentAfter}
 use Rattle.refusals.specs.declared.Refusal.{Refusal}
 use Rattle.refusals.specs.declared.Refusal.the-variants.{WrittenLength}
@@ -20,7 +20,7 @@ use Rattle.columns.specs.Addition.{addedRows, additionChecks}
 use Rattle.columns.proofs.Additions.{length-added}
 use Rattle.design.specs.declared.Snapshot.{Snapshot}
 use Rattle.design.specs.declared.Design.{Design}
-use Rattle.design.specs.Model.{Mark, unset, keeps, begun, begin, markAt, isSet, rowsKept, withRows, withMark, swapped, swapChecks, addChecks, markChecks, returnChecks, readChecks, swap, add, mark, returnTo, SoundState}
+use Rattle.design.specs.Model.{Mark, unset, keeps, begun, begin, markAt, isSet, rowsKept, withRows, withMark, swapChecks, addChecks, markChecks, returnChecks, readChecks, swap, add, mark, returnTo, SoundState}
 use Rattle.design.specs.Calls.{markOf, markHeld, marksHeld, rowsOf, state, Sound}
 use Rattle.design.proofs.Operations.{taken-over, left-alone, declined-leaves, done-accepted, same-checks, swap-in, sound-begun, sound-swap, sound-add, sound-mark, sound-return}
 
@@ -90,13 +90,13 @@ module _ (n m : ℕ) (rows : List ℕ) (v : Snapshot) (e : v .taken ≡ 0) where
 module _ (d : Design) (x y : ℕ) where
   pub swap-declined : {e : Refusal} → first (swapChecks (state d) x y) ≡ Refused e → state d ≡ swap (state d) x y
   unfolding swap
-  swap-declined h = left-alone (withRows (state d) (swapped x y (state d .rows))) (state d) h
+  swap-declined h = left-alone (withRows (state d) (swapped (state d .rows) x y)) (state d) h
 
   abbrev exchanged : Design
   exchanged = record { n = d .n; m = d .m; rows = set (set (d .rows) x (at (d .rows) y)) y (at (d .rows) x); marks = d .marks }
 
   module _ (lx : x < 2 ^ d .n) (ly : y < 2 ^ d .n) where
-    exchanged-rows : take (2 ^ d .n) (set (set (d .rows) x (at (d .rows) y)) y (at (d .rows) x)) ≡ swapped x y (take (2 ^ d .n) (d .rows))
+    exchanged-rows : take (2 ^ d .n) (set (set (d .rows) x (at (d .rows) y)) y (at (d .rows) x)) ≡ swapped (take (2 ^ d .n) (d .rows)) x y
     unfolding swapped
     exchanged-rows =
         take-set-lt (2 ^ d .n) (set (d .rows) x (at (d .rows) y)) y (at (d .rows) x) ly
@@ -112,7 +112,7 @@ module _ (d : Design) (x y : ℕ) where
     unfolding swap state
     swap-done =
         ap (λ (r : List ℕ). record { n = d .n; m = d .m; rows = r; marks = marksHeld (d .n) (d .marks) }) exchanged-rows
-        ∙ taken-over (withRows (state d) (swapped x y (state d .rows))) (state d) swap-passes
+        ∙ taken-over (withRows (state d) (swapped (state d .rows) x y)) (state d) swap-passes
 
     pub swap-sound : Sound d → Sound exchanged
     swap-sound s = subst SoundState (sym swap-done) (sound-swap (state d) s x y)

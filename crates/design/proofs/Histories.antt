@@ -12,17 +12,18 @@ use lib.Dec.{eqb}
 use lib.ListN.{length, getD}
 use lib.Seq.{getD-set-same, getD-set-other, ext-getD}
 use Rattle.boolean.specs.Sums.{listBelow, listFrom}
-use Rattle.boolean.specs.Functions.{at}
+use Rattle.boolean.specs.Functions.{at, swapped}
 use Rattle.refusals.specs.Table.{first, inRange, Box, boxChecks, contentAfter}
 use Rattle.refusals.specs.declared.Refusal.the-variants.{Parameter, UnsetMark}
 use Rattle.refusals.specs.declared.Checked.{Checked}
 use Rattle.refusals.specs.declared.Checked.the-variants.{Accepted, Refused}
 use Rattle.refusals.proofs.Checks.{passed, found, skip, stop, end, box-accepted}
 use Rattle.refusals.proofs.Bounds.{range-low, range-true}
-use Rattle.design.specs.Model.{Mark, unset, keeps, State, begun, markAt, isSet, rowsKept, withRows, withMark, swapped, swapChecks, addChecks, markChecks, returnChecks, stateAfter, swap, add, mark, returnTo, SoundState}
+use Rattle.design.specs.Model.{Mark, unset, keeps, State, begun, markAt, isSet, rowsKept, withRows, withMark, swapChecks, addChecks, markChecks, returnChecks, stateAfter, swap, add, mark, returnTo, SoundState}
 use Rattle.design.specs.Statements.{Operation, swaps, adds, sets, returns, after, run, leaves, onlySwaps, givenBy, LastSet}
 use Rattle.columns.specs.Addition.{addedRows, additionChecked, standing}
-use Rattle.design.proofs.Rows.{length-swapped, swapped-first, swapped-second, swapped-other, times-swapped}
+use Rattle.boolean.proofs.Swapped.{length-swapped, swapped-first, swapped-second, swapped-other}
+use Rattle.design.proofs.Rows.{times-swapped}
 use Rattle.design.proofs.Operations.{after-cases, not-both, same-checks, sound-begun, sound-swap, sound-after}
 
 pub run-append : (s : State) (xs ys : List Operation) → run s (xs ++ ys) ≡ run (run s xs) ys
@@ -42,7 +43,7 @@ box-stays s t os = box-accepted (run s os .n) (run s os .m) (run s os .rows) (so
 -- ---- the widths stay
 widths-after : (s : State) (o : Operation) → (after s o .n ≡ s .n) × (after s o .m ≡ s .m)
 unfolding after swap add mark returnTo
-widths-after s (swaps x y) = after-cases (first (swapChecks s x y)) (withRows s (swapped x y (s .rows))) s (λ r. (r .n ≡ s .n) × (r .m ≡ s .m)) (λ h. (refl, refl)) (refl, refl)
+widths-after s (swaps x y) = after-cases (first (swapChecks s x y)) (withRows s (swapped (s .rows) x y)) s (λ r. (r .n ≡ s .n) × (r .m ≡ s .m)) (λ h. (refl, refl)) (refl, refl)
 widths-after s (adds j w b) = after-cases (first (addChecks s j w b)) (withRows s (addedRows j w b (s .rows))) s (λ r. (r .n ≡ s .n) × (r .m ≡ s .m)) (λ h. (refl, refl)) (refl, refl)
 widths-after s (sets k) = after-cases (first (markChecks k)) (withMark s k (keeps (s .rows))) s (λ r. (r .n ≡ s .n) × (r .m ≡ s .m)) (λ h. (refl, refl)) (refl, refl)
 widths-after s (returns k) = after-cases (first (returnChecks s k)) (withRows s (rowsKept (markAt s k) (s .rows))) s (λ r. (r .n ≡ s .n) × (r .m ≡ s .m)) (λ h. (refl, refl)) (refl, refl)
@@ -58,7 +59,7 @@ widths-stay s (o ∷ os) =
 -- ---- all marks remain, in a swap, an addition and a return
 pub marks-remain-swap : (s : State) (x y : ℕ) → swap s x y .marks ≡ s .marks
 unfolding swap
-marks-remain-swap s x y = after-cases (first (swapChecks s x y)) (withRows s (swapped x y (s .rows))) s (λ r. r .marks ≡ s .marks) (λ h. refl) refl
+marks-remain-swap s x y = after-cases (first (swapChecks s x y)) (withRows s (swapped (s .rows) x y)) s (λ r. r .marks ≡ s .marks) (λ h. refl) refl
 
 pub marks-remain-add : (s : State) (j w b : ℕ) → add s j w b .marks ≡ s .marks
 unfolding add
@@ -143,7 +144,7 @@ module _ (k : ℕ) (low : 1 ≤ k) where
 swap-gives : (s : State) → SoundState s → (x y v : ℕ) → givenBy (swap s x y) v ≡ givenBy s v
 unfolding swap givenBy swapChecks
 swap-gives s t x y v =
-    after-cases (first (swapChecks s x y)) (withRows s (swapped x y (s .rows))) s (λ r. givenBy r v ≡ givenBy s v)
+    after-cases (first (swapChecks s x y)) (withRows s (swapped (s .rows) x y)) s (λ r. givenBy r v ≡ givenBy s v)
     (λ h.
     let p = passed (swapChecks s x y) h in
     times-swapped v x y (s .rows) (2 ^ s .n) (t .box .size) (ltb-true x (2 ^ s .n) (p .0)) (ltb-true y (2 ^ s .n) (p .1 .0))) refl
@@ -157,12 +158,12 @@ swaps-give s t (sets k ∷ os) h v = cc
 swaps-give s t (returns k ∷ os) h v = cc
 
 -- ---- a swap of an input with itself, or of two equal rows, is accepted and changes nothing
-pub same-rows : (x y : ℕ) (rows : List ℕ) → x < length rows → y < length rows → at rows x ≡ at rows y → swapped x y rows ≡ rows
-same-rows x y rows lx ly e = ext-getD 0 (swapped x y rows) rows (length-swapped x y rows) (λ k l. pick k (ℕ-discrete k x) (ℕ-discrete k y))
+pub same-rows : (x y : ℕ) (rows : List ℕ) → x < length rows → y < length rows → at rows x ≡ at rows y → swapped rows x y ≡ rows
+same-rows x y rows lx ly e = ext-getD 0 (swapped rows x y) rows (length-swapped x y rows) (λ k l. pick k (ℕ-discrete k x) (ℕ-discrete k y))
   where
-    pick : (k : ℕ) → Dec (k ≡ x) → Dec (k ≡ y) → at (swapped x y rows) k ≡ at rows k
-    pick k (yes p) d = ap (at (swapped x y rows)) p ∙ swapped-first x y rows lx ∙ sym e ∙ ap (at rows) (sym p)
-    pick k (no p) (yes q) = ap (at (swapped x y rows)) q ∙ swapped-second x y rows ly ∙ e ∙ ap (at rows) (sym q)
+    pick : (k : ℕ) → Dec (k ≡ x) → Dec (k ≡ y) → at (swapped rows x y) k ≡ at rows k
+    pick k (yes p) d = ap (at (swapped rows x y)) p ∙ swapped-first x y rows lx ∙ sym e ∙ ap (at rows) (sym p)
+    pick k (no p) (yes q) = ap (at (swapped rows x y)) q ∙ swapped-second x y rows ly ∙ e ∙ ap (at rows) (sym q)
     pick k (no p) (no q) = swapped-other x y rows k p q
 
 -- ---- add has the outcome of column addition

@@ -7,6 +7,7 @@ use native.Mathlib.Omega.{arith}
 use borrow.Author.Tests.{ltb-true, lt-ltb, le-ltb, eq-eqb}
 use lib.Dec.{ltb, eqb}
 use lib.ListN.{getD, set, length-set}
+use Rattle.boolean.specs.Functions.{swapped}
 use Rattle.boolean.specs.Sums.{listBelow, listFrom}
 use Rattle.refusals.specs.Table.{Check, _unless_, first, inRange, boxChecks, Box, refusal, figures, replyAfter}
 use Rattle.refusals.specs.declared.Refusal.{Refusal}
@@ -17,9 +18,9 @@ use Rattle.refusals.proofs.Checks.{passed, found, first-append, box-accepted, s
 use Rattle.refusals.proofs.Bounds.{range-low, range-high}
 use Rattle.columns.specs.Addition.{addedRows, additionChecks}
 use Rattle.columns.proofs.Additions.{Fits, addition-keeps-box}
-use Rattle.design.specs.Model.{Mark, unset, keeps, State, begun, markAt, rowsKept, withRows, withMark, swapped, swapChecks, addChecks, markChecks, returnChecks, stateAfter, swap, add, mark, returnTo, SoundMark, SoundMarks, SoundState}
+use Rattle.design.specs.Model.{Mark, unset, keeps, State, begun, markAt, rowsKept, withRows, withMark, swapChecks, addChecks, markChecks, returnChecks, stateAfter, swap, add, mark, returnTo, SoundMark, SoundMarks, SoundState}
 use Rattle.design.specs.Statements.{Operation, swaps, adds, sets, returns, after}
-use Rattle.design.proofs.Rows.{swapped-box}
+use Rattle.refusals.proofs.Swapped.{swapped-box}
 
 -- what holds of both outcomes
 pub after-cases : (k : Checked) (new old : State) (P : State → Type 0) → (k ≡ Accepted → P new) → P old → P (stateAfter k new old)
@@ -77,8 +78,8 @@ module _ (s : State) (t : SoundState s) where
   pub sound-swap : (x y : ℕ) → SoundState (swap s x y)
   unfolding swap
   sound-swap x y =
-      after-cases (first (swapChecks s x y)) (withRows s (swapped x y (s .rows))) s SoundState
-      (λ h. record { box = swapped-box (s .n) (s .m) x y (s .rows) (t .box); kept = t .kept; sixteen = t .sixteen }) t
+      after-cases (first (swapChecks s x y)) (withRows s (swapped (s .rows) x y)) s SoundState
+      (λ h. record { box = swapped-box (t .box) x y; kept = t .kept; sixteen = t .sixteen }) t
 
   pub add-fits : (j w b : ℕ) → first (addChecks s j w b) ≡ Accepted → Fits (s .n) (s .m) (record { column = j; mask = w; constant = b; lent = s .rows })
   unfolding addChecks

@@ -6,7 +6,7 @@ use mathlib.Core.List.{List, [], _∷_}
 use lib.Dec.{ltb, eqb}
 use lib.ListN.{length, getD, set}
 use Rattle.boolean.specs.Sums.{listBelow}
-use Rattle.boolean.specs.Functions.{at}
+use Rattle.boolean.specs.Functions.{at, swapped}
 use Rattle.refusals.specs.Table.{Check, _unless_, first, inRange, boxChecks, Box}
 use Rattle.refusals.specs.declared.Refusal.the-variants.{Parameter, WrittenLength, UnsetMark}
 use Rattle.refusals.specs.declared.Checked.{Checked}
@@ -50,10 +50,6 @@ withRows s rows = record { n = s .n; m = s .m; rows = rows; marks = s .marks }
 abbrev pub withMark : State → ℕ → Mark → State
 withMark s k x = record { n = s .n; m = s .m; rows = s .rows; marks = set (s .marks) (k - 1) x }
 
--- rows x and y exchanged
-unfoldable pub swapped : ℕ → ℕ → List ℕ → List ℕ
-swapped x y rows = set (set rows x (at rows y)) y (at rows x)
-
 -- ---- the checks
 unfoldable pub swapChecks : State → ℕ → ℕ → List Check
 swapChecks s x y = (Parameter unless ltb x (2 ^ s .n)) ∷ (Parameter unless ltb y (2 ^ s .n)) ∷ []
@@ -83,7 +79,7 @@ begin n m rows = stateAfter (first (boxChecks n m rows)) (begun n m rows) (begun
 
 unfoldable pub swap : State → ℕ → ℕ → State
 unfolding first swapChecks swapped
-swap s x y = stateAfter (first (swapChecks s x y)) (withRows s (swapped x y (s .rows))) s
+swap s x y = stateAfter (first (swapChecks s x y)) (withRows s (swapped (s .rows) x y)) s
 
 unfoldable pub add : State → ℕ → ℕ → ℕ → State
 unfolding first addChecks addedRows

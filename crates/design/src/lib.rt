@@ -48,18 +48,6 @@ fn unset() -> Snapshot
     Snapshot { taken: 0, rows }
 }
 
-// Copies the rows to an array that is as long.
-fn copy_rows(rows: &[u32], out: &mut [u32])
-    requires { ⌜ length (now out) ≡ length (now rows) ⌝ }
-    ensures { λ _. ⌜ now (out .exit) ≡ now (rows .entry) ⌝ }
-{
-    let mut i = 0;
-    while i < rows.len() {
-        out[i] = rows[i];
-        i += 1;
-    }
-}
-
 impl Design {
     // A design of this box, with no mark set. Refused, there is no box in it.
     pub fn begin(n: u32, m: u32, rows: &[u32]) -> Tuned
@@ -80,7 +68,7 @@ impl Design {
             let answer = Written::Declined(e);
             return Tuned { design, answer };
         }
-        copy_rows(rows, &mut held[..rows.len()]);
+        boolean::copy(rows, &mut held[..rows.len()]);
         let design = Design {
             n,
             m,
@@ -245,7 +233,7 @@ impl Design {
         if rows.len() != size {
             return BoxHeld::Declined(Refusal::WrittenLength);
         }
-        copy_rows(&all[..size], rows);
+        boolean::copy(&all[..size], rows);
         BoxHeld::Given { n, m: self.m }
     }
 }

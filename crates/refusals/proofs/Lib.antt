@@ -1,3 +1,4 @@
 pub mod Bounds
 pub mod Checks
 pub mod Theorems
+pub mod Swapped

@@ -52,18 +52,6 @@ pub fn status_of(answer: Written) -> u32
     }
 }
 
-// The figures, copied to an array that is as long.
-fn copy(found: &[u32], figures: &mut [u32])
-    requires { ⌜ length (now figures) ≡ length (now found) ⌝ }
-    ensures { λ _. ⌜ now (figures .exit) ≡ now (found .entry) ⌝ }
-{
-    let mut k = 0;
-    while k < found.len() {
-        figures[k] = found[k];
-        k += 1;
-    }
-}
-
 // The figures go to the lent array, or it has another length.
 pub fn give(found: &[u32], figures: &mut [u32]) -> u32
     ensures number { λ r. ⌜ r ≡ status (lent (given (now (found .entry))) (length (now (figures .entry)))) ⌝ }
@@ -72,7 +60,7 @@ pub fn give(found: &[u32], figures: &mut [u32]) -> u32
     if figures.len() != found.len() {
         return refusals::number_of(Refusal::WrittenLength);
     }
-    copy(found, figures);
+    boolean::copy(found, figures);
     0
 }
 

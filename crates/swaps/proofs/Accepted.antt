@@ -5,6 +5,7 @@ use mathlib.Core.List.{List, [], _∷_}
 use Prim.Native.Nat.{ℕ, _≤_}
 use native.Mathlib.Nat.{le-refl}
 use native.Mathlib.Omega.{arith}
+use Rattle.boolean.specs.Functions.{swapped}
 use Rattle.boolean.specs.Selection.{Candidate, shown}
 use Rattle.refusals.specs.Table.{Box, figures, refusal}
 use Rattle.refusals.proofs.Checks.{limit-accepted, reply-accepted}
@@ -12,7 +13,7 @@ use Rattle.linear.specs.Calls.{candidate}
 use Rattle.linear.specs.Nonlinearity.{nonlinearity, nonlinearityReply}
 use Rattle.linear.specs.declared.Found.{Found}
 use Rattle.linear.proofs.Theorems.{reached}
-use Rattle.swaps.specs.Swaps.{Swap, swapped, figureOf, swaps, shownSwap, raised}
+use Rattle.swaps.specs.Swaps.{Swap, figureOf, swaps, shownSwap, raised}
 use Rattle.swaps.specs.Calls.{SearchedIn}
 use Rattle.swaps.specs.declared.Searched.{Searched}
 

@@ -14,12 +14,11 @@ use lib.Dec.{T, eqb, leb}
 use lib.ListN.{length, set, length-set}
 use lib.Seq.{getD-set-same, getD-set-other}
 use Rattle.boolean.specs.Bits.{affine, parity}
-use Rattle.boolean.specs.Functions.{at, component, distance}
+use Rattle.boolean.specs.Functions.{at, component, distance, swapped}
 use Rattle.boolean.specs.Sums.{countBelow, one-if}
 use Rattle.boolean.proofs.Cases.{all5}
 use Rattle.boolean.proofs.Counts.{count-cong}
 use Rattle.boolean.proofs.Digits.{affine-lt, component-lt}
-use Rattle.swaps.specs.Swaps.{swapped}
 use Rattle.swaps.specs.Calls.{moves}
 
 -- ---- counts of two tests that differ at one number, and at two

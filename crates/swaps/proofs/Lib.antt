@@ -1,5 +1,4 @@
 pub mod Firsts
-pub mod Swapped
 pub mod Apart
 pub mod Trying
 pub mod Raising

@@ -8,7 +8,7 @@ use borrow.Author.Tests.{lt-ltb, le-ltb, eq-eqb, ne-eqb}
 use lib.Bits.{bitXor}
 use lib.Count.{ones}
 use lib.Dec.{eqb}
-use Rattle.boolean.specs.Functions.{at, component, distance, Within}
+use Rattle.boolean.specs.Functions.{at, component, distance, Within, swapped}
 use Rattle.boolean.specs.Selection.{Candidate}
 use Rattle.boolean.proofs.Members.{if-kept}
 use Rattle.refusals.specs.Table.{Box}
@@ -17,7 +17,7 @@ use Rattle.linear.specs.Nonlinearity.{nonlinearity}
 use Rattle.linear.specs.Statements.{IsPair}
 use Rattle.linear.specs.declared.Found.{Found}
 use Rattle.linear.proofs.Theorems.{least, reached}
-use Rattle.swaps.specs.Swaps.{Swap, swapped, figureOf, swapAt, firstOf, raises}
+use Rattle.swaps.specs.Swaps.{Swap, figureOf, swapAt, firstOf, raises}
 use Rattle.swaps.specs.Calls.{Tried, Passed, moves}
 use Rattle.swaps.proofs.Apart.{pair-stays}
 use Rattle.swaps.proofs.Firsts.{first-takes, first-skips}

@@ -9,7 +9,7 @@ use borrow.Author.Count.{below-more}
 use lib.IntN.{ℤ}
 use lib.ListN.{length}
 use lib.Pow.{pow-pos}
-use Rattle.boolean.specs.Functions.{Within}
+use Rattle.boolean.specs.Functions.{Within, swapped}
 use Rattle.boolean.specs.Selection.{firstLeast}
 use Rattle.boolean.proofs.Components.{whole-within}
 use Rattle.refusals.specs.Table.{Box}
@@ -17,9 +17,8 @@ use Rattle.linear.specs.Calls.{Swept}
 use Rattle.linear.specs.Nonlinearity.{pairsOf}
 use Rattle.linear.specs.declared.Found.{Found}
 use Rattle.linear.proofs.Theorems.{component-least, component-reached}
-use Rattle.swaps.specs.Swaps.{swapped}
 use Rattle.swaps.specs.Calls.{Tried, Searching}
-use Rattle.swaps.proofs.Swapped.{swapped-box}
+use Rattle.refusals.proofs.Swapped.{swapped-box}
 
 -- the fewest inputs at which a component differs from an affine function
 abbrev nearest : ℕ → List ℕ → ℕ → ℕ

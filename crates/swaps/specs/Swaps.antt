@@ -5,9 +5,8 @@ use mathlib.Core.List.{List, [], _∷_}
 use lib.Bits.{bitXor}
 use lib.Count.{ones}
 use lib.Dec.{ltb, eqb}
-use lib.ListN.{set}
 use Rattle.boolean.specs.Sums.{listFrom, listBelow, each}
-use Rattle.boolean.specs.Functions.{at}
+use Rattle.boolean.specs.Functions.{at, swapped}
 use Rattle.refusals.specs.Table.{boxChecksUpTo, first, Reply, replyAfter}
 use Rattle.linear.specs.Nonlinearity.{nonlinearity}
 
@@ -15,10 +14,6 @@ use Rattle.linear.specs.Nonlinearity.{nonlinearity}
 pub record Swap : Type 0 where
   pub low : ℕ
   pub high : ℕ
-
--- the rows after it
-unfoldable pub swapped : List ℕ → ℕ → ℕ → List ℕ
-swapped rows low high = set (set rows low (at rows high)) high (at rows low)
 
 -- the nonlinearity over all combinations
 abbrev pub figureOf : ℕ → ℕ → List ℕ → ℕ

@@ -9,12 +9,12 @@ ghost use Prim.Native.Nat.{_+_, _*_, _^_, _≤_, _<_};
 ghost use lib.Bits.{bitXor};
 ghost use lib.Count.{ones};
 ghost use lib.ListN.{length};
-ghost use Rattle.boolean.specs.Functions.{component, Within};
+ghost use Rattle.boolean.specs.Functions.{component, swapped, Within};
 ghost use Rattle.refusals.specs.Table.{figures, Box};
 ghost use Rattle.walsh.specs.Work.{Spectra};
 ghost use Rattle.linear.specs.Nonlinearity.{nonlinearity};
 ghost use Rattle.linear.specs.Calls.{candidate, Swept};
-ghost use Rattle.swaps.specs.Swaps.{swapped, figureOf, swapAt, swapsFrom, swapsBy, swaps, raised, raisingReply};
+ghost use Rattle.swaps.specs.Swaps.{figureOf, swapAt, swapsFrom, swapsBy, swaps, raised, raisingReply};
 ghost use Rattle.swaps.specs.Calls.{raisingSwap, moves, Searching, Tried, Passed, SearchedIn};
 
 // The answer of the call.
@@ -32,24 +32,12 @@ pub struct Searched {
     pub hint: u32,
 }
 
-// A copy of the rows.
-fn copy(rows: &[u32], out: &mut [u32])
-    requires { ⌜ length (now out) ≡ length (now rows) ⌝ }
-    ensures { λ _. ⌜ now (out .exit) ≡ now (rows .entry) ⌝ }
-{
-    let mut x = 0;
-    while x < rows.len() {
-        out[x] = rows[x];
-        x += 1;
-    }
-}
-
 // The rows after a swap.
 fn write_swapped(rows: &[u32], low: usize, high: usize, out: &mut [u32])
     requires { ⌜ (length (now out) ≡ length (now rows)) × (low < length (now rows)) × (high < length (now rows)) ⌝ }
     ensures { λ _. ⌜ now (out .exit) ≡ swapped (now (rows .entry)) low high ⌝ }
 {
-    copy(rows, out);
+    boolean::copy(rows, out);
     out[low] = rows[high];
     out[high] = rows[low];
 }

@@ -2,10 +2,11 @@
 use mathlib.Core.Path.{_≡_, sym, ap, _∙_, subst}
 use mathlib.Core.List.{List, [], _∷_}
 use Prim.Native.Nat.{ℕ}
+use Rattle.boolean.specs.Functions.{swapped}
 use Rattle.refusals.specs.Table.{Box, figures}
 use Rattle.linear.specs.Calls.{leastPair}
-use Rattle.swaps.specs.Swaps.{swapped, figureOf}
-use Rattle.swaps.proofs.Swapped.{swapped-box}
+use Rattle.swaps.specs.Swaps.{figureOf}
+use Rattle.refusals.proofs.Swapped.{swapped-box}
 use Rattle.swaps.proofs.Accepted.{figure-reached, never-declined}
 use borrow.Author.Needs.{needs}
 use Rattle.swaps.proofs.finish.Statement.{statement}

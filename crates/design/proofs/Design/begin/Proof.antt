@@ -42,11 +42,11 @@ fits c = let a = c .before .before .before .before .before .args in box (a .n) (
 array-borrow-prefix-held : tie.Need-array-borrow-prefix-held
 array-borrow-prefix-held c = fits c
 
-slice-aggregate-copy-rows : tie.Need-slice-aggregate-copy-rows
-slice-aggregate-copy-rows c = sym (length-take-le _ _ (fits (c .before)))
+slice-aggregate-copy : tie.Need-slice-aggregate-copy
+slice-aggregate-copy c = sym (length-take-le _ _ (fits (c .before)))
 
-copy-rows-requires : tie.Need-copy-rows-requires
-copy-rows-requires c κs = length-take-le _ _ (fits (c .before))
+copy-requires : tie.Need-copy-requires
+copy-requires c κs = length-take-le _ _ (fits (c .before))
 
 returns-2 : tie.Need-returns-2
 returns-2 c =
@@ -54,7 +54,7 @@ returns-2 c =
     let a = t .before .before .before .before .before .args in
     let u = t .before .before .before .unset in
     let h = accepted t in
-    let copied = c .before .copy-rows .ensures in (
+    let copied = c .before .copy .ensures in (
       λ k. begin-sound (a .n) (a .m) (a .rows .now) (u .result) (u .ensures) _ _ h copied,
       (reply-accepted h [], begin-done (a .n) (a .m) (a .rows .now) (u .result) (u .ensures) _ _ h copied),
     )
@@ -69,6 +69,6 @@ begin-spec =
     returns
     enum-told
     array-borrow-prefix-held
-    slice-aggregate-copy-rows
-    copy-rows-requires
+    slice-aggregate-copy
+    copy-requires
     returns-2)

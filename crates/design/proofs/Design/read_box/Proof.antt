@@ -35,11 +35,11 @@ returns-3 c =
     let h = read-refused (a .self) (length (a .rows .now)) (p .power-of-two .ensures .0) (c .if3 .taken) in
     (λ s. reply-refused h _, λ s. content-refused h _ _)
 
-slice-aggregate-copy-rows : tie.Need-slice-aggregate-copy-rows
-slice-aggregate-copy-rows c = sym (length-take-le _ _ (c .before .before .if2 .left))
+slice-aggregate-copy : tie.Need-slice-aggregate-copy
+slice-aggregate-copy c = sym (length-take-le _ _ (c .before .before .if2 .left))
 
-copy-rows-requires : tie.Need-copy-rows-requires
-copy-rows-requires c κs = let else = c .before .before in else .if3 .left ∙ sym (length-take-le _ _ (else .before .if2 .left))
+copy-requires : tie.Need-copy-requires
+copy-requires c κs = let else = c .before .before in else .if3 .left ∙ sym (length-take-le _ _ (else .before .if2 .left))
 
 same-length : tie.Need-same-length
 same-length c = search needs
@@ -51,7 +51,7 @@ returns-4 c =
     let a = p .before .before .before .before .before .args in
     let e = p .power-of-two .ensures .0 in
     let h = read-passed (a .self) (length (a .rows .now)) e (else .if3 .left) in
-    (λ s. reply-accepted h _, λ s. c .before .before .copy-rows .ensures ∙ ap (λ (k : ℕ). take k (a .self .rows)) e ∙ content-accepted h _ _)
+    (λ s. reply-accepted h _, λ s. c .before .before .copy .ensures ∙ ap (λ (k : ℕ). take k (a .self .rows)) e ∙ content-accepted h _ _)
 
 pub read-box-spec : {M : Type 1} → statement M
 read-box-spec =
@@ -62,7 +62,7 @@ read-box-spec =
     power-of-two-requires
     returns-2
     returns-3
-    slice-aggregate-copy-rows
-    copy-rows-requires
+    slice-aggregate-copy
+    copy-requires
     same-length
     returns-4)
