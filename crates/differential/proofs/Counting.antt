@@ -14,7 +14,8 @@ use Rattle.boolean.specs.Functions.{at}
 use Rattle.boolean.proofs.Counts.{count-cong}
 use Rattle.refusals.specs.Table.{Box}
 use Rattle.differential.specs.XorTable.{difference, cell}
-use Rattle.differential.specs.Work.{lowerInput, Paired, occurrences, Largest, runningAfter}
+use Rattle.sorting.specs.Occurrences.{occurrences}
+use Rattle.differential.specs.Work.{lowerInput, Paired, Largest, runningAfter}
 use Rattle.differential.specs.Statements.{cellSoFar}
 use Rattle.differential.proofs.Pairs.{difference-same, pair-is, pair-small, pairs-length, cell-twice}
 use Rattle.differential.proofs.Rises.{after-each-rise, largest-is, smallest-is}

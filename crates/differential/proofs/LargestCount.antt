@@ -14,8 +14,9 @@ use Rattle.boolean.specs.Sums.{countBelow, one-if}
 use Rattle.boolean.specs.Functions.{at}
 use Rattle.boolean.proofs.Counts.{count-cong}
 use Rattle.boolean.proofs.Counted.{count-no}
-use Rattle.differential.specs.Work.{Below, occurrences, risenAt, Larger, CellsAfter, reaching, RunningCells}
-use Rattle.differential.proofs.Occurrences.{occurs-more, occurs-same, occurs-le}
+use Rattle.sorting.specs.Occurrences.{Below, occurrences}
+use Rattle.differential.specs.Work.{risenAt, Larger, CellsAfter, reaching, RunningCells}
+use Rattle.sorting.proofs.Occurrences.{occurs-more, occurs-same, occurs-le}
 use Rattle.differential.proofs.Rises.{running-none, running-takes, running-keeps, largest-is}
 
 -- a test that passes at one number more counts one more

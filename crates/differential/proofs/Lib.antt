@@ -1,5 +1,4 @@
 pub mod Cells
-pub mod Occurrences
 pub mod Pairs
 pub mod RowBest
 pub mod Rises
@@ -9,10 +8,6 @@ pub mod LargestCount
 pub mod Sweeps
 pub mod Tallies
 pub mod CellRows
-pub mod Totals
-pub mod Places
-pub mod Placing
-pub mod Sorts
 pub mod Runs
 pub mod Measures
 pub mod ListChecks

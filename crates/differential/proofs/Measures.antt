@@ -18,9 +18,10 @@ use Rattle.boolean.proofs.Counts.{count-cong, count-le}
 use Rattle.boolean.proofs.Selection.{firstLargest-ge}
 use Rattle.refusals.specs.Table.{Box}
 use Rattle.differential.specs.XorTable.{difference, cell, cells, largestCell}
-use Rattle.differential.specs.Work.{differencesOf, occurrences, Paired, reaching, RunningCells, Larger, IsRow, RowMeasured, Measured, rowCells}
+use Rattle.sorting.specs.Occurrences.{occurrences}
+use Rattle.differential.specs.Work.{differencesOf, Paired, reaching, RunningCells, Larger, IsRow, RowMeasured, Measured, rowCells}
 use Rattle.differential.specs.Statements.{IsCell}
-use Rattle.differential.proofs.Occurrences.{occurs, occurs-at}
+use Rattle.sorting.proofs.Occurrences.{occurs, occurs-at}
 use Rattle.differential.proofs.Pairs.{pairs-length, pair-small, cell-twice}
 use Rattle.differential.proofs.Sweeps.{pairs-room, pairs-few, some-cell}
 use Rattle.differential.proofs.RowBest.{value-small, occurrences-cell}

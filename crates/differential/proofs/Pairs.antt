@@ -20,7 +20,8 @@ use Rattle.boolean.proofs.Xor.{xor-cancel}
 use Rattle.refusals.specs.Table.{Box}
 use Rattle.boolean.proofs.Shifts.{count-shift}
 use Rattle.differential.specs.XorTable.{difference, cell}
-use Rattle.differential.specs.Work.{HighestBit, lowerInput, pairsOf, Paired, occurrences}
+use Rattle.sorting.specs.Occurrences.{occurrences}
+use Rattle.differential.specs.Work.{HighestBit, lowerInput, pairsOf, Paired}
 
 -- the test is the same at the two inputs of each pair
 abbrev SameInPairs : (k a : ℕ) (p : ℕ → Bool) → Type 0

@@ -11,8 +11,9 @@ use lib.Dec.{ltb}
 use lib.ListN.{length}
 use Rattle.boolean.specs.Functions.{at}
 use Rattle.boolean.specs.Selection.{Candidate}
-use Rattle.differential.specs.Work.{Below, occurrences, standing, risenAt, higherOf, runningAfter, Running, AfterRow}
-use Rattle.differential.proofs.Occurrences.{occurs-more, occurs-same, occurs-none, occurs-le}
+use Rattle.sorting.specs.Occurrences.{Below, occurrences}
+use Rattle.differential.specs.Work.{standing, risenAt, higherOf, runningAfter, Running, AfterRow}
+use Rattle.sorting.proofs.Occurrences.{occurs-more, occurs-same, occurs-none, occurs-le}
 
 -- ---- at the start
 pub running-none : (values : List ℕ) → Running values 0 4294967295

@@ -18,9 +18,10 @@ use Rattle.boolean.proofs.Lists.{length-listBelow, getD-listBelow}
 use Rattle.boolean.proofs.Selection.{best-stays, best-is, ranked-first}
 use Rattle.refusals.specs.Table.{Box}
 use Rattle.differential.specs.XorTable.{difference, cell, cellsOf}
-use Rattle.differential.specs.Work.{differencesOf, occurrences, Paired, RowLargest, AfterRow}
+use Rattle.sorting.specs.Occurrences.{occurrences}
+use Rattle.differential.specs.Work.{differencesOf, Paired, RowLargest, AfterRow}
 use Rattle.differential.specs.Statements.{rank, cellOf}
-use Rattle.differential.proofs.Occurrences.{occurs-at}
+use Rattle.sorting.proofs.Occurrences.{occurs-at}
 use Rattle.differential.proofs.Pairs.{pair-small, cell-twice}
 use Rattle.differential.proofs.Cells.{in-cellsOf, mem-cellsOf, ascending-cellsOf}
 

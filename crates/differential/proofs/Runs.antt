@@ -20,9 +20,10 @@ use Rattle.boolean.proofs.Members.{if-kept, mem-if, in-if}
 use Rattle.boolean.proofs.Stored.{Stored, stored-none, stored-room, stored-more}
 use Rattle.refusals.specs.Table.{Box}
 use Rattle.differential.specs.XorTable.{cell, largestCell}
-use Rattle.differential.specs.Work.{occurrences, Paired, IsRow, rowCells, runAt, runs}
-use Rattle.differential.specs.Sorting.{Sorted}
-use Rattle.differential.proofs.Occurrences.{occurs-more, occurs-at}
+use Rattle.sorting.specs.Occurrences.{occurrences}
+use Rattle.differential.specs.Work.{Paired, IsRow, rowCells, runAt, runs}
+use Rattle.sorting.specs.Sorting.{Sorted}
+use Rattle.sorting.proofs.Occurrences.{occurs-more, occurs-at}
 use Rattle.differential.proofs.Pairs.{cell-twice, pair-small}
 use Rattle.differential.proofs.CellRows.{ascending-same, mem-row, in-row, ascending-row}
 

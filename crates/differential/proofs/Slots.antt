@@ -8,8 +8,9 @@ use native.Mathlib.Omega.{arith}
 use lib.ListN.{length, set, length-set}
 use lib.Seq.{getD-set-same, getD-set-other}
 use Rattle.boolean.specs.Functions.{at}
-use Rattle.differential.specs.Work.{occurrences, standing, slotOf, Slot, Slots}
-use Rattle.differential.proofs.Occurrences.{occurs-more, occurs-same, occurs-none, occurs-le}
+use Rattle.sorting.specs.Occurrences.{occurrences}
+use Rattle.differential.specs.Work.{standing, slotOf, Slot, Slots}
+use Rattle.sorting.proofs.Occurrences.{occurs-more, occurs-same, occurs-none, occurs-le}
 
 slot-inside : (v : ℕ) → slotOf v < 4096
 slot-inside v = mod-lt v (zero-lt-suc 4095)

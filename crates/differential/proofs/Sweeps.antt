@@ -18,7 +18,7 @@ use Rattle.differential.specs.XorTable.{cellsOf, cells, largestCell}
 use Rattle.differential.specs.Work.{Inside, differencesOf, Paired, AfterRow}
 use Rattle.differential.specs.Statements.{IsCell, cellOf}
 use Rattle.differential.proofs.Cells.{in-cells}
-use Rattle.differential.proofs.Occurrences.{occurs}
+use Rattle.sorting.proofs.Occurrences.{occurs}
 use Rattle.differential.proofs.RowBest.{values-length, value-small, occurrences-cell, row-best}
 use Rattle.differential.proofs.Pairs.{pairs-length}
 

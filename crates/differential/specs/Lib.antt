@@ -1,5 +1,4 @@
 pub mod XorTable
 pub mod Calls
 pub mod Work
-pub mod Sorting
 pub mod Statements

@@ -11,6 +11,7 @@ use Rattle.boolean.specs.Sums.{countBelow, listBelow, each, keep}
 use Rattle.boolean.specs.Functions.{at}
 use Rattle.boolean.specs.Selection.{Candidate}
 use Rattle.refusals.specs.Table.{Box}
+use Rattle.sorting.specs.Occurrences.{occurrences, Below}
 use Rattle.differential.specs.XorTable.{difference, cell, cellsOf, largestCell, coded}
 use Rattle.differential.specs.declared.FoundCell.{FoundCell}
 
@@ -31,16 +32,6 @@ Inside size a = (x : ℕ) → x < size → bitXor x a < size
 unfoldable pub differencesOf : List ℕ → ℕ → List ℕ
 unfolding listBelow difference
 differencesOf rows a = listBelow (length rows) (λ x. difference rows a x)
-
--- how many of the first y values are β
-unfoldable pub occurrences : List ℕ → ℕ → ℕ → ℕ
-unfolding countBelow
-occurrences values y β = countBelow y (λ x. eqb (at values x) β)
-
--- values that can be counted in an array of a size: they are few enough that a count of 16 bits holds, and each is a place of the array
-pub record Countable (values : List ℕ) (size : ℕ) : Type 0 where
-  pub few : length values ≤ 256
-  pub placed : (x : ℕ) → x < length values → at values x < size
 
 -- top is the highest bit of a, as a power of two
 pub record HighestBit (a top : ℕ) : Type 0 where
@@ -140,10 +131,6 @@ pub record CellsAfter (before count cells r : ℕ) : Type 0 where
   pub above : before < count → r ≡ 1
   pub equal : before ≡ count → r ≡ cells + 1
   pub under : count < before → r ≡ cells
-
--- every value is below the size
-abbrev pub Below : ℕ → List ℕ → Type 0
-Below size values = (x : ℕ) → x < length values → at values x < size
 
 -- how many numbers below the size stand so often among the first y values
 unfoldable pub reaching : ℕ → List ℕ → ℕ → ℕ → ℕ

@@ -1,6 +1,5 @@
 // The XOR table of a box: one row, the largest cell, and the list of all cells that reach it.
 mod listing;
-mod sorting;
 
 use refusals::Checked;
 use refusals::Refusal;
@@ -9,13 +8,12 @@ ghost use mathlib.Core.Path.{_≡_};
 ghost use mathlib.Core.List.{[], _∷_};
 ghost use Prim.Native.Nat.{_+_, _-_, _*_, _^_, _≤_, _<_};
 ghost use lib.ListN.{length};
-ghost use Rattle.boolean.specs.Sums.{listBelow};
-ghost use Rattle.boolean.specs.Functions.{at};
 ghost use Rattle.refusals.specs.Table.{first, replyAfter, contentAfter, written, Box};
+ghost use Rattle.sorting.specs.Occurrences.{occurrences};
 ghost use Rattle.differential.specs.XorTable.{xorRow, largestCells};
 ghost use Rattle.differential.specs.XorTable as spec;
 ghost use Rattle.differential.specs.Calls.{rowChecks, listChecks, largestReply, xorReply, listReply, listAfter};
-ghost use Rattle.differential.specs.Work.{candidate, Swept, Inside, Countable, differencesOf, occurrences, HighestBit, Paired, risenAt, runningAfter, Running, Slots, AfterRow};
+ghost use Rattle.differential.specs.Work.{candidate, Swept, Inside, differencesOf, HighestBit, Paired, risenAt, runningAfter, Running, Slots, AfterRow};
 
 // The best cell so far.
 pub struct FoundCell {
@@ -82,39 +80,14 @@ fn check_row(n: u32, m: u32, rows: &[u32], a: u32, room: usize) -> Checked
     Checked::Accepted
 }
 
-// Every count is set to 0.
-fn clear(counts: &mut [u16])
-    ensures { λ _. ⌜ now (counts .exit) ≡ listBelow (length (now (counts .entry))) (λ β. 0) ⌝ }
-{
-    let mut beta = 0;
-    while beta < counts.len() {
-        counts[beta] = 0;
-        beta += 1;
-    }
-}
-
-// From counts of 0, one is added to the count of each difference.
-fn count_differences(differences: &[u32], counts: &mut [u16])
-    requires { ⌜ Countable (now differences) (length (now counts)) × (now counts ≡ listBelow (length (now counts)) (λ β. 0)) ⌝ }
-    ensures { λ _. ⌜ now (counts .exit) ≡ listBelow (length (now (counts .entry))) (λ β. occurrences (now (differences .entry)) (length (now (differences .entry))) β) ⌝ }
-{
-    let mut x = 0;
-    while x < differences.len() {
-        let beta = differences[x] as usize;
-        let count = counts[beta] + 1;
-        counts[beta] = count;
-        x += 1;
-    }
-}
-
 // The row of a, with an array for the differences lent.
 fn write_row(n: u32, m: u32, rows: &[u32], a: u32, differences: &mut [u32], counts: &mut [u16])
     requires { ⌜ Swept n m (now rows) (now differences) × (a < 2 ^ n) × (length (now counts) ≡ 2 ^ m) ⌝ }
     ensures { λ _. ⌜ (now (counts .exit) ≡ xorRow n m (now (rows .entry)) a) × (now (differences .exit) ≡ differencesOf (now (rows .entry)) a) ⌝ }
 {
     write_differences(rows, a, differences);
-    clear(counts);
-    count_differences(differences, counts);
+    sorting::clear(counts);
+    sorting::count_values(differences, counts);
 }
 
 // One row of the XOR table: the count for each output difference under the input difference a.

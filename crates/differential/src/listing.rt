@@ -3,7 +3,6 @@
 use crate::CellList;
 use crate::claim_slots;
 use crate::risen;
-use crate::sorting;
 use crate::write_pairs;
 use refusals::Refusal;
 ghost use mathlib.Core.Path.{_≡_};

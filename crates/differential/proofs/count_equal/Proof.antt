@@ -10,7 +10,7 @@ use lib.Dec.{eqb}
 use lib.ListN.{length}
 use Rattle.boolean.specs.Functions.{at}
 use Rattle.boolean.proofs.Counted.{Counted, counted-none, counted-le, counted-hit, counted-miss, counted-all}
-use Rattle.differential.specs.Work.{occurrences}
+use Rattle.sorting.specs.Occurrences.{occurrences}
 use Rattle.differential.proofs.count_equal.Statement.{statement}
 use Rattle.differential.proofs.count_equal.Tie as tie
 

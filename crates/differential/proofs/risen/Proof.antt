@@ -6,8 +6,9 @@ use borrow.Author.Needs.{needs}
 use lib.ListN.{length, take}
 use lib.Seq.{length-take-le}
 use Rattle.boolean.specs.Functions.{at}
-use Rattle.differential.specs.Work.{occurrences, standing}
-use Rattle.differential.proofs.Occurrences.{occurs-more, occurs-le, occurs-part}
+use Rattle.sorting.specs.Occurrences.{occurrences}
+use Rattle.differential.specs.Work.{standing}
+use Rattle.sorting.proofs.Occurrences.{occurs-more, occurs-le, occurs-part}
 use Rattle.differential.proofs.Slots.{slot-fits, own-risen, own-next, other-next}
 use Rattle.differential.proofs.risen.Statement.{statement}
 use Rattle.differential.proofs.risen.Tie as tie

@@ -2,7 +2,8 @@
 use mathlib.Core.Path.{sym, _∙_}
 use borrow.Author.Needs.{needs}
 use Rattle.differential.proofs.Sweeps.{box-inside}
-use Rattle.differential.proofs.Tallies.{cleared-length, tally-ready, differences-ready, row-is}
+use Rattle.sorting.proofs.Tallies.{cleared-length, tally-ready}
+use Rattle.differential.proofs.Tallies.{differences-ready, row-is}
 use Rattle.differential.proofs.write_row.Statement.{statement}
 use Rattle.differential.proofs.write_row.Tie as tie
 
@@ -14,8 +15,8 @@ write-differences-requires c κs =
 clear-requires : tie.Need-clear-requires
 clear-requires c κs = search needs
 
-count-differences-requires : tie.Need-count-differences-requires
-count-differences-requires c κs =
+count-values-requires : tie.Need-count-values-requires
+count-values-requires c κs =
     let cleared = c .before .before .before .before in
     let written = cleared .before .before .before .before in
     let start = written .before .before .before .before .before in
@@ -37,7 +38,7 @@ returns c =
     let start = written .before .before .before .before .before in
     let box = start .pre .0 .box in
     let values = written .write-differences .ensures in (
-      row-is box (start .args .a) (cleared-length _ (start .pre .2) (cleared .clear .ensures)) values (counted .count-differences .ensures),
+      row-is box (start .args .a) (cleared-length _ (start .pre .2) (cleared .clear .ensures)) values (counted .count-values .ensures),
       values,
     )
 
@@ -47,7 +48,7 @@ write-row-spec =
     (tie.spec
     write-differences-requires
     clear-requires
-    count-differences-requires
+    count-values-requires
     same-length
     same-length-2
     returns)
