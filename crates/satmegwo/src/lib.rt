@@ -1,161 +1,34 @@
 // The calls for C and for everything that speaks C. A slice is a pointer and its number of elements. Every function returns 0 or the number of
 // a refusal, and its figures go to an array that is lent for them.
-use algebraic::DegreeFound;
-use avalanche::LargestChange;
 use boxfile::BoxFile;
-use catalogue::Fetched;
 use catalogue::Told;
 use differential::CellList;
-use differential::LargestCell;
-use linear::LeastPair;
-use refusals::Checked;
-use refusals::Refusal;
-use refusals::Verdict;
-use refusals::Written;
-use rounds::LeastSum;
 use rounds::Widths;
-use swaps::RaisingSwap;
 ghost use mathlib.Core.Path.{_≡_};
-ghost use mathlib.Core.List.{[], _∷_, _++_};
+ghost use mathlib.Core.List.{[], _∷_};
 ghost use Prim.Native.Nat.{_^_};
-ghost use lib.ListN.{length, take};
+ghost use lib.ListN.{length};
 ghost use Rattle.boolean.specs.Sums.{listBelow};
 ghost use Rattle.boolean.specs.Functions.{at, valueAt, component, spectrum, inverse, normalForm};
-ghost use Rattle.refusals.specs.Table.{tableCallChecks, first, replyAfter, contentAfter, written, verdict, figures as given};
+ghost use Rattle.refusals.specs.Table.{tableCallChecks, first, replyAfter, contentAfter};
 ghost use Rattle.walsh.specs.Calls.{inverseChecks};
-ghost use Rattle.linear.specs.Calls.{componentChecks, leastPair};
+ghost use Rattle.linear.specs.Calls.{componentChecks};
 ghost use Rattle.linear.specs.Nonlinearity.{nonlinearityReply};
 ghost use Rattle.columns.specs.Addition.{additionChecks, addedRows};
 ghost use Rattle.differential.specs.XorTable.{xorRow, largestCells};
-ghost use Rattle.differential.specs.Calls.{rowChecks, largestReply, xorReply, listAfter};
-ghost use Rattle.avalanche.specs.Calls.{changeReply, autocorrelationReply, distanceReply, completeReply};
-ghost use Rattle.algebraic.specs.Calls.{degreeReply, boxDegreeReply, bijectiveReply};
+ghost use Rattle.differential.specs.Calls.{rowChecks, xorReply, listAfter};
+ghost use Rattle.avalanche.specs.Calls.{autocorrelationReply, distanceReply, completeReply};
+ghost use Rattle.algebraic.specs.Calls.{boxDegreeReply, bijectiveReply};
 ghost use Rattle.constructions.specs.Enlargement.{enlargedTable, enlargedRows};
 ghost use Rattle.constructions.specs.BentForm.{bentTable};
 ghost use Rattle.constructions.specs.Calls.{columnChecks, enlargeChecks, bentChecks};
 ghost use Rattle.boxfile.specs.File.{rowsOf};
 ghost use Rattle.rounds.specs.Round.{boxOf, boxes, sumReply};
-ghost use Rattle.rounds.specs.Calls.{leastSum};
 ghost use Rattle.swaps.specs.Swaps.{raisingReply};
-ghost use Rattle.swaps.specs.Calls.{raisingSwap};
-ghost use Rattle.satmegwo.specs.Exports.{status, lent, figuresAfter, cellsChecks, readBoxChecks, roomNumber, addRecordChecks};
-ghost use Rattle.catalogue.specs.Calls.{told, fetched, checkReply, fetchReply, catalogueChecks, indexChecks, gapFor, gapIndex, removed, added, compacted};
+ghost use Rattle.answers.specs.Answers.{status, lent, figuresAfter};
+ghost use Rattle.satmegwo.specs.Exports.{cellsChecks, readBoxChecks, addRecordChecks};
+ghost use Rattle.catalogue.specs.Calls.{checkReply, fetchReply, catalogueChecks, indexChecks, gapFor, gapIndex, removed, added, compacted};
 ghost use Rattle.packing.specs.Packing.{packed as packedForm, unpacked, packChecks, unpackChecks};
-
-// The number of a call that only writes.
-pub fn status_of(answer: Written) -> u32
-    ensures { λ r. ⌜ r ≡ status (written answer) ⌝ }
-{
-    match answer {
-        Written::Done => 0,
-        Written::Declined(e) => refusals::number_of(e),
-    }
-}
-
-// The figures go to the lent array, or it has another length.
-pub fn give(found: &[u32], figures: &mut [u32]) -> u32
-    ensures number { λ r. ⌜ r ≡ status (lent (given (now (found .entry))) (length (now (figures .entry)))) ⌝ }
-    ensures content { λ r. ⌜ now (figures .exit) ≡ figuresAfter (lent (given (now (found .entry))) (length (now (figures .entry)))) (now (figures .entry)) ⌝ }
-{
-    if figures.len() != found.len() {
-        return refusals::number_of(Refusal::WrittenLength);
-    }
-    boolean::copy(found, figures);
-    0
-}
-
-// The figures of each kind of answer, or the number of its refusal.
-fn give_pair(answer: LeastPair, figures: &mut [u32]) -> u32
-    ensures number { λ r. ⌜ r ≡ status (lent (leastPair answer) (length (now (figures .entry)))) ⌝ }
-    ensures content { λ r. ⌜ now (figures .exit) ≡ figuresAfter (lent (leastPair answer) (length (now (figures .entry)))) (now (figures .entry)) ⌝ }
-{
-    match answer {
-        LeastPair::Reached { count, c, w, b } => give(&[count, c, w, b], figures),
-        LeastPair::Declined(e) => refusals::number_of(e),
-    }
-}
-
-fn give_cell(answer: LargestCell, figures: &mut [u32]) -> u32
-    ensures number { λ r. ⌜ r ≡ status (lent (largestReply answer) (length (now (figures .entry)))) ⌝ }
-    ensures content { λ r. ⌜ now (figures .exit) ≡ figuresAfter (lent (largestReply answer) (length (now (figures .entry)))) (now (figures .entry)) ⌝ }
-{
-    match answer {
-        LargestCell::Reached { count, a, beta } => give(&[count, a, beta], figures),
-        LargestCell::Declined(e) => refusals::number_of(e),
-    }
-}
-
-fn give_degree(answer: DegreeFound, figures: &mut [u32]) -> u32
-    ensures number { λ r. ⌜ r ≡ status (lent (degreeReply answer) (length (now (figures .entry)))) ⌝ }
-    ensures content { λ r. ⌜ now (figures .exit) ≡ figuresAfter (lent (degreeReply answer) (length (now (figures .entry)))) (now (figures .entry)) ⌝ }
-{
-    match answer {
-        DegreeFound::Reached { degree, c } => give(&[degree, c], figures),
-        DegreeFound::Declined(e) => refusals::number_of(e),
-    }
-}
-
-fn give_change(answer: LargestChange, figures: &mut [u32]) -> u32
-    ensures number { λ r. ⌜ r ≡ status (lent (changeReply answer) (length (now (figures .entry)))) ⌝ }
-    ensures content { λ r. ⌜ now (figures .exit) ≡ figuresAfter (lent (changeReply answer) (length (now (figures .entry)))) (now (figures .entry)) ⌝ }
-{
-    match answer {
-        LargestChange::Reached { figure, c, s } => give(&[figure, c, s], figures),
-        LargestChange::Declined(e) => refusals::number_of(e),
-    }
-}
-
-fn give_verdict(answer: Verdict, figures: &mut [u32]) -> u32
-    ensures number { λ r. ⌜ r ≡ status (lent (verdict answer) (length (now (figures .entry)))) ⌝ }
-    ensures content { λ r. ⌜ now (figures .exit) ≡ figuresAfter (lent (verdict answer) (length (now (figures .entry)))) (now (figures .entry)) ⌝ }
-{
-    match answer {
-        Verdict::Yes => give(&[1u32], figures),
-        Verdict::No => give(&[0u32], figures),
-        Verdict::Undecided(e) => refusals::number_of(e),
-    }
-}
-
-fn give_number(answer: Told, figures: &mut [u32]) -> u32
-    ensures number { λ r. ⌜ r ≡ status (lent (told answer) (length (now (figures .entry)))) ⌝ }
-    ensures content { λ r. ⌜ now (figures .exit) ≡ figuresAfter (lent (told answer) (length (now (figures .entry)))) (now (figures .entry)) ⌝ }
-{
-    match answer {
-        Told::Number(n) => give(&[n], figures),
-        Told::Declined(e) => refusals::number_of(e),
-    }
-}
-
-fn give_place(answer: Fetched, figures: &mut [u32]) -> u32
-    ensures number { λ r. ⌜ r ≡ status (lent (fetched answer) (length (now (figures .entry)))) ⌝ }
-    ensures content { λ r. ⌜ now (figures .exit) ≡ figuresAfter (lent (fetched answer) (length (now (figures .entry)))) (now (figures .entry)) ⌝ }
-{
-    match answer {
-        Fetched::Lies { offset, size } => give(&[offset, size], figures),
-        Fetched::Unfetched(e) => refusals::number_of(e),
-    }
-}
-
-fn give_swap(answer: RaisingSwap, figures: &mut [u32]) -> u32
-    ensures number { λ r. ⌜ r ≡ status (lent (raisingSwap answer) (length (now (figures .entry)))) ⌝ }
-    ensures content { λ r. ⌜ now (figures .exit) ≡ figuresAfter (lent (raisingSwap answer) (length (now (figures .entry)))) (now (figures .entry)) ⌝ }
-{
-    match answer {
-        RaisingSwap::Raised { low, high, figure } => give(&[1u32, low, high, figure], figures),
-        RaisingSwap::NoSwap => give(&[0u32, 0u32, 0u32, 0u32], figures),
-        RaisingSwap::Declined(e) => refusals::number_of(e),
-    }
-}
-
-// The number to return where the array for the figures has another length: the checks before it go first.
-fn number_for_room(found: Checked) -> u32
-    ensures { λ r. ⌜ r ≡ roomNumber found ⌝ }
-{
-    match found {
-        Checked::Accepted => refusals::number_of(Refusal::WrittenLength),
-        Checked::Refused(e) => refusals::number_of(e),
-    }
-}
 
 // The spectrum of a truth table.
 #[no_mangle]
@@ -163,7 +36,7 @@ pub extern "C" fn satmegwo_spectrum(n: u32, table: &[u8], out: &mut [i32]) -> u3
     ensures number { λ r. ⌜ r ≡ status (replyAfter (first (tableCallChecks n (now (table .entry)) (length (now (out .entry))))) []) ⌝ }
     ensures content { λ r. ⌜ now (out .exit) ≡ contentAfter (first (tableCallChecks n (now (table .entry)) (length (now (out .entry))))) (spectrum n (at (now (table .entry)))) (now (out .entry)) ⌝ }
 {
-    status_of(walsh::spectrum(n, table, out))
+    answers::status_of(walsh::spectrum(n, table, out))
 }
 
 // The truth table of a spectrum.
@@ -172,7 +45,7 @@ pub extern "C" fn satmegwo_inverse_spectrum(n: u32, values: &[i32], table: &mut 
     ensures number { λ r. ⌜ r ≡ status (replyAfter (first (inverseChecks n (now (values .entry)) (length (now (table .entry))))) []) ⌝ }
     ensures content { λ r. ⌜ now (table .exit) ≡ contentAfter (first (inverseChecks n (now (values .entry)) (length (now (table .entry))))) (listBelow (2 ^ n) (λ x. inverse n (valueAt (now (values .entry))) x)) (now (table .entry)) ⌝ }
 {
-    status_of(walsh::inverse_spectrum(n, values, table))
+    answers::status_of(walsh::inverse_spectrum(n, values, table))
 }
 
 // The spectrum of component c of a box.
@@ -187,7 +60,7 @@ pub extern "C" fn satmegwo_component_spectrum(
     ensures number { λ r. ⌜ r ≡ status (replyAfter (first (componentChecks n m (now (rows .entry)) c (length (now (out .entry))))) []) ⌝ }
     ensures content { λ r. ⌜ now (out .exit) ≡ contentAfter (first (componentChecks n m (now (rows .entry)) c (length (now (out .entry))))) (spectrum n (component (now (rows .entry)) c)) (now (out .entry)) ⌝ }
 {
-    status_of(linear::spectrum_of_component(n, m, rows, c, out))
+    answers::status_of(linear::spectrum_of_component(n, m, rows, c, out))
 }
 
 // The nonlinearity of a box over its combinations of at most i outputs, with c, w and b.
@@ -204,9 +77,9 @@ pub extern "C" fn satmegwo_nonlinearity(
 {
     let room = figures.len();
     if room != 4 {
-        return number_for_room(refusals::check_limited(n, m, rows, i));
+        return answers::number_for_room(refusals::check_limited(n, m, rows, i));
     }
-    give_pair(linear::nonlinearity(n, m, rows, i), figures)
+    answers::give_pair(linear::nonlinearity(n, m, rows, i), figures)
 }
 
 // Adds the affine function (w, b) to column j.
@@ -223,7 +96,7 @@ pub extern "C" fn satmegwo_add_to_column(
     ensures number { λ r. ⌜ r ≡ status (replyAfter (first (additionChecks n m (now (rows .entry)) j w b (length (now (out .entry))))) []) ⌝ }
     ensures content { λ r. ⌜ now (out .exit) ≡ contentAfter (first (additionChecks n m (now (rows .entry)) j w b (length (now (out .entry))))) (addedRows j w b (now (rows .entry))) (now (out .entry)) ⌝ }
 {
-    status_of(columns::add_to_column(n, m, rows, j, w, b, out))
+    answers::status_of(columns::add_to_column(n, m, rows, j, w, b, out))
 }
 
 // One row of the XOR table of a box of at most 16 outputs.
@@ -232,7 +105,7 @@ pub extern "C" fn satmegwo_xor_row(n: u32, m: u32, rows: &[u32], a: u32, counts:
     ensures number { λ r. ⌜ r ≡ status (replyAfter (first (rowChecks n m (now (rows .entry)) a (length (now (counts .entry))))) []) ⌝ }
     ensures content { λ r. ⌜ now (counts .exit) ≡ contentAfter (first (rowChecks n m (now (rows .entry)) a (length (now (counts .entry))))) (xorRow n m (now (rows .entry)) a) (now (counts .entry)) ⌝ }
 {
-    status_of(differential::xor_row(n, m, rows, a, counts))
+    answers::status_of(differential::xor_row(n, m, rows, a, counts))
 }
 
 // The largest cell of the XOR table, with a and beta.
@@ -241,7 +114,7 @@ pub extern "C" fn satmegwo_largest_cell(n: u32, m: u32, rows: &[u32], figures: &
     ensures number { λ r. ⌜ r ≡ status (lent (xorReply n m (now (rows .entry))) (length (now (figures .entry)))) ⌝ }
     ensures content { λ r. ⌜ now (figures .exit) ≡ figuresAfter (lent (xorReply n m (now (rows .entry))) (length (now (figures .entry)))) (now (figures .entry)) ⌝ }
 {
-    give_cell(differential::largest_cell(n, m, rows), figures)
+    answers::give_cell(differential::largest_cell(n, m, rows), figures)
 }
 
 // The list of all cells that reach the largest count, by ascending a, then beta. It is written to only where its number can be given too.
@@ -258,10 +131,10 @@ pub extern "C" fn satmegwo_largest_cells(
     ensures cells { λ r. ⌜ now (list .exit) ≡ listAfter (first (cellsChecks n m (now (rows .entry)) (length (now (figures .entry))) (length (now (list .entry))))) (largestCells n m (now (rows .entry))) (now (list .entry)) ⌝ }
 {
     if figures.len() != 1 {
-        return number_for_room(refusals::check_box(n, m, rows));
+        return answers::number_for_room(refusals::check_box(n, m, rows));
     }
     match differential::largest_cells(n, m, rows, list) {
-        CellList::Listed { count } => give(&[count], figures),
+        CellList::Listed { count } => answers::give(&[count], figures),
         CellList::Unlisted(e) => refusals::number_of(e),
     }
 }
@@ -280,9 +153,9 @@ pub extern "C" fn satmegwo_autocorrelation(
 {
     let room = figures.len();
     if room != 3 {
-        return number_for_room(refusals::check_limited(n, m, rows, i));
+        return answers::number_for_room(refusals::check_limited(n, m, rows, i));
     }
-    give_change(avalanche::autocorrelation(n, m, rows, i), figures)
+    answers::give_change(avalanche::autocorrelation(n, m, rows, i), figures)
 }
 
 // The dynamic distance of order (i, j), doubled, with c and d.
@@ -300,9 +173,9 @@ pub extern "C" fn satmegwo_dynamic_distance(
 {
     let room = figures.len();
     if room != 3 {
-        return number_for_room(avalanche::check_distance(n, m, rows, i, j));
+        return answers::number_for_room(avalanche::check_distance(n, m, rows, i, j));
     }
-    give_change(avalanche::dynamic_distance(n, m, rows, i, j), figures)
+    answers::give_change(avalanche::dynamic_distance(n, m, rows, i, j), figures)
 }
 
 // The normal form of a truth table.
@@ -311,7 +184,7 @@ pub extern "C" fn satmegwo_normal_form(n: u32, table: &[u8], out: &mut [u8]) -> 
     ensures number { λ r. ⌜ r ≡ status (replyAfter (first (tableCallChecks n (now (table .entry)) (length (now (out .entry))))) []) ⌝ }
     ensures content { λ r. ⌜ now (out .exit) ≡ contentAfter (first (tableCallChecks n (now (table .entry)) (length (now (out .entry))))) (normalForm n (at (now (table .entry)))) (now (out .entry)) ⌝ }
 {
-    status_of(algebraic::normal_form(n, table, out))
+    answers::status_of(algebraic::normal_form(n, table, out))
 }
 
 // The least degree of the combinations of at most i outputs, with c.
@@ -322,9 +195,9 @@ pub extern "C" fn satmegwo_degree(n: u32, m: u32, rows: &[u32], i: u32, figures:
 {
     let room = figures.len();
     if room != 2 {
-        return number_for_room(refusals::check_limited(n, m, rows, i));
+        return answers::number_for_room(refusals::check_limited(n, m, rows, i));
     }
-    give_degree(algebraic::degree(n, m, rows, i), figures)
+    answers::give_degree(algebraic::degree(n, m, rows, i), figures)
 }
 
 // Whether every input bit changes every column.
@@ -333,7 +206,7 @@ pub extern "C" fn satmegwo_complete(n: u32, m: u32, rows: &[u32], figures: &mut 
     ensures number { λ r. ⌜ r ≡ status (lent (completeReply n m (now (rows .entry))) (length (now (figures .entry)))) ⌝ }
     ensures content { λ r. ⌜ now (figures .exit) ≡ figuresAfter (lent (completeReply n m (now (rows .entry))) (length (now (figures .entry)))) (now (figures .entry)) ⌝ }
 {
-    give_verdict(avalanche::is_complete(n, m, rows), figures)
+    answers::give_verdict(avalanche::is_complete(n, m, rows), figures)
 }
 
 // Whether n = m and no two rows are equal.
@@ -342,7 +215,7 @@ pub extern "C" fn satmegwo_bijective(n: u32, m: u32, rows: &[u32], figures: &mut
     ensures number { λ r. ⌜ r ≡ status (lent (bijectiveReply n m (now (rows .entry))) (length (now (figures .entry)))) ⌝ }
     ensures content { λ r. ⌜ now (figures .exit) ≡ figuresAfter (lent (bijectiveReply n m (now (rows .entry))) (length (now (figures .entry)))) (now (figures .entry)) ⌝ }
 {
-    give_verdict(algebraic::is_bijective(n, m, rows), figures)
+    answers::give_verdict(algebraic::is_bijective(n, m, rows), figures)
 }
 
 // A column with one more input.
@@ -357,7 +230,7 @@ pub extern "C" fn satmegwo_enlarge_column(
     ensures number { λ r. ⌜ r ≡ status (replyAfter (first (columnChecks n (now (table .entry)) k a (length (now (out .entry))))) []) ⌝ }
     ensures content { λ r. ⌜ now (out .exit) ≡ contentAfter (first (columnChecks n (now (table .entry)) k a (length (now (out .entry))))) (enlargedTable n (now (table .entry)) k a) (now (out .entry)) ⌝ }
 {
-    status_of(constructions::enlarge_column(n, table, k, a, out))
+    answers::status_of(constructions::enlarge_column(n, table, k, a, out))
 }
 
 // A box with one more input and one more output.
@@ -372,7 +245,7 @@ pub extern "C" fn satmegwo_enlarge_box(
     ensures number { λ r. ⌜ r ≡ status (replyAfter (first (enlargeChecks n (now (rows .entry)) (now (table .entry)) k (length (now (out .entry))))) []) ⌝ }
     ensures content { λ r. ⌜ now (out .exit) ≡ contentAfter (first (enlargeChecks n (now (rows .entry)) (now (table .entry)) k (length (now (out .entry))))) (enlargedRows n (now (rows .entry)) (now (table .entry)) k) (now (out .entry)) ⌝ }
 {
-    status_of(constructions::enlarge_box(n, rows, table, k, out))
+    answers::status_of(constructions::enlarge_box(n, rows, table, k, out))
 }
 
 // A bent function.
@@ -386,7 +259,7 @@ pub extern "C" fn satmegwo_bent_function(
     ensures number { λ r. ⌜ r ≡ status (replyAfter (first (bentChecks n (now (permutation .entry)) (now (table .entry)) (length (now (out .entry))))) []) ⌝ }
     ensures content { λ r. ⌜ now (out .exit) ≡ contentAfter (first (bentChecks n (now (permutation .entry)) (now (table .entry)) (length (now (out .entry))))) (bentTable n (now (permutation .entry)) (now (table .entry))) (now (out .entry)) ⌝ }
 {
-    status_of(constructions::bent_function(n, permutation, table, out))
+    answers::status_of(constructions::bent_function(n, permutation, table, out))
 }
 
 // Reads a box file: the rows go to one array, n and m to another. Neither is written to unless both can be.
@@ -397,59 +270,11 @@ pub extern "C" fn satmegwo_read_box(file: &[u8], rows: &mut [u32], figures: &mut
     ensures rows { λ r. ⌜ now (rows .exit) ≡ contentAfter (first (readBoxChecks (now (file .entry)) (length (now (rows .entry))) (length (now (figures .entry))))) (rowsOf (now (file .entry)) (at (now (file .entry)) 0)) (now (rows .entry)) ⌝ }
 {
     if figures.len() != 2 {
-        return number_for_room(boxfile::check_file(file, rows.len()));
+        return answers::number_for_room(boxfile::check_file(file, rows.len()));
     }
     match boxfile::read_box(file, rows) {
-        BoxFile::Read { n, m } => give(&[n, m], figures),
+        BoxFile::Read { n, m } => answers::give(&[n, m], figures),
         BoxFile::Declined(e) => refusals::number_of(e),
-    }
-}
-
-// The figures of a sum of so many boxes: a mask for each of them, and b last.
-fn give_masks(
-    count: u32,
-    figure: u32,
-    c: u32,
-    w1: u32,
-    w2: u32,
-    w3: u32,
-    w4: u32,
-    b: u32,
-    figures: &mut [u32],
-) -> u32
-    ensures number { λ r. ⌜ r ≡ status (lent (given (figure ∷ c ∷ (take count (w1 ∷ w2 ∷ w3 ∷ w4 ∷ []) ++ (b ∷ [])))) (length (now (figures .entry)))) ⌝ }
-    ensures content { λ r. ⌜ now (figures .exit) ≡ figuresAfter (lent (given (figure ∷ c ∷ (take count (w1 ∷ w2 ∷ w3 ∷ w4 ∷ []) ++ (b ∷ [])))) (length (now (figures .entry)))) (now (figures .entry)) ⌝ }
-{
-    if count == 0 {
-        return give(&[figure, c, b], figures);
-    }
-    if count == 1 {
-        return give(&[figure, c, w1, b], figures);
-    }
-    if count == 2 {
-        return give(&[figure, c, w1, w2, b], figures);
-    }
-    if count == 3 {
-        return give(&[figure, c, w1, w2, w3, b], figures);
-    }
-    give(&[figure, c, w1, w2, w3, w4, b], figures)
-}
-
-fn give_sum(count: u32, answer: LeastSum, figures: &mut [u32]) -> u32
-    ensures number { λ r. ⌜ r ≡ status (lent (leastSum count answer) (length (now (figures .entry)))) ⌝ }
-    ensures content { λ r. ⌜ now (figures .exit) ≡ figuresAfter (lent (leastSum count answer) (length (now (figures .entry)))) (now (figures .entry)) ⌝ }
-{
-    match answer {
-        LeastSum::Reached {
-            figure,
-            c,
-            w1,
-            w2,
-            w3,
-            w4,
-            b,
-        } => { give_masks(count, figure, c, w1, w2, w3, w4, b, figures) }
-        LeastSum::Declined(e) => refusals::number_of(e),
     }
 }
 
@@ -488,10 +313,10 @@ pub extern "C" fn satmegwo_sum_nonlinearity(
     };
     if figures.len() != 3 + count as usize {
         let found = rounds::check_sum(count, widths, rows1, rows2, rows3, rows4, i);
-        return number_for_room(found);
+        return answers::number_for_room(found);
     }
     let answer = rounds::sum_nonlinearity(count, widths, rows1, rows2, rows3, rows4, i);
-    give_sum(count, answer, figures)
+    answers::give_sum(count, answer, figures)
 }
 
 // Checks a catalogue: the number of its records.
@@ -500,7 +325,7 @@ pub extern "C" fn satmegwo_check_catalogue(catalogue: &[u8], figures: &mut [u32]
     ensures number { λ r. ⌜ r ≡ status (lent (checkReply (now (catalogue .entry))) (length (now (figures .entry)))) ⌝ }
     ensures content { λ r. ⌜ now (figures .exit) ≡ figuresAfter (lent (checkReply (now (catalogue .entry))) (length (now (figures .entry)))) (now (figures .entry)) ⌝ }
 {
-    give_number(catalogue::check(catalogue), figures)
+    answers::give_number(catalogue::check(catalogue), figures)
 }
 
 // Adds a box file to a catalogue: the index of the new record. The catalogue is written to only where the index can be given too.
@@ -511,10 +336,10 @@ pub extern "C" fn satmegwo_add_record(catalogue: &mut [u8], file: &[u8], figures
     ensures records { λ r. ⌜ now (catalogue .exit) ≡ contentAfter (first (addRecordChecks (now (catalogue .entry)) (now (file .entry)) (length (now (figures .entry))))) (added (now (catalogue .entry)) (now (file .entry))) (now (catalogue .entry)) ⌝ }
 {
     if 1 != figures.len() {
-        return number_for_room(catalogue::check_offered(catalogue, file));
+        return answers::number_for_room(catalogue::check_offered(catalogue, file));
     }
     match catalogue::add(catalogue, file) {
-        Told::Number(index) => give(&[index], figures),
+        Told::Number(index) => answers::give(&[index], figures),
         Told::Declined(e) => refusals::number_of(e),
     }
 }
@@ -525,7 +350,7 @@ pub extern "C" fn satmegwo_remove_record(catalogue: &mut [u8], index: u32) -> u3
     ensures number { λ r. ⌜ r ≡ status (replyAfter (first (indexChecks (now (catalogue .entry)) index)) []) ⌝ }
     ensures content { λ r. ⌜ now (catalogue .exit) ≡ contentAfter (first (indexChecks (now (catalogue .entry)) index)) (removed (now (catalogue .entry)) index) (now (catalogue .entry)) ⌝ }
 {
-    status_of(catalogue::remove(catalogue, index))
+    answers::status_of(catalogue::remove(catalogue, index))
 }
 
 // Where a record of a catalogue lies, and its length.
@@ -534,7 +359,7 @@ pub extern "C" fn satmegwo_fetch_record(catalogue: &[u8], index: u32, figures: &
     ensures number { λ r. ⌜ r ≡ status (lent (fetchReply (now (catalogue .entry)) index) (length (now (figures .entry)))) ⌝ }
     ensures content { λ r. ⌜ now (figures .exit) ≡ figuresAfter (lent (fetchReply (now (catalogue .entry)) index) (length (now (figures .entry)))) (now (figures .entry)) ⌝ }
 {
-    give_place(catalogue::fetch_status(catalogue, index), figures)
+    answers::give_place(catalogue::fetch_status(catalogue, index), figures)
 }
 
 // Compacts a catalogue.
@@ -543,7 +368,7 @@ pub extern "C" fn satmegwo_compact_catalogue(catalogue: &mut [u8]) -> u32
     ensures number { λ r. ⌜ r ≡ status (replyAfter (first (catalogueChecks (now (catalogue .entry)))) []) ⌝ }
     ensures content { λ r. ⌜ now (catalogue .exit) ≡ contentAfter (first (catalogueChecks (now (catalogue .entry)))) (compacted (now (catalogue .entry))) (now (catalogue .entry)) ⌝ }
 {
-    status_of(catalogue::compact(catalogue))
+    answers::status_of(catalogue::compact(catalogue))
 }
 
 // The columns of a box, packed for the mask.
@@ -552,7 +377,7 @@ pub extern "C" fn satmegwo_pack_columns(n: u32, m: u32, rows: &[u32], packed: &m
     ensures number { λ r. ⌜ r ≡ status (replyAfter (first (packChecks n m (now (rows .entry)) (length (now (packed .entry))))) []) ⌝ }
     ensures content { λ r. ⌜ now (packed .exit) ≡ contentAfter (first (packChecks n m (now (rows .entry)) (length (now (packed .entry))))) (packedForm n m (now (rows .entry))) (now (packed .entry)) ⌝ }
 {
-    status_of(packing::pack(n, m, rows, packed))
+    answers::status_of(packing::pack(n, m, rows, packed))
 }
 
 // The rows of packed columns.
@@ -561,7 +386,7 @@ pub extern "C" fn satmegwo_unpack_columns(n: u32, m: u32, packed: &[u8], rows: &
     ensures number { λ r. ⌜ r ≡ status (replyAfter (first (unpackChecks n m (now (packed .entry)) (length (now (rows .entry))))) []) ⌝ }
     ensures content { λ r. ⌜ now (rows .exit) ≡ contentAfter (first (unpackChecks n m (now (packed .entry)) (length (now (rows .entry))))) (unpacked n m (now (packed .entry))) (now (rows .entry)) ⌝ }
 {
-    status_of(packing::unpack(n, m, packed, rows))
+    answers::status_of(packing::unpack(n, m, packed, rows))
 }
 
 // The first swap of two unlike rows that raises the nonlinearity over all combinations: 1, both inputs and the new figure, or four zeros for "none".
@@ -572,7 +397,7 @@ pub extern "C" fn satmegwo_raising_swap(n: u32, m: u32, rows: &[u32], figures: &
 {
     let size = figures.len();
     if size != 4 {
-        return number_for_room(refusals::check_box_up_to(8, n, m, rows));
+        return answers::number_for_room(refusals::check_box_up_to(8, n, m, rows));
     }
-    give_swap(swaps::raising_swap(n, m, rows), figures)
+    answers::give_swap(swaps::raising_swap(n, m, rows), figures)
 }

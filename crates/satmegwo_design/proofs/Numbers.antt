@@ -13,7 +13,7 @@ use Rattle.design.specs.declared.Design.{Design}
 use Rattle.design.specs.declared.Tuned.{Tuned}
 use Rattle.design.specs.Model.{State, readChecks}
 use Rattle.design.specs.Calls.{state, Sound}
-use Rattle.satmegwo.specs.Exports.{status, roomNumber}
+use Rattle.answers.specs.Answers.{status, roomNumber}
 
 done : status (written Done) ≡ 0
 unfolding status

@@ -11,7 +11,7 @@ ghost use Rattle.refusals.specs.Table.{first, replyAfter, contentAfter, written
 ghost use Rattle.refusals.specs.declared.Checked.the-variants.{Accepted};
 ghost use Rattle.design.specs.Model as model;
 ghost use Rattle.design.specs.Calls.{state, rowsOf, Sound};
-ghost use Rattle.satmegwo.specs.Exports.{status};
+ghost use Rattle.answers.specs.Answers.{status};
 ghost use Rattle.satmegwo_design.specs.Reading.{readDesignChecks};
 
 // The design after an operation, with 0 or the number of the refusal.
@@ -27,7 +27,7 @@ fn numbered(tuned: Tuned) -> Outcome
 {
     let design = tuned.design;
     let answer = tuned.answer;
-    let status = satmegwo::status_of(answer);
+    let status = answers::status_of(answer);
     Outcome { design, status }
 }
 
@@ -96,7 +96,7 @@ pub extern "C" fn satmegwo_design_read(design: Design, rows: &mut [u32], figures
         return refusals::number_of(Refusal::WrittenLength);
     }
     match design.read_box(rows) {
-        BoxHeld::Given { n, m } => satmegwo::give(&[n, m], figures),
+        BoxHeld::Given { n, m } => answers::give(&[n, m], figures),
         BoxHeld::Declined(e) => refusals::number_of(e),
     }
 }

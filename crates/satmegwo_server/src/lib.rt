@@ -8,7 +8,7 @@ ghost use lib.ListN.{length};
 ghost use Rattle.refusals.specs.Table.{first, replyAfter};
 ghost use Rattle.server.specs.Model as model;
 ghost use Rattle.server.specs.Calls.{state, answered, Sound};
-ghost use Rattle.satmegwo.specs.Exports.{status, lent, figuresAfter};
+ghost use Rattle.answers.specs.Answers.{status, lent, figuresAfter};
 ghost use Rattle.satmegwo_server.specs.Exports.{standingReply};
 
 // The server after a call that may be refused, with the status.
@@ -44,7 +44,7 @@ pub extern "C" fn satmegwo_server_put(
     let answer = tried.answer;
     Outcome {
         server: with_box,
-        status: satmegwo::status_of(answer),
+        status: answers::status_of(answer),
     }
 }
 
@@ -60,7 +60,7 @@ pub extern "C" fn satmegwo_server_withdraw(server: Server, place: u32) -> Outcom
     let answer = withdrawn.answer;
     Outcome {
         server: without,
-        status: satmegwo::status_of(answer),
+        status: answers::status_of(answer),
     }
 }
 
@@ -86,8 +86,8 @@ fn give_standing(answer: Asked, figures: &mut [u32]) -> u32
     ensures content { λ r. ⌜ now (figures .exit) ≡ figuresAfter (lent (standingReply (answered answer)) (length (now (figures .entry)))) (now (figures .entry)) ⌝ }
 {
     match answer {
-        Asked::Unfinished => satmegwo::give(&[0u32, 0, 0, 0, 0], figures),
-        Asked::Finished { count, c, w, b } => satmegwo::give(&[1, count, c, w, b], figures),
+        Asked::Unfinished => answers::give(&[0u32, 0, 0, 0, 0], figures),
+        Asked::Finished { count, c, w, b } => answers::give(&[1, count, c, w, b], figures),
         Asked::Declined(e) => refusals::number_of(e),
     }
 }

@@ -7,8 +7,9 @@ use Rattle.refusals.specs.Table.{first, replyAfter, contentAfter}
 use Rattle.refusals.specs.declared.Checked.{Checked}
 use Rattle.refusals.proofs.Checks.{reply-refused, content-refused}
 use Rattle.catalogue.specs.Calls.{told, gapFor, gapIndex, offeredChecks, addChecks, added}
-use Rattle.satmegwo.specs.Exports.{addRecordChecks, roomNumber}
-use Rattle.satmegwo.proofs.Giving.{figures-told, refusal-told, room-refused, room-passed}
+use Rattle.answers.specs.Answers.{roomNumber}
+use Rattle.satmegwo.specs.Exports.{addRecordChecks}
+use Rattle.answers.proofs.Giving.{figures-told, refusal-told, room-refused, room-passed}
 use borrow.Author.Needs.{needs}
 use Rattle.satmegwo.proofs.satmegwo_add_record.Statement.{statement}
 use Rattle.satmegwo.proofs.satmegwo_add_record.Tie as tie

@@ -1,5 +1,5 @@
 -- `satmegwo::satmegwo_check_catalogue` meets its contract: that of the call, with its figures in the lent array. Assumes nothing.
-use Rattle.satmegwo.proofs.Giving.{gives-same}
+use Rattle.answers.proofs.Giving.{gives-same}
 use borrow.Author.Needs.{needs}
 use Rattle.satmegwo.proofs.satmegwo_check_catalogue.Statement.{statement}
 use Rattle.satmegwo.proofs.satmegwo_check_catalogue.Tie as tie

@@ -4,8 +4,8 @@ use mathlib.Core.Path.{ap, _∙_}
 use Rattle.boolean.specs.Selection.{shown}
 use Rattle.refusals.specs.Table.{first, limitChecks}
 use Rattle.algebraic.specs.Algebraic.{boxDegree}
-use Rattle.satmegwo.specs.Exports.{roomNumber}
-use Rattle.satmegwo.proofs.Giving.{gives-same, room-first}
+use Rattle.answers.specs.Answers.{roomNumber}
+use Rattle.answers.proofs.Giving.{gives-same, room-first}
 use Rattle.satmegwo.proofs.Sizes.{degree-size}
 use borrow.Author.Needs.{needs}
 use Rattle.satmegwo.proofs.satmegwo_degree.Statement.{statement}

@@ -1,5 +1,5 @@
 -- `satmegwo::satmegwo_fetch_record` meets its contract: that of the call, with its figures in the lent array. Assumes nothing.
-use Rattle.satmegwo.proofs.Giving.{gives-same}
+use Rattle.answers.proofs.Giving.{gives-same}
 use borrow.Author.Needs.{needs}
 use Rattle.satmegwo.proofs.satmegwo_fetch_record.Statement.{statement}
 use Rattle.satmegwo.proofs.satmegwo_fetch_record.Tie as tie

@@ -8,8 +8,9 @@ use Rattle.refusals.specs.declared.Checked.{Checked}
 use Rattle.refusals.proofs.Checks.{reply-refused, content-refused}
 use Rattle.differential.specs.XorTable.{largestCells}
 use Rattle.differential.specs.Calls.{listChecks, listReply, listAfter}
-use Rattle.satmegwo.specs.Exports.{cellsChecks, roomNumber}
-use Rattle.satmegwo.proofs.Giving.{figures-told, refusal-told, room-refused, room-passed}
+use Rattle.answers.specs.Answers.{roomNumber}
+use Rattle.satmegwo.specs.Exports.{cellsChecks}
+use Rattle.answers.proofs.Giving.{figures-told, refusal-told, room-refused, room-passed}
 use borrow.Author.Needs.{needs}
 use Rattle.satmegwo.proofs.satmegwo_largest_cells.Statement.{statement}
 use Rattle.satmegwo.proofs.satmegwo_largest_cells.Tie as tie

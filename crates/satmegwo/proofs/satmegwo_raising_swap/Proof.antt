@@ -3,8 +3,8 @@
 use mathlib.Core.Path.{ap, _∙_}
 use Rattle.refusals.specs.Table.{first, boxChecksUpTo}
 use Rattle.swaps.specs.Swaps.{raised}
-use Rattle.satmegwo.specs.Exports.{roomNumber}
-use Rattle.satmegwo.proofs.Giving.{gives-same, room-first}
+use Rattle.answers.specs.Answers.{roomNumber}
+use Rattle.answers.proofs.Giving.{gives-same, room-first}
 use Rattle.satmegwo.proofs.Sizes.{swap-size}
 use borrow.Author.Needs.{needs}
 use Rattle.satmegwo.proofs.satmegwo_raising_swap.Statement.{statement}

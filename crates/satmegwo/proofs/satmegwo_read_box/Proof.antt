@@ -8,8 +8,9 @@ use Rattle.refusals.specs.Table.{first, replyAfter, contentAfter}
 use Rattle.refusals.specs.declared.Checked.{Checked}
 use Rattle.refusals.proofs.Checks.{reply-refused, content-refused}
 use Rattle.boxfile.specs.File.{rowsOf, fileChecks, boxFile}
-use Rattle.satmegwo.specs.Exports.{readBoxChecks, roomNumber}
-use Rattle.satmegwo.proofs.Giving.{figures-told, refusal-told, room-refused, room-passed}
+use Rattle.answers.specs.Answers.{roomNumber}
+use Rattle.satmegwo.specs.Exports.{readBoxChecks}
+use Rattle.answers.proofs.Giving.{figures-told, refusal-told, room-refused, room-passed}
 use borrow.Author.Needs.{needs}
 use Rattle.satmegwo.proofs.satmegwo_read_box.Statement.{statement}
 use Rattle.satmegwo.proofs.satmegwo_read_box.Tie as tie

@@ -7,8 +7,8 @@ use Rattle.boolean.specs.Selection.{shown}
 use Rattle.refusals.specs.Table.{first}
 use Rattle.rounds.specs.Round.{Summand, boxOf, boxes, outputsOf, sumNonlinearity, sumChecks}
 use Rattle.rounds.proofs.Reported.{figures-number}
-use Rattle.satmegwo.specs.Exports.{roomNumber}
-use Rattle.satmegwo.proofs.Giving.{gives-same, room-first}
+use Rattle.answers.specs.Answers.{roomNumber}
+use Rattle.answers.proofs.Giving.{gives-same, room-first}
 use borrow.Author.Needs.{needs}
 use Rattle.satmegwo.proofs.satmegwo_sum_nonlinearity.Statement.{statement}
 use Rattle.satmegwo.proofs.satmegwo_sum_nonlinearity.Tie as tie

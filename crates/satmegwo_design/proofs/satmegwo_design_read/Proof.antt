@@ -8,7 +8,7 @@ use Rattle.refusals.specs.declared.Checked.{Checked}
 use Rattle.refusals.proofs.Checks.{reply-refused, content-refused}
 use Rattle.design.specs.Model.{readChecks}
 use Rattle.design.specs.Calls.{state, rowsOf, boxHeld, Sound}
-use Rattle.satmegwo.proofs.Giving.{figures-told, refusal-told, room-refused, room-passed}
+use Rattle.answers.proofs.Giving.{figures-told, refusal-told, room-refused, room-passed}
 use Rattle.satmegwo_design.specs.Reading.{readDesignChecks}
 use Rattle.satmegwo_design.proofs.Numbers.{only-seven}
 use borrow.Author.Needs.{needs}

@@ -3,7 +3,7 @@ use mathlib.Core.Path.{sym, ap, _∙_}
 use borrow.Author.Needs.{needs}
 use Rattle.server.specs.declared.Asked.{Asked}
 use Rattle.server.specs.Calls.{answered}
-use Rattle.satmegwo.proofs.Giving.{gives-refused, gives-same}
+use Rattle.answers.proofs.Giving.{gives-refused, gives-same}
 use Rattle.satmegwo_server.specs.Exports.{standingReply}
 use Rattle.satmegwo_server.proofs.give_standing.Statement.{statement}
 use Rattle.satmegwo_server.proofs.give_standing.Tie as tie

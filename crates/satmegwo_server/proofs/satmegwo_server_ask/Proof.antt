@@ -1,7 +1,7 @@
 -- `satmegwo_server::satmegwo_server_ask` meets its contract: the answer's figures, or the number. Assumes nothing.
 use mathlib.Core.Path.{ap}
 use borrow.Author.Needs.{needs}
-use Rattle.satmegwo.proofs.Giving.{gives-same}
+use Rattle.answers.proofs.Giving.{gives-same}
 use Rattle.satmegwo_server.specs.Exports.{standingReply}
 use Rattle.satmegwo_server.proofs.satmegwo_server_ask.Statement.{statement}
 use Rattle.satmegwo_server.proofs.satmegwo_server_ask.Tie as tie

@@ -1,7 +1,7 @@
 -- `satmegwo_server::satmegwo_server_withdraw` meets its contract: that of the call, with a number in place of the answer. Assumes nothing.
 use mathlib.Core.Path.{ap, _∙_}
 use borrow.Author.Needs.{needs}
-use Rattle.satmegwo.specs.Exports.{status}
+use Rattle.answers.specs.Answers.{status}
 use Rattle.satmegwo_server.proofs.satmegwo_server_withdraw.Statement.{statement}
 use Rattle.satmegwo_server.proofs.satmegwo_server_withdraw.Tie as tie
 

@@ -1,0 +1,47 @@
+-- `answers::give_sum` meets its contract: each case gives its figures, or the number. Assumes nothing.
+use mathlib.Core.Path.{sym, ap, _∙_}
+use Rattle.rounds.specs.Calls.{leastSum}
+use Rattle.answers.proofs.Giving.{gives-refused, gives-same}
+use borrow.Author.Needs.{needs}
+use Rattle.answers.proofs.give_sum.Statement.{statement}
+use Rattle.answers.proofs.give_sum.Tie as tie
+
+enum-known-answer : tie.Need-enum-known-answer
+enum-known-answer c = search needs
+
+give-masks-requires : tie.Need-give-masks-requires
+give-masks-requires c κs = search needs
+
+enum-known-answer-2 : tie.Need-enum-known-answer-2
+enum-known-answer-2 c = search needs
+
+number-of-requires : tie.Need-number-of-requires
+number-of-requires c κs = search needs
+
+same-length : tie.Need-same-length
+same-length c = search needs
+
+returns : tie.Need-returns
+returns c =
+    let given = c .before .before in
+    let is = given .before .before .before in
+    let a = is .before .before .before .args in
+    gives-same (a .figures .now) (sym (ap (leastSum (a .count)) (is .answer .given .1))) (given .give-masks .ensures)
+
+returns-2 : tie.Need-returns-2
+returns-2 c =
+    let a = c .before .before .before .before .before .args in
+    let g = gives-same (a .figures .now) (sym (ap (leastSum (a .count)) (c .before .before .answer2 .given .1))) (gives-refused _ (a .figures .now)) in
+    (c .number-of .ensures ∙ g .0, g .1)
+
+pub give-sum-spec : {M : Type 1} → statement M
+give-sum-spec =
+    tie.close
+    (tie.spec
+    enum-known-answer
+    give-masks-requires
+    enum-known-answer-2
+    number-of-requires
+    same-length
+    returns
+    returns-2)

@@ -1,0 +1,29 @@
+-- `answers::status_of` meets its contract: case by case. Assumes nothing.
+use mathlib.Core.Path.{sym, ap, _∙_}
+use borrow.Author.Needs.{needs}
+use Rattle.refusals.specs.declared.Written.{Written}
+use Rattle.refusals.specs.Table.{written}
+use Rattle.answers.specs.Answers.{status}
+use Rattle.answers.proofs.status_of.Statement.{statement}
+use Rattle.answers.proofs.status_of.Tie as tie
+
+enum-told : tie.Need-enum-told
+enum-told c = search needs
+
+enum-known-answer : tie.Need-enum-known-answer
+enum-known-answer c = search needs
+
+number-of-requires : tie.Need-number-of-requires
+number-of-requires c κs = search needs
+
+returns : tie.Need-returns
+unfolding status
+returns c = search needs
+
+returns-2 : tie.Need-returns-2
+unfolding status
+returns-2 c = c .number-of .ensures ∙ sym (ap (λ (w : Written). status (written w)) (c .before .before .answer .given .1))
+
+pub status-of-spec : {M : Type 1} → statement M
+status-of-spec =
+    tie.close (tie.spec enum-told enum-known-answer number-of-requires returns returns-2)
