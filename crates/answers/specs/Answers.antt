@@ -1,10 +1,11 @@
 -- What C is given in place of an answer: a number, and an array that is lent for the figures.
 use Prim.Native.Nat.{ℕ}
 use mathlib.Core.Bool.{true, false}
-use mathlib.Core.List.{List}
+use mathlib.Core.List.{List, []}
 use lib.Dec.{eqb}
 use lib.ListN.{length}
-use Rattle.refusals.specs.Table.{Reply, figures, refusal, number}
+use mathlib.Core.Path.{_≡_}
+use Rattle.refusals.specs.Table.{Check, Reply, figures, refusal, number, first, replyAfter, contentAfter}
 use Rattle.refusals.specs.declared.Refusal.the-variants.{WrittenLength}
 use Rattle.refusals.specs.declared.Checked.{Checked}
 use Rattle.refusals.specs.declared.Checked.the-variants.{Accepted, Refused}
@@ -23,6 +24,16 @@ lent (refusal k) room = refusal k
 unfoldable pub figuresAfter : Reply → List ℕ → List ℕ
 figuresAfter (figures given) old = given
 figuresAfter (refusal k) old = old
+
+-- The outcome of an exported call that writes its result to one lent array: the number, and what the array holds afterwards.
+pub record WroteOut {A : Type 0} (checks : List Check) (result old : List A) (returned : ℕ) (new : List A) : Type 0 where
+  pub number : returned ≡ status (replyAfter (first checks) [])
+  pub content : new ≡ contentAfter (first checks) result old
+
+-- The outcome of an exported call whose figures go to one lent array.
+pub record FiguresOut (reply : Reply) (old : List ℕ) (returned : ℕ) (new : List ℕ) : Type 0 where
+  pub number : returned ≡ status (lent reply (length old))
+  pub content : new ≡ figuresAfter (lent reply (length old)) old
 
 -- what is returned where that array has another length, and the checks before it found this
 abbrev pub roomNumber : Checked → ℕ

@@ -1,10 +1,12 @@
 -- Sums, counts and lists over the numbers below a bound.
 use Prim.Native.Nat.{ℕ, zero, suc, _+_, max}
+use mathlib.Core.Path.{_≡_}
 use mathlib.Core.Bool.{Bool, true, false, not, _&&_}
 use mathlib.Core.List.{List, [], _∷_, _++_}
 use lib.Bits.{bitXor}
 use lib.Dec.{eqb}
 use lib.IntN.{ℤ, pos, _+ℤ_}
+use lib.ListN.{length}
 
 -- F 0 + F 1 + .. + F (k − 1)
 unfoldable pub sumBelow : ℕ → (ℕ → ℤ) → ℤ
@@ -67,3 +69,7 @@ unfoldable pub distinct : List ℕ → Bool
 unfolding every
 distinct [] = true
 distinct (x ∷ xs) = every (λ y. not (eqb x y)) xs && distinct xs
+
+-- What a function leaves in an array that it was lent only to work in: any content, as long as before.
+abbrev pub AnyContent : {A : Type 0} (old new : List A) → Type 0
+AnyContent old new = length new ≡ length old

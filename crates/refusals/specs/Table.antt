@@ -100,6 +100,12 @@ abbrev pub contentAfter : {A : Type 0} → Checked → List A → List A → Lis
 contentAfter Accepted result old = result
 contentAfter (Refused e) result old = old
 
+-- The outcome of a call that writes to one lent array, by its checks: it says the figures given, or the number of the refusal alone, and the array then
+-- holds the result, or what it held. A contract of such a call is this record, and so is what a theorem on such calls assumes.
+pub record Wrote {A : Type 0} (checks : List Check) (given : List ℕ) (result old : List A) (said : Reply) (new : List A) : Type 0 where
+  pub reply : said ≡ replyAfter (first checks) given
+  pub content : new ≡ contentAfter (first checks) result old
+
 -- what the answer of a call that only writes says: no figure, or the number
 abbrev pub written : Written → Reply
 written Done = figures []
