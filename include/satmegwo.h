@@ -8,7 +8,9 @@
  *
  * THE LIMIT. A combination within the limit i, from 1 to m, is one of at most i outputs: c
  * has 1 to i ones. With i = m these are all. A call over combinations visits each of those
- * within its limit: 41,448 at 32 outputs with i = 4, and 4,294,967,295 with i = 32.
+ * within its limit: 41,448 at 32 outputs with i = 4, and 4,294,967,295 with i = 32. With i
+ * below m a combination of more outputs may be nearer: the nonlinearity and the degree over
+ * all are at most those within i, autocorrelation and dynamic distance at least.
  *
  * FIRST. Among equal figures the combination of fewer outputs comes first, and of those
  * with equally many the smaller c: 1, 2, 4, 3, 5, 6, 7 with three outputs. "The first
