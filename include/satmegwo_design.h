@@ -15,8 +15,18 @@
  *
  * and the checks of a box, 1 to 4, are those of satmegwo.h.
  *
+ * NO BOX. Where satmegwo_design_begin is refused, the design that it gives has no box: n and
+ * m are 0, and so is everything else in it. Every operation on it is refused by 6, which
+ * leaves it so, and reading it is refused by 7.
+ *
+ * NOTHING ELSE. A design that these calls made holds its box and its marks and nothing else:
+ * the elements past the rows of the box, and past those of a mark that is set, are 0, and a
+ * mark that is not set is 0 throughout. So two such designs with the same box and the same
+ * marks are equal, byte for byte.
+ *
  * ANY BYTES. A design that anything but these calls made or changed may be handed in as
- * well: what the call then does with it is open, but it reads nothing outside it.
+ * well: what the call then answers is open, but it reads nothing outside it, a refused
+ * operation hands it back unchanged, and a refused reading writes to no array.
  *
  * This is libsatmegwo_design.a, which can be linked beside libsatmegwo.a.
  */
@@ -33,7 +43,8 @@ extern "C" {
  * this many bytes of it. A design of 17,480 bytes goes over it at each call. */
 #define SATMEGWO_DESIGN_STACK 75000u
 
-/* A mark is set where `taken` is 1; its box is in the first 2^n elements. */
+/* A mark is set where `taken` is 1, and not set where it is 0; its box is in the first 2^n
+ * elements. */
 typedef struct {
     uint32_t taken;
     uint32_t rows[256];
@@ -53,13 +64,13 @@ typedef struct {
     uint32_t status;
 } satmegwo_outcome;
 
-/* A design of this box, with no mark set. Refused, there is no box in it.
+/* A design of this box, with no mark set. Refused, it is the design without a box.
  * Refusals: 1, 2, 3, 4. */
 satmegwo_outcome satmegwo_design_begin(uint32_t n, uint32_t m, const uint32_t *rows, size_t rows_len);
 
 /* Exchanges the rows of inputs x and y. They may be the same input, and have equal rows.
  * Between two moments with only swaps each output value is given by as many inputs as
- * before. Refusals: 6. */
+ * before; marks may be set between them. Refusals: 6. */
 satmegwo_outcome satmegwo_design_swap(satmegwo_design design, uint32_t x, uint32_t y);
 
 /* Adds the affine function (w, b) to column j: bit j of row x is XORed with w.x XOR b.

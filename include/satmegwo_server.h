@@ -11,12 +11,14 @@
  * put there, whatever is called for other places, and then has the figure and the witness
  * that satmegwo_nonlinearity gives with the limit m.
  *
- * A server that anything but these calls has made or changed gets a free answer, but no
- * call reads or writes outside of it: it may hold any bytes.
+ * A server that anything but these calls has made or changed may hold any bytes. No call
+ * reads or writes outside of it, a refused call hands it back as it was, and it is soon done:
+ * what has other widths than a box that may be put here is never unfinished, so that no box
+ * is after 8 x 65,535 steps. But its figures need be those of no box.
  *
  * Refusals: 18 the place is not 1 to 8; then 19 it is taken (on putting) or empty (on asking
  * and withdrawing); then those of a box, where 2 means that m is not 1 to 16. A refused call
- * hands the server back as it was.
+ * hands the server back as it was, every field of it, and writes to no array.
  */
 #ifndef SATMEGWO_SERVER_H
 #define SATMEGWO_SERVER_H
@@ -29,7 +31,10 @@ extern "C" {
 
 /* A place: a box where `taken` is 1, and else none. Of the box it holds the widths and rows,
  * how many combinations were examined (1, 2, 3 and so on, as many as this says), and the
- * least count among exactly those with its first witness. */
+ * least count among exactly those with its first witness c, w, b. Before the first one was
+ * examined `count` is 2^n + 1, which no pair has, and c, w and b are 0. The array has zeros
+ * past the 2^n rows. A place with no box holds zeros in every field: nothing is left there
+ * of a box that was withdrawn. */
 struct satmegwo_place {
     uint32_t taken, n, m;
     uint32_t rows[256];
@@ -60,14 +65,15 @@ struct satmegwo_server satmegwo_server_begin(void);
  * Refusals: 18, 19, 1, 2, 3, 4. */
 struct satmegwo_server_outcome satmegwo_server_put(struct satmegwo_server server, uint32_t place, uint32_t n, uint32_t m, const uint32_t *rows, size_t rows_len);
 
-/* Takes the box off a place, finished or not: the place is empty again.
+/* Takes the box off a place, finished or not: the place is empty again, all zeros.
  * Refusals: 18, 19. */
 struct satmegwo_server_outcome satmegwo_server_withdraw(struct satmegwo_server server, uint32_t place);
 
-/* One step. */
+/* One step. With no box unfinished the server comes back as it was, every field of it. */
 struct satmegwo_server satmegwo_server_step(struct satmegwo_server server);
 
-/* So many steps, one after the other; it returns early where no box is unfinished. */
+/* So many steps, one after the other. It returns early where no box is unfinished, after
+ * 8 x 65,535 steps at the latest, so that a budget of 4294967295 means "to the end". */
 struct satmegwo_server satmegwo_server_run(struct satmegwo_server server, uint32_t budget);
 
 /* What stands on a place. A finished box keeps its result until it is withdrawn.

@@ -1,8 +1,8 @@
 //! A design: one box with marks 1 to 16. Document 02, section 11.
 //!
 //! It is kept as its whole past: the rows of every moment, and for each mark the moment at
-//! which it was last set.
-use crate::model::{add_to_column, check_box, check_parameter, check_written, refuse_when, Answer};
+//! which it was last set. Where `begin` was refused there was no moment.
+use crate::model::{add_to_column, check_box, check_parameter, check_written, refuse_when, Answer, PARAMETER, WRITTEN_LENGTH};
 
 /// The refusal of this section.
 pub const UNSET_MARK: u32 = 17;
@@ -28,15 +28,21 @@ pub enum Operation {
 }
 
 impl Design {
-    /// A design begins with no mark set. Refusals 1 to 4.
-    pub fn begin(n: u32, m: u32, rows: &[u32]) -> Answer<Design> {
-        check_box(n, m, rows)?;
-        Ok(Design { n, m, moments: vec![rows.to_vec()], set_at: [None; MARKS as usize] })
+    /// A design begins with no mark set. Refusals 1 to 4; refused, it has no box: n and m
+    /// are 0.
+    pub fn begin(n: u32, m: u32, rows: &[u32]) -> (Design, Answer<()>) {
+        let answer = check_box(n, m, rows);
+        let begun = |n, m, moments| Design { n, m, moments, set_at: [None; MARKS as usize] };
+        (if answer.is_ok() { begun(n, m, vec![rows.to_vec()]) } else { begun(0, 0, Vec::new()) }, answer)
     }
 
-    /// The box of this moment.
+    pub fn has_box(&self) -> bool {
+        !self.moments.is_empty()
+    }
+
+    /// The box of this moment. Without a box it has no rows.
     pub fn rows(&self) -> &[u32] {
-        self.moments.last().expect("a design begins with a moment")
+        self.moments.last().map_or(&[], |rows| rows)
     }
 
     /// The box that a mark keeps.
@@ -44,8 +50,9 @@ impl Design {
         self.set_at[k as usize - 1].map(|moment| &self.moments[moment][..])
     }
 
-    /// Refusal 6, and 17 after it. Refused, the design is as it was.
+    /// Refusal 6, and 17 after it; without a box always 6. Refused, the design is as it was.
     pub fn operate(&mut self, operation: Operation) -> Answer<()> {
+        refuse_when(!self.has_box(), PARAMETER)?;
         let rows = match operation {
             Operation::Swap(x, y) => self.swapped(x, y)?,
             Operation::Add(j, w, b) => add_to_column(self.n, self.m, self.rows(), j, w, b, self.rows().len())?,
@@ -77,8 +84,9 @@ impl Design {
     }
 
     /// n, m and the rows. Refusal 7: an array for the rows that isn't 2^n long, or one for n
-    /// and m that isn't 2 long.
+    /// and m that isn't 2 long; without a box always 7.
     pub fn read(&self, rows_len: usize, figures_len: usize) -> Answer<([u32; 2], Vec<u32>)> {
+        refuse_when(!self.has_box(), WRITTEN_LENGTH)?;
         check_written(rows_len, 1 << self.n)?;
         check_written(figures_len, 2)?;
         Ok(([self.n, self.m], self.rows().to_vec()))
@@ -91,7 +99,9 @@ mod tests {
     use super::*;
 
     fn begun() -> Design {
-        Design::begin(2, 2, &[0, 1, 2, 3]).expect("it is a box")
+        let (design, answer) = Design::begin(2, 2, &[0, 1, 2, 3]);
+        assert_eq!(answer, Ok(()));
+        design
     }
 
     fn after(operations: &[Operation]) -> Design {
@@ -143,10 +153,23 @@ mod tests {
 
     #[test]
     fn a_design_begins_with_a_box() {
-        assert_eq!(Design::begin(0, 2, &[0]).map(|_| ()), Err(1));
-        assert_eq!(Design::begin(1, 33, &[0]).map(|_| ()), Err(2));
-        assert_eq!(Design::begin(1, 1, &[0]).map(|_| ()), Err(3));
-        assert_eq!(Design::begin(1, 1, &[0, 2]).map(|_| ()), Err(4));
+        assert_eq!(Design::begin(0, 2, &[0]).1, Err(1));
+        assert_eq!(Design::begin(1, 33, &[0]).1, Err(2));
+        assert_eq!(Design::begin(1, 1, &[0]).1, Err(3));
+        assert_eq!(Design::begin(1, 1, &[0, 2]).1, Err(4));
         assert!((1..=MARKS).all(|k| begun().kept(k).is_none()));
+    }
+
+    #[test]
+    fn without_a_box_everything_is_refused() {
+        let (mut design, answer) = Design::begin(9, 2, &[0]);
+        assert_eq!(answer, Err(1));
+        for operation in [Swap(0, 0), Add(1, 0, 0), Mark(1), Return(1), Return(17)] {
+            assert_eq!(design.operate(operation), Err(6), "{operation:?}");
+        }
+        assert_eq!(design.read(1, 2), Err(7));
+        assert_eq!(design.read(0, 2), Err(7));
+        assert_eq!((design.n, design.m, design.rows()), (0, 0, &[][..]));
+        assert!((1..=MARKS).all(|k| design.kept(k).is_none()));
     }
 }

@@ -1,6 +1,7 @@
 //! `second server`: every call on the evaluation server against the model, in long histories
 //! over all places, and on servers of random bytes.
 use crate::calls::Run;
+use crate::forged::damaged_servers;
 use crate::lent::Lent;
 use crate::library_server::{self as library, Place};
 use second_model::boxes::{self, KINDS};
@@ -11,9 +12,6 @@ use std::time::Instant;
 
 /// How many calls the histories make if nothing else is said.
 pub const DEFAULT_COUNT: u64 = 100_000;
-
-/// How many servers of random bytes there are.
-const DAMAGED: u64 = 3_000;
 
 type Part<'a> = &'a dyn Fn(&mut Run);
 
@@ -43,15 +41,15 @@ struct Pair {
     model: Server,
 }
 
-/// Whether a place of the library's server holds what the model's does, and nothing more.
+/// Whether a place of the library's server holds what the model's does, and nothing more: an
+/// empty one zeros, and a box of which no combination was examined a count that no pair has.
 fn same_place(held: &Place, model: &Server, place: u32) -> bool {
-    let Some(analysis) = model.on(place) else {
-        return held.taken != 1;
-    };
-    let widths = (held.taken, held.n, held.m) == (1, analysis.n, analysis.m);
-    let rows = held.rows[..analysis.rows.len()] == analysis.rows[..] && held.rows[analysis.rows.len()..].iter().all(|&row| row == 0);
-    let least = analysis.least().map_or(true, |found| found == held.found);
-    widths && rows && held.examined == analysis.examined() && least
+    let wanted = model.on(place).map_or(library::EMPTY, |analysis| Place {
+        examined: analysis.examined(),
+        found: analysis.least().unwrap_or([(1 << analysis.n) + 1, 0, 0, 0]),
+        ..library::untouched_box(analysis.n, analysis.m, &analysis.rows)
+    });
+    *held == wanted
 }
 
 impl Pair {
@@ -115,7 +113,7 @@ impl Pair {
 }
 
 /// 1 and the result, or five zeros while there is none.
-fn figures_of(found: Option<Found>) -> [u32; 5] {
+pub fn figures_of(found: Option<Found>) -> [u32; 5] {
     found.map_or([0; 5], |[count, c, w, b]| [1, count, c, w, b])
 }
 
@@ -123,7 +121,7 @@ fn figures_of(found: Option<Found>) -> [u32; 5] {
 // Arguments.
 // ---------------------------------------------------------------------------
 
-fn any_place(random: &mut Random) -> u32 {
+pub fn any_place(random: &mut Random) -> u32 {
     if random.one_in(25) {
         random.pick(&[0, 9, 10, 16, 256, 1 << 31, u32::MAX])
     } else {
@@ -142,7 +140,7 @@ fn widths(random: &mut Random) -> (u32, u32) {
 }
 
 /// A box, or now and then something that is none.
-fn any_box(random: &mut Random) -> (u32, u32, Vec<u32>) {
+pub fn any_box(random: &mut Random) -> (u32, u32, Vec<u32>) {
     let (mut n, mut m) = widths(random);
     let kind = random.below(KINDS);
     let mut rows = boxes::of_kind(kind, n, m, random);
@@ -250,51 +248,4 @@ fn widest_boxes(run: &mut Run) {
         let model = second_model::fast::nonlinearity(n, m, &rows, m);
         run.count(wanted == model, || format!("{n} by {m}: the plain call says {wanted:?}, the model {model:?}"));
     }
-}
-
-/// Servers of random bytes, some with places that look sound: every call returns, with a number
-/// that it may give, and reads and writes nothing outside.
-fn damaged_servers(run: &mut Run) {
-    for _ in 0..DAMAGED {
-        let mut server = damaged(&mut run.random);
-        for _ in 0..8 {
-            let place = any_place(&mut run.random);
-            let (n, m, rows) = any_box(&mut run.random);
-            let mut figures: Lent<u32> = Lent::new(5, &mut run.random);
-            let status;
-            (server, status) = match run.random.below(5) {
-                0 => parts(library::put(server, place, n, m, &rows)),
-                1 => parts(library::withdraw(server, place)),
-                2 => (library::step(server), 0),
-                3 => (library::run(server, run.random.below(50)), 0),
-                _ => (server, library::ask(server, place, figures.part())),
-            };
-            let written = figures.content().to_vec();
-            run.count([0, 1, 2, 3, 4, 18, 19].contains(&status) && figures.holds(&written), || format!("a damaged server answers {status}"));
-        }
-    }
-}
-
-fn parts(given: library::Outcome) -> (library::Server, u32) {
-    (given.server, given.status)
-}
-
-fn damaged(random: &mut Random) -> library::Server {
-    let mut server = library::begin();
-    for held in &mut server.places {
-        let word = |random: &mut Random| random.draw() as u32;
-        held.rows.iter_mut().for_each(|row| *row = word(random));
-        held.found.iter_mut().for_each(|number| *number = word(random));
-        (held.taken, held.n, held.m, held.examined) = (word(random), word(random), word(random), word(random));
-        if !random.one_in(3) {
-            (held.taken, held.n, held.m) = (random.pick(&[0, 1, 1, 1, 2]), random.below(11), random.below(34));
-            held.examined = random.pick(&[0, 1, 6, 65_534, 65_535, 65_536, u32::MAX]);
-        }
-        if random.one_in(2) {
-            held.rows.iter_mut().for_each(|row| *row &= 0xff);
-        }
-    }
-    let any = random.draw() as u32;
-    server.last = random.pick(&[0, 1, 8, 9, 1000, u32::MAX, any]);
-    server
 }

@@ -14,6 +14,16 @@ pub struct Place {
     pub found: [u32; 4],
 }
 
+/// A place with no box on it.
+pub const EMPTY: Place = Place { taken: 0, n: 0, m: 0, rows: [0; 256], examined: 0, found: [0; 4] };
+
+/// A box as it is put on a place: its rows and then zeros, and a count that no pair has.
+pub fn untouched_box(n: u32, m: u32, rows: &[u32]) -> Place {
+    let mut kept = [0; 256];
+    kept[..rows.len()].copy_from_slice(rows);
+    Place { taken: 1, n, m, rows: kept, examined: 0, found: [rows.len() as u32 + 1, 0, 0, 0] }
+}
+
 #[repr(C)]
 #[derive(Clone, Copy, Debug, PartialEq)]
 pub struct Server {

@@ -6,6 +6,7 @@ mod compare;
 mod damage;
 mod evaluations;
 mod files;
+mod forged;
 mod histories;
 mod lent;
 mod library;

@@ -67,7 +67,7 @@ pub fn check_written(length: usize, right: usize) -> Answer<()> {
 }
 
 /// Refusals 1 to 4 of a box with at most `most` outputs.
-pub(crate) fn check_box_up_to(most: u32, n: u32, m: u32, rows: &[u32]) -> Answer<()> {
+pub fn check_box_up_to(most: u32, n: u32, m: u32, rows: &[u32]) -> Answer<()> {
     check_inputs(n, 8)?;
     check_outputs(m, most)?;
     check_read(rows.len(), 1 << n)?;

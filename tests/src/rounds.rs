@@ -23,7 +23,7 @@ pub struct Summand {
 }
 
 /// N: how many inputs the sum of boxes has.
-fn all_inputs(boxes: &[Summand]) -> u32 {
+pub fn all_inputs(boxes: &[Summand]) -> u32 {
     boxes.iter().map(|one| one.n).sum()
 }
 
@@ -58,6 +58,13 @@ fn put_together(boxes: &[Summand], masks: &[u32]) -> u64 {
         below += one.n;
     }
     whole
+}
+
+/// The figures of a sum as those of one box: figure, c, the masks put together, b. The masks have 32
+/// bits at most, as the inputs have.
+pub fn as_one_box(boxes: &[Summand], figures: &[u32]) -> [u32; 4] {
+    let (masks, b) = (&figures[2..2 + boxes.len()], figures[2 + boxes.len()]);
+    [figures[0], figures[1], put_together(boxes, masks) as u32, b]
 }
 
 /// At how many of all inputs combination c of the sum differs from the affine function (w, b).
@@ -205,15 +212,17 @@ mod tests {
         }
     }
 
-    /// The figure is that of the sum as one box, whatever the order of its masks.
+    /// Figure and witness are those of the sum as one box, the masks put together: each box's first
+    /// mask comes first in both orders.
     #[test]
-    fn the_figure_is_that_of_the_sum_as_a_box() {
+    fn the_sum_has_the_nonlinearity_of_one_box() {
         let mut random = Random::new(7);
-        for round in 0..60 {
+        for round in 0..200 {
             let m = random.between(1, 3);
+            let i = random.between(1, m);
             let boxes = random_summands(&mut random, 1 + round % MOST, 2, m);
-            let whole = nonlinearity_by_definition(all_inputs(&boxes), m, &rows_of_sum(&boxes), m);
-            assert_eq!(by_products(&boxes, m)[0], whole[0], "{boxes:?}");
+            let whole = nonlinearity_by_definition(all_inputs(&boxes), m, &rows_of_sum(&boxes), i);
+            assert_eq!(as_one_box(&boxes, &by_products(&boxes, i)), whole, "i = {i}, {boxes:?}");
         }
     }
 

@@ -14,6 +14,7 @@ pub fn all(run: &mut Run, count: u64) {
     wide_sums(run);
     largest_products(run);
     single_boxes(run);
+    sums_as_one_box(run);
     numbers_of_boxes(run);
     faults_in_order(run);
     limits_and_lengths(run);
@@ -125,6 +126,25 @@ fn single_boxes(run: &mut Run) {
         let codes = (library::sum_nonlinearity(1, lent, i, &mut sum), library::nonlinearity(n, m, &one.rows, i, &mut alone));
         run.count(codes.0 == codes.1 && sum == alone, || {
             format!("one box: the sum gives {codes:?} {sum:?}, the nonlinearity {alone:?} for n = {n}, m = {m}, i = {i}, rows = {:?}", one.rows)
+        });
+    }
+}
+
+/// A sum of at most eight inputs is a box too: the nonlinearity call gives its figure and its
+/// witness, the masks put together.
+fn sums_as_one_box(run: &mut Run) {
+    for round in 0..400 {
+        let number = 1 + round % MOST;
+        let m = run.random.between(1, 6);
+        let i = run.random.between(1, m);
+        let read = random_sum(&mut run.random, number, [8, 4, 2, 2][number - 1], m);
+        let four = four_of(&mut run.random, &read);
+        let lent = four.each_ref().map(|one| (one.n, one.m, &one.rows[..]));
+        let (mut sum, mut whole) = (vec![0; 3 + number], [0; 4]);
+        let sum_code = library::sum_nonlinearity(number as u32, lent, i, &mut sum);
+        let whole_code = library::nonlinearity(rounds::all_inputs(&read), m, &rounds::rows_of_sum(&read), i, &mut whole);
+        run.count(sum_code == 0 && whole_code == 0 && rounds::as_one_box(&read, &sum) == whole, || {
+            format!("as one box: the sum gives {sum_code} {sum:?}, the nonlinearity {whole_code} {whole:?} for i = {i}, boxes = {read:?}")
         });
     }
 }

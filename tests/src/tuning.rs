@@ -51,29 +51,24 @@ struct Both {
     model: design::Design,
 }
 
-/// Whether the library's design is the model's: widths, box and marks.
-fn agree(library: &Design, model: &design::Design) -> bool {
-    let size = 1 << model.n;
-    let mark_agrees = |k: u32| {
-        let mark = &library.marks[k as usize - 1];
-        match model.kept(k) {
-            Some(rows) => mark.taken == 1 && mark.rows[..size] == *rows,
-            None => mark.taken != 1,
-        }
-    };
-    (library.n, library.m) == (model.n, model.m) && library.rows[..size] == *model.rows() && (1..=MARKS).all(mark_agrees)
+/// Rows as the header has them in an array: the elements past them are 0.
+fn array_of(rows: &[u32]) -> [u32; MOST_ROWS] {
+    std::array::from_fn(|x| rows.get(x).copied().unwrap_or(0))
 }
 
-/// Begins both, where the model does.
-fn begin(run: &mut Run, n: u32, m: u32, rows: &[u32]) -> Option<Both> {
+/// What the library's design must be, every field of it: a mark that is not set is all 0.
+fn whole(model: &design::Design) -> Design {
+    let mark = |k| model.kept(k).map_or(Snapshot { taken: 0, rows: [0; MOST_ROWS] }, |rows| Snapshot { taken: 1, rows: array_of(rows) });
+    Design { n: model.n, m: model.m, rows: array_of(model.rows()), marks: std::array::from_fn(|i| mark(i as u32 + 1)) }
+}
+
+/// Begins both; refused, neither has a box.
+fn begin(run: &mut Run, n: u32, m: u32, rows: &[u32]) -> Both {
     let outcome = library_design::begin(n, m, rows);
-    let wanted = design::Design::begin(n, m, rows);
-    let same = match &wanted {
-        Ok(model) => outcome.status == 0 && agree(&outcome.design, model),
-        Err(number) => outcome.status == *number,
-    };
+    let (model, wanted) = design::Design::begin(n, m, rows);
+    let same = outcome.status == wanted.err().unwrap_or(0) && outcome.design == whole(&model);
     run.count(same, || format!("begin n = {n}, m = {m}, rows = {rows:?}: {}, the model says {wanted:?}", outcome.status));
-    wanted.ok().map(|model| Both { library: outcome.design, model })
+    Both { library: outcome.design, model }
 }
 
 impl Both {
@@ -82,7 +77,7 @@ impl Both {
         let outcome = library_design::operate(&before, operation);
         let wanted = self.model.operate(operation);
         let same = match wanted {
-            Ok(()) => outcome.status == 0 && agree(&outcome.design, &self.model),
+            Ok(()) => outcome.status == 0 && outcome.design == whole(&self.model),
             Err(number) => outcome.status == number && outcome.design == before,
         };
         run.count(same, || format!("{operation:?}: {}, the model says {wanted:?} of {:?}", outcome.status, self.model));
@@ -120,7 +115,7 @@ fn any_begun(run: &mut Run) -> Both {
     let n = if run.random.one_in(4) { run.random.between(1, 8) } else { run.random.between(1, 4) };
     let (m, kind) = (run.random.between(1, 32), run.random.below(KINDS));
     let rows = boxes::of_kind(kind, n, m, &mut run.random);
-    begin(run, n, m, &rows).expect("it is a box")
+    begin(run, n, m, &rows)
 }
 
 // ---------------------------------------------------------------------------
@@ -226,7 +221,7 @@ fn swaps_alone(run: &mut Run) {
 fn bounds(run: &mut Run) {
     for (n, m) in (1..=8).flat_map(|n| [1, 2, 7, 8, 31, 32].map(|m| (n, m))) {
         let rows = boxes::random_rows(n, m, &mut run.random);
-        let mut both = begin(run, n, m, &rows).expect("it is a box");
+        let mut both = begin(run, n, m, &rows);
         let size = 1 << n;
         let far = [size, size + 1, 256, 65536, 1 << 31, u32::MAX];
         for x in [0, 1, size - 1].into_iter().chain(far) {
@@ -270,6 +265,28 @@ fn lengths(run: &mut Run, both: &Both) {
     }
 }
 
+/// Without a box every operation is refused by 6 and leaves the design so, and reading by 7.
+fn without_a_box(run: &mut Run, both: &mut Both) {
+    let operations = [
+        Operation::Swap(0, 0),
+        Operation::Swap(0, 1),
+        Operation::Add(1, 0, 0),
+        Operation::Add(0, 0, 0),
+        Operation::Mark(1),
+        Operation::Mark(16),
+        Operation::Mark(17),
+        Operation::Return(1),
+        Operation::Return(16),
+        Operation::Return(0),
+    ];
+    for operation in operations {
+        both.operate(run, operation);
+    }
+    for (rows_len, figures_len) in [(0, 2), (1, 2), (2, 2), (256, 2), (1, 1), (1, 0)] {
+        both.read(run, rows_len, figures_len);
+    }
+}
+
 /// Refusals 1 to 4, from both sides and in their order.
 fn beginnings(run: &mut Run) {
     for n in [0, 1, 2, 3, 8, 9, 10, 31, 32, 33, 256 + 2, u32::MAX] {
@@ -280,7 +297,10 @@ fn beginnings(run: &mut Run) {
             large[size / 2] = all_outputs(m.min(32)).saturating_add(1);
             let longer = [&right[..], &[0]].concat();
             for rows in [&right[..], &right[..size - 1], &longer, &[], &large, &large[..size - 1]] {
-                begin(run, n, m, rows);
+                let mut both = begin(run, n, m, rows);
+                if !both.model.has_box() {
+                    without_a_box(run, &mut both);
+                }
             }
         }
     }
@@ -288,7 +308,8 @@ fn beginnings(run: &mut Run) {
 
 // ---------------------------------------------------------------------------
 // Designs that anything else made or changed. The answer is free: the calls end, write
-// nothing outside, and do not depend on what lies around.
+// nothing outside, and do not depend on what lies around. A refused operation hands the
+// design back unchanged, and a refused reading writes to no array.
 // ---------------------------------------------------------------------------
 
 fn every_call_ends(run: &mut Run, design: &Design) {
@@ -296,12 +317,15 @@ fn every_call_ends(run: &mut Run, design: &Design) {
         let operation = any_operation(&mut run.random, design.n.clamp(1, 8), design.m.clamp(1, 32));
         let outcome = library_design::operate(design, operation);
         let again = library_design::operate(&Box::new(*design), operation);
-        run.count(outcome == again, || format!("{operation:?} of a damaged design: {}, then {}", outcome.status, again.status));
+        let kept = outcome.status == 0 || outcome.design == *design;
+        run.count(outcome == again && kept, || format!("{operation:?} of a damaged design: {}, then {}", outcome.status, again.status));
     }
     let rows_len = run.random.pick(&[0, 1, 2, 16, 255, 256, 257, 1 << design.n.min(10)]);
     let (mut rows, mut figures) = (run.lend::<u32>(rows_len), run.lend::<u32>(2));
-    library_design::read(design, rows.part(), figures.part());
-    run.count(rows.untouched_from(rows_len) && figures.untouched_from(2), || "reading a damaged design writes outside".to_string());
+    let code = library_design::read(design, rows.part(), figures.part());
+    let inside = rows.untouched_from(rows_len) && figures.untouched_from(2);
+    let kept = code == 0 || rows.untouched() && figures.untouched();
+    run.count(inside && kept, || format!("reading a damaged design: {code}, and it writes where it may not"));
 }
 
 /// One thing changed in a design that the calls made.

@@ -1,7 +1,7 @@
 -- Document 02 §12, sentence by sentence: two additions to one column are one, an addition made twice restores the box, any may be exchanged, and
 -- a list equals one with at most one addition for each column. Assumes nothing.
 use mathlib.Core.Path.{_≡_, refl, sym, ap, ap₂, _∙_, subst}
-use mathlib.Core.Bool.{true, not, false≢true}
+use mathlib.Core.Bool.{Bool, true, false, not, cond, false≢true}
 use mathlib.Core.List.{List, [], _∷_, _++_, List·Memᴰ}
 use Prim.Native.Nat.{ℕ, _*_, _-_, _^_, _≤_}
 use native.Mathlib.Omega.{arith}
@@ -9,7 +9,8 @@ use borrow.Author.Tests.{not-false}
 use lib.Bits.{bitXor, xor-self, xor-zero-r}
 use lib.ListN.{length}
 use Rattle.boolean.specs.Bits.{affine}
-use Rattle.boolean.proofs.Kept.{mem-keep}
+use Rattle.boolean.specs.Sums.{keep}
+use Rattle.boolean.proofs.Kept.{each-cong, keep-takes, keep-drops, mem-keep}
 use Rattle.boolean.proofs.Lists.{mem-listFrom}
 use Rattle.boolean.proofs.Xor.{xor-left-comm}
 use Rattle.refusals.specs.Table.{Box, first, boxChecks}
@@ -20,7 +21,7 @@ use Rattle.columns.specs.Addition.{Addition, additionChecked, standing, standin
 use Rattle.columns.proofs.Accepted.{accepts}
 use Rattle.columns.proofs.Additions.{Fits, accepted-fits, standing-keeps-box}
 use Rattle.additions.specs.Shortening.{isAccepted, acceptedOnly, together, toColumn, merged, oneForEach, addsNothing, shortened}
-use Rattle.additions.proofs.Effects.{checked-own, fits-accepted, term, effect, effect-fits, effects, effects-append, same-effects}
+use Rattle.additions.proofs.Effects.{ownChecked, checked-own, fits-accepted, term, effect, effect-fits, effects, effects-append, same-effects}
 use Rattle.additions.proofs.Merging.{AllFit, together-term, together-fits, merged-fits, columns-effects, dropped-effects, refused-effect, nothing-effect}
 use Rattle.additions.proofs.Shorter.{short, column-once, ascending-columns, no-longer}
 
@@ -71,6 +72,23 @@ module _ (n m : ℕ) (rows : List ℕ) (a b : Addition)
 pub still-accepted : (n m : ℕ) (rows : List ℕ) (a b : Addition) → Box n m rows → additionChecked n m (standing n m rows a) b ≡ additionChecked n m rows b
 still-accepted n m rows a b box = checked-own (standing-keeps-box n m rows box a) b ∙ sym (checked-own box b)
 
+-- whether it is accepted in its turn is then told by its own arguments
+accepted-own : {n m : ℕ} (list : List Addition) {rows : List ℕ} → Box n m rows
+    → acceptedOnly n m rows list ≡ keep (λ a. isAccepted (ownChecked n m a)) list
+unfolding acceptedOnly keep
+accepted-own [] box = refl
+accepted-own {n} {m} (a ∷ list) {rows} box =
+    ap (λ (rest : List Addition). cond (isAccepted (additionChecked n m rows a)) (a ∷ rest) rest) (accepted-own list (standing-keeps-box n m rows box a))
+    ∙ ap (λ (k : Checked). cond (isAccepted k) (a ∷ keep own list) (keep own list)) (checked-own box a)
+    ∙ go (own a) refl
+  where
+    own : Addition → Bool
+    own b = isAccepted (ownChecked n m b)
+
+    go : (t : Bool) → own a ≡ t → cond t (a ∷ keep own list) (keep own list) ≡ keep own (a ∷ list)
+    go true e = sym (keep-takes own a list e)
+    go false e = sym (keep-drops own a list e)
+
 -- so one that is accepted is accepted again, and restores the box
 pub made-twice : (n m : ℕ) (rows : List ℕ) (a : Addition) → additionChecked n m rows a ≡ Accepted → standingAfter n m rows (a ∷ a ∷ []) ≡ rows
 made-twice n m rows a h =
@@ -90,20 +108,26 @@ module _ (n m : ℕ) (rows : List ℕ) (accepted : first (boxChecks n m rows) �
       ∙ ap (bitXor (effects n m before x)) (xor-left-comm (effect n m a x) (effect n m b x) (effects n m rest x))
       ∙ sym (effects-append n m before (b ∷ a ∷ rest) x))
 
-  -- "Any list, its refused additions dropped,"
+  -- "Any list, its refused additions dropped,": each judged in its turn, or all on the rows at the start, the same additions are left
+  pub accepted-in-turn : (list : List Addition) → acceptedOnly n m rows list ≡ keep (λ a. isAccepted (additionChecked n m rows a)) list
+  unfolding keep
+  accepted-in-turn list =
+      accepted-own list accepted-box
+      ∙ each-cong list _ _ (λ a. ap (λ (k : Checked). elim (isAccepted k) [ true ↦ a ∷ [] | false ↦ [] ]) (sym (checked-own accepted-box a)))
+
   list-fits : (list : List Addition) → AllFit n m (acceptedOnly n m rows list)
-  unfolding acceptedOnly
-  list-fits list a k = accepted-fits n m rows a (yes (additionChecked n m rows a) (mem-keep (λ a. isAccepted (additionChecked n m rows a)) list a k .1))
+  list-fits list a k =
+      let t = subst (λ (l : List Addition). List·Memᴰ a l) (accepted-in-turn list) k in
+      accepted-fits n m rows a (yes (additionChecked n m rows a) (mem-keep (λ a. isAccepted (additionChecked n m rows a)) list a t .1))
     where
       yes : (k : Checked) → isAccepted k ≡ true → k ≡ Accepted
       yes Accepted e = refl
       yes (Refused r) e = absurd (false≢true e)
 
   accepted-effects : (list : List Addition) (x : ℕ) → effects n m (acceptedOnly n m rows list) x ≡ effects n m list x
-  unfolding acceptedOnly
   accepted-effects list x =
-      dropped-effects n m (λ a. isAccepted (additionChecked n m rows a)) x list
-      (λ a k e. refused-effect n m a x (ap isAccepted (sym (checked-own accepted-box a)) ∙ e))
+      ap (λ (l : List Addition). effects n m l x) (accepted-own list accepted-box)
+      ∙ dropped-effects n m (λ a. isAccepted (ownChecked n m a)) x list (λ a k e. refused-effect n m a x e)
 
   pub refused-dropped : (list : List Addition) → standingAfter n m rows list ≡ standingAfter n m rows (acceptedOnly n m rows list)
   refused-dropped list = same-effects accepted-box list (acceptedOnly n m rows list) (λ x l. sym (accepted-effects list x))

@@ -17,8 +17,8 @@ use Rattle.refusals.specs.declared.Checked.the-variants.{Accepted, Refused}
 use Rattle.refusals.proofs.Checks.{box, box-accepted, first-append}
 use Rattle.columns.specs.Addition.{Addition, standingAfter}
 use Rattle.columns.proofs.Additions.{Fits, rowsWith, component-added, times-lt, standing-cases, standing-keeps-box}
-use Rattle.avalanche.specs.Avalanche.{boxAutocorrelation, imbalance, dynamicDistance}
-use Rattle.avalanche.specs.Calls.{autocorrelationReply, distanceReply, distanceChecks, correlated}
+use Rattle.avalanche.specs.Avalanche.{boxAutocorrelation, imbalance, dynamicDistance, correlated}
+use Rattle.avalanche.specs.Calls.{autocorrelationReply, distanceReply, distanceChecks}
 use Rattle.avalanche.specs.Statements.{distanceOf}
 use Rattle.avalanche.proofs.Changes.{measured-cong}
 use Rattle.additions.proofs.Effects.{after-keeps-box, no-box-after}

@@ -1,40 +1,48 @@
 -- Document 02 §12: a list of column additions made shorter. Its refused additions are dropped, and those to one column are taken together.
 use Prim.Native.Nat.{ℕ}
-use mathlib.Core.Bool.{Bool, true, false, not, _&&_}
+use mathlib.Core.Bool.{Bool, true, false, not, cond, _&&_}
 use mathlib.Core.List.{List, [], _∷_}
 use lib.Bits.{bitXor}
 use lib.Dec.{eqb}
 use Rattle.boolean.specs.Sums.{keep, listFrom}
 use Rattle.refusals.specs.declared.Checked.{Checked}
 use Rattle.refusals.specs.declared.Checked.the-variants.{Accepted, Refused}
-use Rattle.columns.specs.Addition.{Addition, additionChecked}
+use Rattle.columns.specs.Addition.{Addition, additionChecked, standing}
 
 -- two additions to one column as one: its mask and its constant are the XORs of theirs
-abbrev pub together : Addition → Addition → Addition
-together a b = record { column = a .column; mask = bitXor (a .mask) (b .mask); constant = bitXor (a .constant) (b .constant); lent = a .lent }
+abbrev pub together : (a b : Addition) → Addition
+together a b = record {
+  column = a .column;
+  mask = bitXor (a .mask) (b .mask);
+  constant = bitXor (a .constant) (b .constant);
+  lent = a .lent;
+}
 
 -- whether checks accept
 abbrev pub isAccepted : Checked → Bool
 isAccepted Accepted = true
 isAccepted (Refused e) = false
 
--- a list, its refused additions dropped
-unfoldable pub acceptedOnly : ℕ → ℕ → List ℕ → List Addition → List Addition
-unfolding keep additionChecked
-acceptedOnly n m rows list = keep (λ a. isAccepted (additionChecked n m rows a)) list
+-- a list, its refused additions dropped: each is judged on the rows that stand in its turn
+unfoldable pub acceptedOnly : (n m : ℕ) (rows : List ℕ) (list : List Addition) → List Addition
+unfolding additionChecked standing
+acceptedOnly n m rows [] = []
+acceptedOnly n m rows (a ∷ list) =
+    let rest : List Addition = acceptedOnly n m (standing n m rows a) list in
+    cond (isAccepted (additionChecked n m rows a)) (a ∷ rest) rest
 
 -- the XOR of a number of each addition
-unfoldable pub xors : (Addition → ℕ) → List Addition → ℕ
+unfoldable pub xors : (number : Addition → ℕ) (list : List Addition) → ℕ
 xors number [] = 0
 xors number (a ∷ list) = bitXor (number a) (xors number list)
 
 -- the additions to column j
-unfoldable pub toColumn : ℕ → List Addition → List Addition
+unfoldable pub toColumn : (j : ℕ) (list : List Addition) → List Addition
 unfolding keep
 toColumn j list = keep (λ a. eqb (a .column) j) list
 
 -- all of them as one, which is lent an array
-abbrev pub merged : List ℕ → List Addition → ℕ → Addition
+abbrev pub merged : (lent : List ℕ) (list : List Addition) (j : ℕ) → Addition
 merged lent list j = record {
   column = j;
   mask = xors (λ a. a .mask) (toColumn j list);
@@ -43,7 +51,7 @@ merged lent list j = record {
 }
 
 -- one for each column, in ascending order
-unfoldable pub oneForEach : ℕ → List ℕ → List Addition → List Addition
+unfoldable pub oneForEach : (m : ℕ) (lent : List ℕ) (list : List Addition) → List Addition
 unfolding listFrom xors toColumn
 oneForEach m lent list = listFrom 1 m (merged lent list)
 
@@ -52,6 +60,6 @@ abbrev pub addsNothing : Addition → Bool
 addsNothing a = eqb (a .mask) 0 && eqb (a .constant) 0
 
 -- the short list: of what is accepted on these rows, one for each column that something is added to, each lent the same array
-unfoldable pub shortened : ℕ → ℕ → List ℕ → List ℕ → List Addition → List Addition
+unfoldable pub shortened : (n m : ℕ) (rows lent : List ℕ) (list : List Addition) → List Addition
 unfolding keep oneForEach acceptedOnly
 shortened n m rows lent list = keep (λ a. not (addsNothing a)) (oneForEach m lent (acceptedOnly n m rows list))

@@ -8,7 +8,7 @@ use lib.Bits.{bitXor}
 use lib.ListN.{length, set, length-set}
 use lib.Seq.{getD-set-same, getD-set-other}
 use Rattle.boolean.specs.Functions.{at}
-use Rattle.algebraic.specs.Calls.{Added}
+use Rattle.algebraic.specs.Work.{Added}
 
 pub record Adding (h k : ℕ) (old new : List ℕ) : Type 0 where
   pub within : k ≤ h

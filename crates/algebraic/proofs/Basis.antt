@@ -13,7 +13,7 @@ use lib.Pow.{pow-mono}
 use Rattle.boolean.specs.Bits.{dot}
 use Rattle.boolean.specs.Functions.{at}
 use Rattle.boolean.proofs.Dots.{dot-zero, dot-xor}
-use Rattle.algebraic.specs.Calls.{Staircase, EvenOn, Placed, Spanned}
+use Rattle.algebraic.specs.Work.{Echelon, EvenOn, Placed, Spanned}
 
 -- two words that have their highest one at the same place: their XOR is below it
 pub top-cancels : (k a b : ℕ) → 2 ^ k ≤ a → a < 2 ^ suc k → 2 ^ k ≤ b → b < 2 ^ suc k → bitXor a b < 2 ^ k
@@ -30,7 +30,7 @@ pub even-xor : (v b c : ℕ) → dot b c ≡ 0 → dot (bitXor v b) c ≡ dot v 
 even-xor v b c e = dot-xor v b c ∙ ap (λ (z : ℕ). bitXor (dot v c) z) e ∙ xor-zero-r (dot v c)
 
 -- a basis that has a word at each of m places: what is even on it is even at every word of m bits
-pub all-even : (m : ℕ) (basis : List ℕ) (c : ℕ) → Staircase basis → ((k : ℕ) → k < m → at basis k ≡ 0 → ⊥) → EvenOn basis c → (v : ℕ) → v < 2 ^ m → dot v c ≡ 0
+pub all-even : (m : ℕ) (basis : List ℕ) (c : ℕ) → Echelon basis → ((k : ℕ) → k < m → at basis k ≡ 0 → ⊥) → EvenOn basis c → (v : ℕ) → v < 2 ^ m → dot v c ≡ 0
 all-even zero basis c stairs full even v l = let z : v ≡ 0 = omega arith in ap (λ (v : ℕ). dot v c) z ∙ dot-zero c
 all-even (suc m) basis c stairs full even v l = pick (all-even m basis c stairs (λ k h. full k (omega arith)) even) (decLt v (2 ^ m)) (stairs m)
   where
@@ -86,7 +86,7 @@ module _ {m word : ℕ} {basis : List ℕ} {rest place top : ℕ} (r : Reducing 
   }
 
   -- the basis has a word there
-  pub reducing-taken : Staircase basis → top / 2 ≤ rest → (at basis (place - 1) ≡ 0 → ⊥) → Reducing m word basis (bitXor rest (at basis (place - 1))) (place - 1) (top / 2)
+  pub reducing-taken : Echelon basis → top / 2 ≤ rest → (at basis (place - 1) ≡ 0 → ⊥) → Reducing m word basis (bitXor rest (at basis (place - 1))) (place - 1) (top / 2)
   reducing-taken stairs l here = record {
     inside = omega (arith, r .inside);
     top-is = half;
@@ -100,11 +100,12 @@ module _ {m word : ℕ} {basis : List ℕ} {rest place top : ℕ} (r : Reducing 
       pick (inr t) = top-cancels (place - 1) rest (at basis (place - 1)) (omega (arith, half)) high (t .0) (t .1)
 
   -- the place is free
-  pub reducing-placed : top / 2 ≤ rest → Placed m word basis (set basis (place - 1) rest)
-  reducing-placed l = record {
+  pub reducing-placed : top / 2 ≤ rest → at basis (place - 1) ≡ 0 → Placed m word basis (set basis (place - 1) rest)
+  reducing-placed l e = record {
     place = place - 1;
     rest = rest;
     inside = omega (arith, r .inside, place-left);
+    free = e;
     low = omega (arith, half);
     high = high;
     some = λ z. some (r .none z);

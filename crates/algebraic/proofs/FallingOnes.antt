@@ -1,48 +1,69 @@
 -- A table of numbers by tests that are computed: the ones of its numbers fall, and every number below 256 stands in it.
-use mathlib.Core.Path.{_≡_, refl, subst}
+use mathlib.Core.Path.{_≡_, refl, ap, _∙_, subst}
+use mathlib.Core.Logic.{inl, inr, ⊎-elim}
 use mathlib.Core.Bool.{Bool, true, false, _&&_, _||_, false≢true}
 use mathlib.Core.List.{List, [], _∷_}
 use Prim.Native.Nat.{ℕ, zero, suc, _<_, _≤_}
-use native.Mathlib.Nat.{le-refl, le-trans, le-of-suc-le-suc, not-suc-le-zero, zero-lt-suc}
+use native.Mathlib.Decide.{decLt}
+use native.Mathlib.Nat.{le-of-eq, le-of-suc-le-suc, not-suc-le-zero, zero-lt-suc}
 use native.Mathlib.Omega.{arith}
-use borrow.Author.Tests.{eqb-true, leb-true}
+use borrow.Author.Tests.{eqb-true, ltb-true}
 use lib.Count.{ones}
-use lib.Dec.{eqb, leb}
+use lib.Dec.{eqb, ltb}
 use lib.ListN.{length}
 use Rattle.boolean.specs.Sums.{every, listBelow}
 use Rattle.boolean.specs.Functions.{at}
 use Rattle.boolean.proofs.Every.{both, every-at}
 use Rattle.boolean.proofs.Lists.{length-listBelow, getD-listBelow}
-use Rattle.algebraic.specs.Calls.{ByOnes}
+use Rattle.algebraic.specs.Work.{ByOnes, Fewer}
 
--- no number has more ones than the one before it
+-- the test that y has fewer ones than x, or as many and is the smaller
+abbrev pub isFewer : (x y : ℕ) → Bool
+isFewer x y = ltb (ones y) (ones x) || (eqb (ones y) (ones x) && ltb y x)
+
+-- each number comes so after the one before it
 unfoldable pub falls : List ℕ → Bool
 falls [] = true
 falls (x ∷ []) = true
-falls (x ∷ (y ∷ zs)) = leb (ones y) (ones x) && falls (y ∷ zs)
+falls (x ∷ (y ∷ zs)) = isFewer x y && falls (y ∷ zs)
 
 -- u stands in the list
 unfoldable pub stands : ℕ → List ℕ → Bool
 stands u [] = false
 stands u (x ∷ xs) = eqb x u || stands u xs
 
-from-first : (x : ℕ) (xs : List ℕ) → falls (x ∷ xs) ≡ true → (j : ℕ) → j < length (x ∷ xs) → ones (at (x ∷ xs) j) ≤ ones x
+fewer : (x y : ℕ) → isFewer x y ≡ true → Fewer x y
+fewer x y = go (ltb (ones y) (ones x)) (eqb (ones y) (ones x)) (ltb y x) (ltb-true _ _) (eqb-true _ _) (ltb-true _ _)
+  where
+    go : (a b c : Bool) → (a ≡ true → ones y < ones x) → (b ≡ true → ones y ≡ ones x) → (c ≡ true → y < x) → (a || (b && c)) ≡ true → Fewer x y
+    go true b c p q r t = inl (p refl)
+    go false true true p q r t = inr (q refl, r refl)
+    go false true false p q r t = absurd (false≢true t)
+    go false false c p q r t = absurd (false≢true t)
+
+fewer-trans : {x y z : ℕ} → Fewer x y → Fewer y z → Fewer x z
+fewer-trans (inl p) (inl q) = inl (omega arith)
+fewer-trans (inl p) (inr q) = inl (omega (arith, q .0))
+fewer-trans (inr p) (inl q) = inl (omega (arith, p .0))
+fewer-trans (inr p) (inr q) = inr (q .0 ∙ p .0, omega (arith, p .1, q .1))
+
+from-first : (x : ℕ) (xs : List ℕ) → falls (x ∷ xs) ≡ true → (j : ℕ) → j < length xs → Fewer x (at xs j)
 unfolding falls
-from-first x xs t zero l = le-refl (ones x)
-from-first x [] t (suc j) l = absurd (not-suc-le-zero (le-of-suc-le-suc l))
+from-first x [] t j l = absurd (not-suc-le-zero l)
+from-first x (y ∷ zs) t zero l = fewer x y (both (isFewer x y) (falls (y ∷ zs)) t .0)
 from-first x (y ∷ zs) t (suc j) l =
-    let p = both (leb (ones y) (ones x)) (falls (y ∷ zs)) t in
-    le-trans (from-first y zs (p .1) j (le-of-suc-le-suc l)) (leb-true (ones y) (ones x) (p .0))
+    let p = both (isFewer x y) (falls (y ∷ zs)) t in
+    fewer-trans (fewer x y (p .0)) (from-first y zs (p .1) j (le-of-suc-le-suc l))
 
 falls-rest : (x : ℕ) (xs : List ℕ) → falls (x ∷ xs) ≡ true → falls xs ≡ true
 unfolding falls
 falls-rest x [] t = refl
-falls-rest x (y ∷ zs) t = both (leb (ones y) (ones x)) (falls (y ∷ zs)) t .1
+falls-rest x (y ∷ zs) t = both (isFewer x y) (falls (y ∷ zs)) t .1
 
-falling-at : (xs : List ℕ) → falls xs ≡ true → (i j : ℕ) → i ≤ j → j < length xs → ones (at xs j) ≤ ones (at xs i)
+falling-at : (xs : List ℕ) → falls xs ≡ true → (i j : ℕ) → i < j → j < length xs → Fewer (at xs i) (at xs j)
 falling-at [] t i j h l = absurd (not-suc-le-zero l)
-falling-at (x ∷ xs) t zero j h l = from-first x xs t j l
-falling-at (x ∷ xs) t (suc i) zero h l = absurd (not-suc-le-zero h)
+falling-at (x ∷ xs) t i zero h l = absurd (not-suc-le-zero h)
+falling-at (x ∷ xs) t zero (suc j) h l = from-first x xs t j (le-of-suc-le-suc l)
 falling-at (x ∷ xs) t (suc i) (suc j) h l = falling-at xs (falls-rest x xs t) i j (le-of-suc-le-suc h) (le-of-suc-le-suc l)
 
 stands-at : (u : ℕ) (xs : List ℕ) → stands u xs ≡ true → (i : ℕ) × (i < length xs) × (at xs i ≡ u)
@@ -65,3 +86,11 @@ by-ones table size f s = record {
       (t .0, omega (arith, t .1), t .2);
   falling = λ i j h l. falling-at table f i j h (omega arith);
 }
+
+-- so the ones fall
+pub ones-fall : {table : List ℕ} → ByOnes table → (i j : ℕ) → i ≤ j → j < 256 → ones (at table j) ≤ ones (at table i)
+ones-fall {table} b i j h l = pick (decLt i j)
+  where
+    pick : Dec (i < j) → ones (at table j) ≤ ones (at table i)
+    pick (yes k) = ⊎-elim (λ t. omega arith) (λ t. omega (arith, t .0)) (b .falling i j k l)
+    pick (no k) = le-of-eq (ap (λ (z : ℕ). ones (at table z)) (let z : j ≡ i = omega arith in z))

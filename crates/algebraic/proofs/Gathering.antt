@@ -1,7 +1,7 @@
 -- The loop that goes through the table of inputs, those with the most ones first, and gathers those whose word is no XOR of words before. Assumes nothing.
 use mathlib.Core.Path.{_≡_, refl, sym, ap, _∙_, subst}
 use mathlib.Core.Logic.{_⊎_, inl, inr}
-use mathlib.Core.Bool.{true, false, not, false≢true}
+use mathlib.Core.Bool.{true, not, false≢true}
 use mathlib.Core.List.{List}
 use Prim.Native.Nat.{ℕ, zero, suc, _+_, _^_, _<_, _≤_}
 use native.Mathlib.Decide.{ℕ-discrete, decLt}
@@ -19,8 +19,9 @@ use Rattle.boolean.proofs.Dots.{dot-bit, dot-zero}
 use Rattle.boolean.proofs.Every.{every-at}
 use Rattle.boolean.proofs.Lists.{length-listBelow, getD-listBelow}
 use Rattle.boolean.proofs.NormalForm.{coefficient-lt}
-use Rattle.algebraic.specs.Calls.{ByOnes, Staircase, EvenOn, Placed, Spanned, PutIn, Gathered}
+use Rattle.algebraic.specs.Work.{ByOnes, Echelon, EvenOn, Placed, Spanned, Gathered}
 use Rattle.algebraic.proofs.Basis.{all-even}
+use Rattle.algebraic.proofs.FallingOnes.{ones-fall}
 
 -- of some truth values one is 1, or all are 0
 some-or-none : (f : ℕ → ℕ) → ((j : ℕ) → f j < 2) → (count : ℕ) → ((j : ℕ) × (j < count) × (f j ≡ 1)) ⊎ ((j : ℕ) → j < count → f j ≡ 0)
@@ -50,7 +51,7 @@ pub record Gathering (table words basis : List ℕ) (i count : ℕ) (inputs : Li
   pub settled : (c k : ℕ) → k < i → dot (at words (at table k)) c ≡ 1 → Settled words inputs count c (at table k)
   pub falling : (a b : ℕ) → a ≤ b → b < count → ones (at inputs b) ≤ ones (at inputs a)
   pub places : length basis ≡ 32
-  pub stairs : Staircase basis
+  pub stairs : Echelon basis
   pub spans : (c : ℕ) → ((j : ℕ) → j < count → dot (at words (at inputs j)) c ≡ 0) → EvenOn basis c
 
 -- the words of a box, as of its rows, lie below 2^m
@@ -95,7 +96,7 @@ gathering-none table words basis inputs e l z = record {
 module _ {table words basis : List ℕ} {i count : ℕ} {inputs : List ℕ} (g : Gathering table words basis i count inputs) (b : ByOnes table) where
   -- those gathered come from earlier places of the table than k, and have as many ones or more
   earlier : (k j : ℕ) → i ≤ k → k < 256 → j < count → ones (at table k) ≤ ones (at inputs j)
-  earlier k j h l m = let t = g .from j m in subst (λ (u : ℕ). ones (at table k) ≤ ones u) (sym (t .2)) (b .falling (t .0) k (omega (arith, t .1)) l)
+  earlier k j h l m = let t = g .from j m in subst (λ (u : ℕ). ones (at table k) ≤ ones u) (sym (t .2)) (ones-fall b (t .0) k (omega (arith, t .1)) l)
 
   -- an odd word is settled by those gathered, or all of them are even
   settled-or-even : (c k : ℕ) → i ≤ k → k < 256 → Settled words inputs count c (at table k) ⊎ EvenOn basis c
@@ -169,7 +170,7 @@ module _ {table words basis : List ℕ} {i count : ℕ} {inputs : List ℕ} (g :
     least : (j : ℕ) → j < count + 1 → ones (at table i) ≤ ones (at next j)
     least j l =
         let t = from-more j l (ℕ-discrete j count) in
-        subst (λ (u : ℕ). ones (at table i) ≤ ones u) (sym (t .2)) (b .falling (t .0) i (omega (arith, t .1)) lt)
+        subst (λ (u : ℕ). ones (at table i) ≤ ones u) (sym (t .2)) (ones-fall b (t .0) i (omega (arith, t .1)) lt)
 
     falling-more : (a c : ℕ) → a ≤ c → c < count + 1 → Dec (c ≡ count) → ones (at next c) ≤ ones (at next a)
     falling-more a c h l (yes q) = subst (λ (u : ℕ). ones u ≤ ones (at next a)) (sym (ap (λ (k : ℕ). at next k) q ∙ last)) (least a (omega arith))

@@ -12,7 +12,7 @@ use Rattle.boolean.specs.Functions.{at, coefficient, normalForm}
 use Rattle.boolean.proofs.Lists.{list-is}
 use Rattle.boolean.proofs.NormalForm.{coefficient-cong, coefficient-low, coefficient-high, coefficient-zero}
 use Rattle.walsh.proofs.Step as step
-use Rattle.algebraic.specs.Calls.{Added}
+use Rattle.algebraic.specs.Work.{Added}
 
 module _ (n : ℕ) (values : List ℕ) (given : length values ≡ 2 ^ n) (nz : n ≡ 0 → ⊥) where
   abbrev h : ℕ

@@ -1,5 +1,5 @@
 -- The scan for the next mask whose degree is below a bar: none that it passed has one. Assumes nothing.
-use mathlib.Core.Path.{_≡_, ap}
+use mathlib.Core.Path.{_≡_, refl, ap}
 use mathlib.Core.List.{List}
 use Prim.Native.Nat.{ℕ, _^_, _<_, _≤_}
 use native.Mathlib.Decide.{decLt, ℕ-discrete}
@@ -8,7 +8,7 @@ use native.Mathlib.Omega.{arith}
 use lib.Count.{ones}
 use Rattle.masks.specs.Masks.{Next}
 use Rattle.masks.proofs.Walk.{Walk, walk-next}
-use Rattle.algebraic.specs.Calls.{degreeOf, FirstBelow}
+use Rattle.algebraic.specs.Work.{degreeOf, FirstBelow}
 
 pub record Passing (m : ℕ) (words : List ℕ) (i bar c here : ℕ) : Type 0 where
   pub walk : Walk m i here
@@ -35,9 +35,23 @@ module _ {m : ℕ} {words : List ℕ} {i bar c here : ℕ} (s : Passing m words 
   -- one whose degree is below it
   pub passing-met : {degree : ℕ} → here < 2 ^ m → degree ≡ degreeOf words here → degree < bar → FirstBelow m words i bar c (record { c = here; degree = degree })
   passing-met inside e h =
-      record { low = s .low; high = s .walk .c-high; few = s .walk .few; none-before = s .none-before; reached = λ l. (e, h) }
+      record {
+        low = s .low;
+        high = s .walk .c-high;
+        few = s .walk .few;
+        none-before = s .none-before;
+        reached = λ l. (e, h);
+        ended = λ z. absurd (omega arith);
+      }
 
   -- none is left
-  pub passing-ends : {degree : ℕ} → 2 ^ m ≤ here → FirstBelow m words i bar c (record { c = here; degree = degree })
+  pub passing-ends : 2 ^ m ≤ here → FirstBelow m words i bar c (record { c = here; degree = 0 })
   passing-ends h =
-      record { low = s .low; high = s .walk .c-high; few = s .walk .few; none-before = s .none-before; reached = λ l. absurd (omega arith) }
+      record {
+        low = s .low;
+        high = s .walk .c-high;
+        few = s .walk .few;
+        none-before = s .none-before;
+        reached = λ l. absurd (omega arith);
+        ended = λ z. refl;
+      }

@@ -1,6 +1,5 @@
 -- The scan of the inputs that were gathered: the first that is found odd has the most ones, and where none is odd the degree is 0.
-use mathlib.Core.Path.{_≡_, sym, ap, _∙_, subst}
-use mathlib.Core.Logic.{_⊎_, inl, inr}
+use mathlib.Core.Path.{_≡_}
 use mathlib.Core.List.{List}
 use Prim.Native.Nat.{ℕ, _<_, _≤_, zero-le}
 use native.Mathlib.Decide.{decLt}
@@ -11,8 +10,7 @@ use lib.ListN.{length}
 use Rattle.boolean.specs.Bits.{dot}
 use Rattle.boolean.specs.Functions.{at}
 use Rattle.boolean.proofs.Degrees.{most-le, le-most}
-use Rattle.boolean.proofs.Dots.{dot-zero}
-use Rattle.algebraic.specs.Calls.{degreeOf, Gathered}
+use Rattle.algebraic.specs.Work.{degreeOf, Gathered}
 
 -- none of the first i inputs is odd
 abbrev pub NoneOdd : (words inputs : List ℕ) → ℕ → ℕ → Type 0

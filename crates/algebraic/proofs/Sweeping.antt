@@ -1,7 +1,6 @@
 -- The components within a limit with their degrees, in the components' order, and the sweep over them.
-use mathlib.Core.Path.{_≡_, refl, ap, ap₂, _∙_}
+use mathlib.Core.Path.{_≡_, refl, sym, ap, ap₂, _∙_}
 use mathlib.Core.Bool.{false}
-use mathlib.Core.Logic.{inr}
 use mathlib.Core.List.{List, [], _∷_, List·Memᴰ, List·Memᴰ·head, List·Memᴰ·not-nil, List·Memᴰ·eq-of-singleton}
 use Prim.Native.Nat.{ℕ, _+_, _^_, _<_, _≤_}
 use native.Mathlib.Decide.{decLt}
@@ -13,20 +12,22 @@ use Rattle.boolean.specs.Bits.{dot}
 use Rattle.boolean.specs.Sums.{each}
 use Rattle.boolean.specs.Functions.{at, Within, components, maskRank, normalForm}
 use Rattle.boolean.specs.Selection.{Candidate, best, lower, firstLeast, ranked, Ascending}
-use Rattle.boolean.proofs.Components.{masksBelow, in-components, mem-components, ascending-components, first-mask}
+use Rattle.boolean.specs.Statements.{masksBelow}
+use Rattle.boolean.proofs.Components.{in-components, mem-components, ascending-components, first-mask}
 use Rattle.boolean.proofs.Degrees.{most-le, degree-read}
 use Rattle.boolean.proofs.Kept.{each-cong}
 use Rattle.boolean.proofs.Lists.{some-member, mem-each, in-each, ascending-each}
 use Rattle.boolean.proofs.OneBit.{ones-none, ones-power}
 use Rattle.masks.specs.Masks.{Next, outputs}
-use Rattle.masks.proofs.Fewest.{Blocks, least-swept}
+use Rattle.masks.specs.Statements.{Blocks}
+use Rattle.masks.proofs.Fewest.{least-swept}
 use Rattle.masks.proofs.Walk.{Walk, walk-starts, walk-next, best-starts, best-next, best-passes, best-ends}
 use Rattle.algebraic.specs.Algebraic.{degrees, boxDegree}
-use Rattle.algebraic.specs.Calls.{degreeAt, candidate, degreeOf, degreesOf, Bar, FirstBelow, Swept}
+use Rattle.algebraic.specs.Work.{degreeAt, candidate, degreeOf, degreesOf, barOf, FirstBelow, Swept}
 use Rattle.algebraic.specs.declared.Met.{Met}
 use Rattle.algebraic.specs.declared.Weakest.{Weakest}
 use Rattle.algebraic.specs.Statements.{degreeRank}
-use Rattle.algebraic.proofs.Preferring.{not-below}
+use Rattle.algebraic.proofs.Preferring.{bar-single, not-below}
 
 -- the components with the degrees that a rule gives them
 module _ (d : ℕ → ℕ) where
@@ -102,7 +103,7 @@ module _ {m : ℕ} {words : List ℕ} {i : ℕ} {start found : Candidate} {c : �
   }
 
   -- up to the next mask whose degree is below the bar
-  pub sweep-passes : (degree mask bar : ℕ) {met : Met} → found ≡ degreeAt degree mask → Bar degree mask bar → FirstBelow m words i bar c met
+  pub sweep-passes : (degree mask bar : ℕ) {met : Met} → found ≡ degreeAt degree mask → bar ≡ barOf degree mask → FirstBelow m words i bar c met
       → Sweeping m words i start found (met .c)
   sweep-passes degree mask bar {met} is barred first = record {
     walk = record { limit = s .walk .limit; c-low = omega (arith, s .walk .c-low, first .low); c-high = first .high; few = first .few };
@@ -112,7 +113,7 @@ module _ {m : ℕ} {words : List ℕ} {i : ℕ} {start found : Candidate} {c : �
       stays : (x : ℕ) → c ≤ x → x < met .c → ones x ≤ i → (p : Candidate) → List·Memᴰ p (withRule (degreeOf words) x) → ranked lower outputs p found ≡ false
       stays x l h f p k =
           ap₂ (λ (p b : Candidate). ranked lower outputs p b) (List·Memᴰ·eq-of-singleton k) is
-          ∙ not-below degree mask bar barred (degreeOf words x) x (first .none-before x l h f) (omega (arith, s .walk .c-low))
+          ∙ not-below degree mask (degreeOf words x) x (omega (arith, barred, first .none-before x l h f)) (omega (arith, s .walk .c-low))
 
   pub sweep-ends : {n : ℕ} → Swept n m words i → n < start .figure → 2 ^ m ≤ c → found ≡ firstLeast (degreesOf m words i)
   unfolding degreesOf
@@ -124,7 +125,7 @@ module _ {m : ℕ} {words : List ℕ} {i : ℕ} {start found : Candidate} {c : �
 pub record Meeting (m : ℕ) (words : List ℕ) (i : ℕ) (start : Candidate) (found : Weakest) (met : Met) : Type 0 where
   pub sweeping : Sweeping m words i start (candidate found) (met .c)
   pub degree-is : met .c < 2 ^ m → met .degree ≡ degreeOf words (met .c)
-  pub barred : Bar (found .degree) (found .c) (found .bar)
+  pub barred : found .bar ≡ barOf (found .degree) (found .c)
 
 module _ {n m : ℕ} {words : List ℕ} {i : ℕ} (t : Swept n m words i) where
   pub first-walk : Walk m i 1
@@ -134,7 +135,7 @@ module _ {n m : ℕ} {words : List ℕ} {i : ℕ} (t : Swept n m words i) where
   pub meeting-starts : {met : Met} → FirstBelow m words i (n + 1) 1 met
       → Meeting m words i (degreeAt (n + 1) 0) (record { degree = n + 1; c = 0; bar = n + 1 }) met
   meeting-starts first =
-      let barred : Bar (n + 1) 0 (n + 1) = inr (refl, omega (arith, ones-none)) in
+      let barred : n + 1 ≡ barOf (n + 1) 0 = sym (bar-single (n + 1) 0 (omega (arith, ones-none))) in
       record {
         sweeping = sweep-passes (sweep-starts m words i (degreeAt (n + 1) 0) (t .i-low)) (n + 1) 0 (n + 1) refl barred first;
         degree-is = λ l. first .reached l .0;
@@ -150,7 +151,7 @@ module _ {m : ℕ} {words : List ℕ} {i : ℕ} {start : Candidate} {found : Wea
   meeting-walk l after = walk-next (s .sweeping .walk) after l
 
   pub meeting-next : {new : Weakest} {next : ℕ} {later : Met} → met .c < 2 ^ m → Next i (met .c) next
-      → candidate new ≡ best (ranked lower outputs) (candidate found) (degreeAt (met .degree) (met .c) ∷ []) → Bar (new .degree) (new .c) (new .bar)
+      → candidate new ≡ best (ranked lower outputs) (candidate found) (degreeAt (met .degree) (met .c) ∷ []) → new .bar ≡ barOf (new .degree) (new .c)
       → FirstBelow m words i (new .bar) next later → Meeting m words i start new later
   meeting-next {new} l after e barred first = record {
     sweeping = sweep-passes (sweep-next (s .sweeping) l after (s .degree-is l) e) (new .degree) (new .c) (new .bar) refl barred first;

@@ -8,20 +8,20 @@ use Rattle.boolean.specs.Functions.{degree, component, components}
 use Rattle.boolean.specs.Selection.{Candidate, firstLeast}
 
 -- the component at the mask c, with its degree
-abbrev pub withDegree : ℕ → List ℕ → ℕ → Candidate
+abbrev pub withDegree : (n : ℕ) (rows : List ℕ) (c : ℕ) → Candidate
 withDegree n rows c = record { figure = degree n (component rows c); witness = c ∷ [] }
 
 -- all components within the limit i with their degrees, in the components' order
-unfoldable pub degrees : ℕ → ℕ → List ℕ → ℕ → List Candidate
+unfoldable pub degrees : (n m : ℕ) (rows : List ℕ) (i : ℕ) → List Candidate
 unfolding each degree component components
 degrees n m rows i = each (components m i) (λ c. withDegree n rows c ∷ [])
 
 -- the degree of a box: the least degree of a component within the limit i, with the first component that has it
-unfoldable pub boxDegree : ℕ → ℕ → List ℕ → ℕ → Candidate
+unfoldable pub boxDegree : (n m : ℕ) (rows : List ℕ) (i : ℕ) → Candidate
 unfolding firstLeast degrees
 boxDegree n m rows i = firstLeast (degrees n m rows i)
 
 -- bijective: n = m and no two rows equal
-unfoldable pub bijective : ℕ → ℕ → List ℕ → Bool
+unfoldable pub bijective : (n m : ℕ) (rows : List ℕ) → Bool
 unfolding distinct
 bijective n m rows = eqb n m && distinct rows

@@ -1,23 +1,20 @@
--- The calls on the normal form, the degree and bijectivity: checks and answers.
-use Prim.Native.Nat.{ℕ, suc, _+_, _^_, _≤_, _<_}
-use mathlib.Core.Path.{_≡_}
-use mathlib.Core.Logic.{_⊎_}
-use mathlib.Core.Bool.{Bool, true, false, cond}
+-- The calls on the normal form, the degree and bijectivity: answers and outcomes. (The normal form's checks are those of any call that reads
+-- a truth table and writes 2^n values: `tableCallChecks`.)
+use Prim.Native.Nat.{ℕ}
 use mathlib.Core.List.{List, [], _∷_}
-use lib.Bits.{bitXor}
-use lib.Count.{ones}
-use lib.Dec.{eqb}
-use lib.ListN.{length, set}
-use Rattle.boolean.specs.Bits.{dot}
-use Rattle.boolean.specs.Sums.{largestBelow, each}
-use Rattle.boolean.specs.Functions.{at, components}
-use Rattle.boolean.specs.Selection.{Candidate, shown}
-use Rattle.refusals.specs.Table.{first, boxChecks, limitChecks, Reply, figures, refusal, number, replyAfter, asFigure}
+use lib.ListN.{length}
+use Rattle.boolean.specs.Functions.{at, normalForm}
+use Rattle.boolean.specs.Selection.{shown}
+use Rattle.refusals.specs.Table.{first, boxChecks, limitChecks, tableCallChecks, Reply, figures, refusal, number, replyAfter, asFigure, Wrote, written}
+use Rattle.refusals.specs.declared.Written.{Written}
 use Rattle.algebraic.specs.Algebraic.{boxDegree, bijective}
-use Rattle.algebraic.specs.declared.Weakest.{Weakest}
-use Rattle.algebraic.specs.declared.Met.{Met}
 use Rattle.algebraic.specs.declared.DegreeFound.{DegreeFound}
 use Rattle.algebraic.specs.declared.DegreeFound.the-variants.{Reached, Declined}
+
+-- the outcome of a call of `algebraic::normal_form`
+abbrev pub FormCalled : (n : ℕ) (table lent : List ℕ) (answer : Written) (left : List ℕ) → Type 0
+FormCalled n table lent answer left =
+    Wrote (tableCallChecks n table (length lent)) [] (normalForm n (at table)) lent (written answer) left
 
 -- what the degree's answer says: the degree and c, or the number of the refusal
 abbrev pub degreeReply : DegreeFound → Reply
@@ -25,99 +22,8 @@ degreeReply (Reached degree c) = figures (degree ∷ c ∷ [])
 degreeReply (Declined e) = refusal (number e)
 
 -- what the calls on a box reply: their figures, or the number of the refusal
-abbrev pub boxDegreeReply : ℕ → ℕ → List ℕ → ℕ → Reply
+abbrev pub boxDegreeReply : (n m : ℕ) (rows : List ℕ) (i : ℕ) → Reply
 boxDegreeReply n m rows i = replyAfter (first (limitChecks n m rows i)) (shown (boxDegree n m rows i))
 
-abbrev pub bijectiveReply : ℕ → ℕ → List ℕ → Reply
+abbrev pub bijectiveReply : (n m : ℕ) (rows : List ℕ) → Reply
 bijectiveReply n m rows = replyAfter (first (boxChecks n m rows)) (asFigure (bijective n m rows))
-
--- What the functions behind the calls ask and leave.
-
--- the lower half of h numbers as it was, and XORed to the upper half
-pub record Added (h : ℕ) (old new : List ℕ) : Type 0 where
-  pub kept : (k : ℕ) → k < h → at new k ≡ at old k
-  pub sums : (k : ℕ) → k < h → at new (h + k) ≡ bitXor (at old k) (at old (h + k))
-
--- Of a box the normal form has words: the XOR of the rows whose input lies within u. Bit j of the word at u is column j's coefficient, and the
--- parity of the ones in (word AND c) is that of the component at the mask c.
-
--- a component's mask with a degree
-abbrev pub degreeAt : ℕ → ℕ → Candidate
-degreeAt degree c = record { figure = degree; witness = c ∷ [] }
-
--- the weakest component so far, as a candidate
-abbrev pub candidate : Weakest → Candidate
-candidate w = degreeAt (w .degree) (w .c)
-
--- the degree of the component at the mask c, by the words of the normal form
-unfoldable pub degreeOf : List ℕ → ℕ → ℕ
-unfolding largestBelow dot
-degreeOf words c = largestBelow (length words) (λ u. cond (eqb (dot (at words u) c) 1) (ones u) 0)
-
--- all components within the limit i with their degrees, by the words
-unfoldable pub degreesOf : ℕ → List ℕ → ℕ → List Candidate
-unfolding each components degreeOf
-degreesOf m words i = each (components m i) (λ c. degreeAt (degreeOf words c) c ∷ [])
-
--- A degree below the bar may be preferred to this degree at the mask c, and no other is: the bar is above the degree, or it is the degree itself and c
--- has a single output.
-abbrev pub Bar : (degree c bar : ℕ) → Type 0
-Bar degree c bar = (degree < bar) ⊎ ((degree ≡ bar) × (ones c ≤ 1))
-
--- the first mask from c on, within the limit i, whose degree is below the bar, with its degree; or 2^m, where there is none
-pub record FirstBelow (m : ℕ) (words : List ℕ) (i bar c : ℕ) (r : Met) : Type 0 where
-  pub low : c ≤ r .c
-  pub high : r .c ≤ 2 ^ m
-  pub few : ones (r .c) ≤ i
-  pub none-before : (x : ℕ) → c ≤ x → x < r .c → ones x ≤ i → bar ≤ degreeOf words x
-  pub reached : r .c < 2 ^ m → (r .degree ≡ degreeOf words (r .c)) × (r .degree < bar)
-
--- a table of all inputs of 8 bits, those with the most ones first
-pub record ByOnes (table : List ℕ) : Type 0 where
-  pub all : (u : ℕ) → u < 256 → (i : ℕ) × (i < 256) × (at table i ≡ u)
-  pub falling : (i j : ℕ) → i ≤ j → j < 256 → ones (at table j) ≤ ones (at table i)
-
--- a basis of words: the word at each place is 0, or has its highest one there
-abbrev pub Staircase : List ℕ → Type 0
-Staircase basis = (k : ℕ) → (at basis k ≡ 0) ⊎ ((2 ^ k ≤ at basis k) × (at basis k < 2 ^ suc k))
-
--- the component at the mask c is even at every word of the basis
-abbrev pub EvenOn : List ℕ → ℕ → Type 0
-EvenOn basis c = (k : ℕ) → dot (at basis k) c ≡ 0
-
--- what is left of a word, in a place of the basis that was free
-pub record Placed (m word : ℕ) (old new : List ℕ) : Type 0 where
-  pub place : ℕ
-  pub rest : ℕ
-  pub inside : place < m
-  pub low : 2 ^ place ≤ rest
-  pub high : rest < 2 ^ suc place
-  pub some : word ≡ 0 → ⊥
-  pub put : new ≡ set old place rest
-  pub same : (c : ℕ) → EvenOn old c → dot rest c ≡ dot word c
-
--- a component that is even on the basis is even at the word, and the basis stays
-pub record Spanned (word : ℕ) (old new : List ℕ) : Type 0 where
-  pub kept : new ≡ old
-  pub even : (c : ℕ) → EvenOn old c → dot word c ≡ 0
-
--- whether the word is put into the basis
-abbrev pub PutIn : ℕ → ℕ → List ℕ → List ℕ → Bool → Type 0
-PutIn m word old new true = Placed m word old new
-PutIn m word old new false = Spanned word old new
-
--- the inputs that settle every degree, those with the most ones first, as many as are counted: a component that is odd anywhere is odd at one of them
--- that has as many ones or more
-pub record Gathered (words inputs : List ℕ) (count : ℕ) : Type 0 where
-  pub few : count ≤ length inputs
-  pub inside : (i : ℕ) → i < count → at inputs i < length words
-  pub settle : (c u : ℕ) → u < length words → dot (at words u) c ≡ 1 → (i : ℕ) × (i < count) × (dot (at words (at inputs i)) c ≡ 1) × (ones u ≤ ones (at inputs i))
-  pub falling : (i j : ℕ) → i ≤ j → j < count → ones (at inputs j) ≤ ones (at inputs i)
-
--- the words of an accepted box, and a limit
-pub record Swept (n m : ℕ) (words : List ℕ) (i : ℕ) : Type 0 where
-  pub n-high : n ≤ 8
-  pub m-low : 1 ≤ m
-  pub m-high : m ≤ 32
-  pub size : length words ≡ 2 ^ n
-  pub i-low : 1 ≤ i

@@ -1,3 +1,4 @@
 pub mod Algebraic
 pub mod Calls
+pub mod Work
 pub mod Statements

@@ -7,24 +7,25 @@ use Rattle.boolean.specs.Selection.{Candidate}
 use Rattle.refusals.specs.Table.{figures}
 use Rattle.algebraic.specs.Calls.{boxDegreeReply}
 
--- what is reported of an accepted box and limit i: the degree d, and the combination c, which is the first within the limit that has it, fewest
--- outputs first
-pub record DegreeReported (n m : ℕ) (rows : List ℕ) (i d : ℕ) : Type 0 where
+-- what is reported of an accepted box and limit i: the least degree d of a combination within the limit, and the first combination c that
+-- has it
+pub record DegreeReported (n m : ℕ) (rows : List ℕ) (i : ℕ) : Type 0 where
+  pub d : ℕ
   pub c : ℕ
   pub reply : boxDegreeReply n m rows i ≡ figures (d ∷ c ∷ [])
   pub least : (c′ : ℕ) → Within i (2 ^ m) c′ → d ≤ degree n (component rows c′)
-  pub c-within : Within i (2 ^ m) c
+  pub member : Within i (2 ^ m) c
   pub reached : degree n (component rows c) ≡ d
-  pub higher-before : (c′ : ℕ) → Within i (2 ^ m) c′ → MaskBefore c′ c → d < degree n (component rows c′)
+  pub before : (c′ : ℕ) → Within i (2 ^ m) c′ → MaskBefore c′ c → d < degree n (component rows c′)
 
 -- a component's number in the components' order
-abbrev pub degreeRank : ℕ → Candidate → ℕ
+abbrev pub degreeRank : (m : ℕ) (p : Candidate) → ℕ
 degreeRank m p = maskRank m (at (p .witness) 0)
 
 -- a function of n inputs is constant
-abbrev pub Constant : ℕ → (ℕ → ℕ) → Type 0
+abbrev pub Constant : (n : ℕ) (f : ℕ → ℕ) → Type 0
 Constant n f = (x : ℕ) → x < 2 ^ n → f x ≡ f 0
 
 -- two inputs with equal rows are equal
-abbrev pub Injective : ℕ → List ℕ → Type 0
+abbrev pub Injective : (n : ℕ) (rows : List ℕ) → Type 0
 Injective n rows = (x y : ℕ) → x < 2 ^ n → y < 2 ^ n → at rows x ≡ at rows y → x ≡ y

@@ -13,13 +13,14 @@ ghost use lib.Count.{ones};
 ghost use lib.Dec.{eqb};
 ghost use lib.ListN.{length};
 ghost use Rattle.boolean.specs.Bits.{dot};
-ghost use Rattle.boolean.specs.Sums.{every, distinct};
+ghost use Rattle.boolean.specs.Sums.{every, distinct, AnyContent};
 ghost use Rattle.boolean.specs.Functions.{at, normalForm};
 ghost use Rattle.boolean.specs.Selection.{best, lower, firstLeast, ranked};
-ghost use Rattle.refusals.specs.Table.{tableCallChecks, first, replyAfter, contentAfter, written, verdict, Box, Table};
+ghost use Rattle.refusals.specs.Table.{verdict, Box, Table};
 ghost use Rattle.masks.specs.Masks.{Next, outputs};
 ghost use Rattle.algebraic.specs.Algebraic.{boxDegree};
-ghost use Rattle.algebraic.specs.Calls.{degreeReply, boxDegreeReply, bijectiveReply, degreeAt, candidate, degreeOf, degreesOf, Added, Staircase, PutIn, Gathered, Swept, Bar, FirstBelow};
+ghost use Rattle.algebraic.specs.Calls.{FormCalled, degreeReply, boxDegreeReply, bijectiveReply};
+ghost use Rattle.algebraic.specs.Work.{degreeAt, candidate, degreeOf, degreesOf, Added, Echelon, PutIn, Gathered, Swept, barOf, FirstBelow};
 
 // The weakest component so far: its degree, its mask, and the bar that another degree must be below to matter.
 pub struct Weakest {
@@ -66,7 +67,7 @@ fn write_words(table: &[u8], words: &mut [u32])
     }
 }
 
-// And back.
+// Words that are truth values, copied to a truth table.
 fn write_bits(words: &[u32], out: &mut [u8])
     requires { ⌜ (length (now out) ≡ length (now words)) × ((x : ℕ) → at (now words) x < 2) ⌝ }
     ensures { λ _. ⌜ now (out .exit) ≡ now (words .entry) ⌝ }
@@ -108,7 +109,8 @@ fn moebius(n: u32, values: &mut [u32])
 // The normal form of a truth table, with an array of words to work in.
 fn write_form(n: u32, table: &[u8], words: &mut [u32], out: &mut [u8])
     requires { ⌜ Table n (now table) × (length (now words) ≡ 2 ^ n) × (length (now out) ≡ 2 ^ n) ⌝ }
-    ensures { λ _. ⌜ now (out .exit) ≡ normalForm n (at (now (table .entry))) ⌝ }
+    ensures { λ _. ⌜ (now (out .exit) ≡ normalForm n (at (now (table .entry))))
+        × (now (words .exit) ≡ normalForm n (at (now (table .entry)))) ⌝ }
 {
     write_words(table, words);
     moebius(n, words);
@@ -117,8 +119,7 @@ fn write_form(n: u32, table: &[u8], words: &mut [u32], out: &mut [u8])
 
 // The normal form of a truth table. The same call goes back, coefficients being read as truth values.
 pub fn normal_form(n: u32, table: &[u8], out: &mut [u8]) -> Written
-    ensures reply { λ r. ⌜ written r ≡ replyAfter (first (tableCallChecks n (now (table .entry)) (length (now (out .entry))))) [] ⌝ }
-    ensures content { λ r. ⌜ now (out .exit) ≡ contentAfter (first (tableCallChecks n (now (table .entry)) (length (now (out .entry))))) (normalForm n (at (now (table .entry)))) (now (out .entry)) ⌝ }
+    ensures { λ r. ⌜ FormCalled n (now (table .entry)) (now (out .entry)) r (now (out .exit)) ⌝ }
 {
     if let Checked::Refused(e) = refusals::check_table_call(n, table, out.len()) {
         return Written::Declined(e);
@@ -149,10 +150,11 @@ fn is_odd(word: u32, c: u32) -> bool
     boolean::dot(word, c) == 1
 }
 
-// Whether the word is no XOR of words of the basis; then what they leave of it is put into the basis, at the place of its highest one. Where a word of the
-// basis has its highest one, that word is XORed to it, from the highest place down.
+// Whether the word is no XOR of words of the basis; then what they leave of it is put into the basis, at the place of its highest one.
+// Where a word of the basis has its highest one, that word is XORed to it, from the highest place down. (The contract leaves open what the
+// rest has below its highest one.)
 fn put_in(m: u32, word: u32, basis: &mut [u32; 32]) -> bool
-    requires { ⌜ (m ≤ 32) × (word < 2 ^ m) × Staircase (now basis) ⌝ }
+    requires { ⌜ (m ≤ 32) × (word < 2 ^ m) × Echelon (now basis) ⌝ }
     ensures { λ r. ⌜ PutIn m word (now (basis .entry)) (now (basis .exit)) r ⌝ }
 {
     let mut rest = word;
@@ -175,7 +177,7 @@ fn put_in(m: u32, word: u32, basis: &mut [u32; 32]) -> bool
 
 // Whether the normal form has a word at u that is no XOR of words of the basis; it is then put in. Past the inputs there is none.
 fn adds_word(m: u32, words: &[u32], u: u8, basis: &mut [u32; 32]) -> bool
-    requires { ⌜ (m ≤ 32) × ((x : ℕ) → at (now words) x < 2 ^ m) × Staircase (now basis) ⌝ }
+    requires { ⌜ (m ≤ 32) × ((x : ℕ) → at (now words) x < 2 ^ m) × Echelon (now basis) ⌝ }
     ensures { λ r. ⌜ PutIn m (at (now (words .entry)) u) (now (basis .entry)) (now (basis .exit)) r ⌝ }
 {
     let place = place_of(u);
@@ -186,10 +188,12 @@ fn adds_word(m: u32, words: &[u32], u: u8, basis: &mut [u32; 32]) -> bool
     }
 }
 
-// The inputs that settle every degree, those with the most ones first, and their number. A word that is an XOR of words before it is left out: a
-// component that is odd there is odd at one of those. Once the basis has a word for each of the m bits every component is odd at one of them.
+// The inputs that settle every degree, those with the most ones first, and their number. A word that is an XOR of words before it is left
+// out: a component that is odd there is odd at one of those. Once the basis has a word for each of the m bits every component is odd at one
+// of them.
 fn gather(m: u32, words: &[u32], inputs: &mut [u8]) -> usize
-    requires { ⌜ (m ≤ 32) × ((x : ℕ) → at (now words) x < 2 ^ m) × (length (now words) ≤ 256) × (length (now inputs) ≡ 256) ⌝ }
+    requires { ⌜ (m ≤ 32) × ((x : ℕ) → at (now words) x < 2 ^ m) × (length (now words) ≤ 256)
+        × (length (now inputs) ≡ 256) ⌝ }
     ensures { λ r. ⌜ Gathered (now (words .entry)) (now (inputs .exit)) r ⌝ }
 {
     let table = order::by_ones();
@@ -239,8 +243,9 @@ fn next_within(m: u32, i: u32, c: u64) -> u64
     }
 }
 
-// The first mask from c on, within the limit, whose degree is below the bar, or 2^m. Nearly all masks are passed over here, so that this loop has no
-// other test than the bar. The walk ends at 2^m itself, so that != tells its end; < a power of two would be compiled to a shift in each turn.
+// The first mask from c on, within the limit, whose degree is below the bar, or 2^m with the degree 0. Nearly all masks are passed over
+// here, so that this loop has no other test than the bar. The walk ends at 2^m itself, so that != tells its end; < a power of two would be
+// compiled to a shift in each turn.
 fn next_below(
     n: u32,
     m: u32,
@@ -251,7 +256,8 @@ fn next_below(
     bar: u32,
     c: u64,
 ) -> Met
-    requires { ⌜ Swept n m (now words) i × Gathered (now words) (now inputs) count × (1 ≤ c) × (c ≤ 2 ^ m) × (ones c ≤ i) ⌝ }
+    requires { ⌜ Swept n m (now words) i × Gathered (now words) (now inputs) count × (1 ≤ c) × (c ≤ 2 ^ m)
+        × (ones c ≤ i) ⌝ }
     ensures { λ r. ⌜ FirstBelow m (now (words .entry)) i bar c r ⌝ }
 {
     let masks = boolean::power_of_two(m) as u64;
@@ -266,11 +272,11 @@ fn next_below(
     Met { c: at, degree: 0 }
 }
 
-// The bar for the components after one of this degree at the mask c: a mask of one output gives way only to a lower degree, a mask of several to
-// the same degree too.
+// The bar for the components after one of this degree at the mask c: a mask of one output gives way only to a lower degree, a mask of
+// several to the same degree too.
 fn bar_of(degree: u32, c: u32) -> u32
     requires { ⌜ degree ≤ 8 ⌝ }
-    ensures { λ r. ⌜ Bar degree c r ⌝ }
+    ensures { λ r. ⌜ r ≡ barOf degree c ⌝ }
 {
     if u32::count_ones(c) <= 1 {
         degree
@@ -281,8 +287,9 @@ fn bar_of(degree: u32, c: u32) -> u32
 
 // The weakest component so far, or the one at the mask c: by the degree, and among equal degrees by fewer outputs.
 fn weaker(found: Weakest, degree: u32, c: u32) -> Weakest
-    requires { ⌜ (degree ≤ 8) × Bar (found .degree) (found .c) (found .bar) ⌝ }
-    ensures { λ r. ⌜ (candidate r ≡ best (ranked lower outputs) (candidate found) (degreeAt degree c ∷ [])) × Bar (r .degree) (r .c) (r .bar) ⌝ }
+    requires { ⌜ (degree ≤ 8) × (found .bar ≡ barOf (found .degree) (found .c)) ⌝ }
+    ensures { λ r. ⌜ (candidate r ≡ best (ranked lower outputs) (candidate found) (degreeAt degree c ∷ []))
+        × (r .bar ≡ barOf (r .degree) (r .c)) ⌝ }
 {
     if masks::is_preferred(degree, found.degree, c, found.c) {
         let bar = bar_of(degree, c);
@@ -295,7 +302,7 @@ fn weaker(found: Weakest, degree: u32, c: u32) -> Weakest
 // Every component within the limit in turn. It starts from a degree that no component has.
 fn sweep(n: u32, m: u32, words: &[u32], i: u32, inputs: &[u8], count: usize) -> Weakest
     requires { ⌜ Swept n m (now words) i × Gathered (now words) (now inputs) count ⌝ }
-    ensures { λ r. ⌜ candidate r ≡ firstLeast (degreesOf m (now (words .entry)) i) ⌝ }
+    ensures { λ r. ⌜ (candidate r ≡ firstLeast (degreesOf m (now (words .entry)) i)) × (r .bar ≡ barOf (r .degree) (r .c)) ⌝ }
 {
     let masks = boolean::power_of_two(m) as u64;
     let mut found = Weakest {
@@ -315,7 +322,8 @@ fn sweep(n: u32, m: u32, words: &[u32], i: u32, inputs: &[u8], count: usize) -> 
 // The weakest component of a box within the limit, with two arrays to work in.
 fn weakest_of(n: u32, m: u32, rows: &[u32], i: u32, words: &mut [u32], inputs: &mut [u8]) -> Weakest
     requires { ⌜ Box n m (now rows) × (1 ≤ i) × (length (now words) ≡ 2 ^ n) × (length (now inputs) ≡ 256) ⌝ }
-    ensures { λ r. ⌜ candidate r ≡ boxDegree n m (now (rows .entry)) i ⌝ }
+    ensures { λ r. ⌜ (candidate r ≡ boxDegree n m (now (rows .entry)) i) × (r .bar ≡ barOf (r .degree) (r .c))
+        × (now (words .exit) ≡ normalForm n (at (now (rows .entry)))) × AnyContent (now (inputs .entry)) (now (inputs .exit)) ⌝ }
 {
     boolean::copy(rows, words);
     moebius(n, words);

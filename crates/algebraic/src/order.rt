@@ -1,7 +1,7 @@
 // The inputs of 8 bits by their number of ones.
-ghost use Rattle.algebraic.specs.Calls.{ByOnes};
+ghost use Rattle.algebraic.specs.Work.{ByOnes};
 
-// All of them, those with the most ones first.
+// All of them, those with the most ones first, and of as many ones the larger first.
 const BY_ONES: [u8; 256] = [
     255, // eight ones
     254, // seven

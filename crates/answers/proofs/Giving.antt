@@ -2,24 +2,22 @@
 use Prim.Native.Nat.{ℕ}
 use mathlib.Core.Path.{_≡_, refl, sym, ap, _∙_}
 use mathlib.Core.Bool.{Bool, true, false}
-use mathlib.Core.List.{List, _∷_, _++_}
+use mathlib.Core.List.{List, [], _∷_, _++_}
 use borrow.Author.Tests.{eq-eqb, ne-eqb}
 use lib.ListN.{length}
-use Rattle.refusals.specs.Table.{Check, _unless_, first, Reply, figures, refusal, number, replyAfter, contentAfter}
+use Rattle.refusals.specs.Table.{Check, _unless_, first, Reply, figures, refusal, number, replyAfter, contentAfter, Wrote}
 use Rattle.refusals.specs.declared.Refusal.the-variants.{WrittenLength}
 use Rattle.refusals.specs.declared.Refusal.{Refusal}
 use Rattle.refusals.specs.declared.Checked.{Checked}
 use Rattle.refusals.specs.declared.Checked.the-variants.{Accepted, Refused}
 use Rattle.refusals.proofs.Checks.{first-passed, first-failed, first-append, first-refused}
-use Rattle.answers.specs.Answers.{status, lent, figuresAfter, roomNumber}
+use Rattle.refusals.proofs.Outcomes.{wrote-refused}
+use Rattle.answers.specs.Answers.{status, lent, figuresAfter, WroteOut, FiguresOut, roomNumber}
 
--- a call with this reply returns r, and its array for the figures, once old, is new
-abbrev pub Gives : Reply → ℕ → List ℕ → List ℕ → Type 0
-Gives reply r old new = (r ≡ status (lent reply (length old))) × (new ≡ figuresAfter (lent reply (length old)) old)
-
-pub gives-refused : (k : ℕ) (old : List ℕ) → Gives (refusal k) k old old
+-- a refusal: its number, and the array as it was
+pub gives-refused : {k r : ℕ} {old : List ℕ} → r ≡ k → FiguresOut (refusal k) old r old
 unfolding status lent figuresAfter
-gives-refused k old = (refl, refl)
+gives-refused h = record { number = h; content = refl }
 
 -- an array of another length, and of the same
 lent-other : (given : List ℕ) (room : ℕ) → (room ≡ length given → ⊥) → lent (figures given) room ≡ refusal (number WrittenLength)
@@ -30,24 +28,51 @@ pub lent-all : (given : List ℕ) (room : ℕ) → room ≡ length given → len
 unfolding lent
 lent-all given room h = rw (lent, eq-eqb room (length given) h)
 
-pub gives-other : (given old : List ℕ) → (length old ≡ length given → ⊥) → Gives (figures given) (number WrittenLength) old old
+pub gives-other : {given old : List ℕ} {r : ℕ} → r ≡ number WrittenLength → (length old ≡ length given → ⊥) → FiguresOut (figures given) old r old
 unfolding status figuresAfter
-gives-other given old h = let e = lent-other given (length old) h in (sym (ap status e), sym (ap (λ (k : Reply). figuresAfter k old) e))
+gives-other {given} {old} n h =
+    let e = lent-other given (length old) h in
+    record { number = n ∙ sym (ap status e); content = sym (ap (λ (k : Reply). figuresAfter k old) e) }
 
-pub gives-all : (given old : List ℕ) → length old ≡ length given → Gives (figures given) 0 old given
+pub gives-all : {given old new : List ℕ} → length old ≡ length given → new ≡ given → FiguresOut (figures given) old 0 new
 unfolding status figuresAfter
-gives-all given old h = let e = lent-all given (length old) h in (sym (ap status e), sym (ap (λ (k : Reply). figuresAfter k old) e))
+gives-all {given} {old} h is =
+    let e = lent-all given (length old) h in
+    record { number = sym (ap status e); content = is ∙ sym (ap (λ (k : Reply). figuresAfter k old) e) }
 
 -- a call that looks at the array first, where it has another length than the figures that the checks would let through
-pub room-first : (found : Checked) (given old : List ℕ) → (found ≡ Accepted → length old ≡ length given → ⊥) → Gives (replyAfter found given) (roomNumber found) old old
-room-first Accepted given old h = gives-other given old (h refl)
-room-first (Refused e) given old h = gives-refused (number e) old
+pub room-first : (found : Checked) (given : List ℕ) {old : List ℕ} {r : ℕ} → r ≡ roomNumber found → (found ≡ Accepted → length old ≡ length given → ⊥)
+    → FiguresOut (replyAfter found given) old r old
+room-first Accepted given n h = gives-other n (h refl)
+room-first (Refused e) given n h = gives-refused n
 
 -- the same reply, in other words
-pub gives-same : (old : List ℕ) {reply other : Reply} {r : ℕ} {new : List ℕ} → reply ≡ other →
-    (r ≡ status (lent reply (length old))) × (new ≡ figuresAfter (lent reply (length old)) old) →
-    (r ≡ status (lent other (length old))) × (new ≡ figuresAfter (lent other (length old)) old)
-gives-same old h g = (g .0 ∙ ap (λ (k : Reply). status (lent k (length old))) h, g .1 ∙ ap (λ (k : Reply). figuresAfter (lent k (length old)) old) h)
+pub gives-same : {reply other : Reply} {old new : List ℕ} {r : ℕ} → reply ≡ other → FiguresOut reply old r new → FiguresOut other old r new
+gives-same {old = old} h g = record {
+  number = g .number ∙ ap (λ (k : Reply). status (lent k (length old))) h;
+  content = g .content ∙ ap (λ (k : Reply). figuresAfter (lent k (length old)) old) h;
+}
+
+-- A call that only writes: what it replied, in a number.
+status-alone : (k : Checked) (given : List ℕ) → status (replyAfter k given) ≡ status (replyAfter k [])
+unfolding status
+status-alone Accepted given = refl
+status-alone (Refused e) given = refl
+
+pub wrote-out : {A : Type 0} {checks : List Check} {given : List ℕ} {result old new : List A} {said : Reply} {r : ℕ}
+    → Wrote checks given result old said new → r ≡ status said → WroteOut checks result old r new
+wrote-out {checks = checks} {given = given} w h =
+    record { number = h ∙ ap status (w .reply) ∙ status-alone (first checks) given; content = w .content }
+
+-- refused, and a second array of an accepted or refused call
+pub out-refused : {A : Type 0} {checks : List Check} {result old : List A} {e : Refusal} {r : ℕ} → first checks ≡ Refused e → r ≡ number e
+    → WroteOut checks result old r old
+unfolding status
+out-refused h n = wrote-out {given = []} (wrote-refused h) n
+
+pub out-beside : {A B : Type 0} {checks : List Check} {given : List ℕ} {result old new : List A} {figured before after : List B} {said : Reply} {r : ℕ}
+    → WroteOut checks figured before r after → Wrote checks given result old said new → WroteOut checks result old r new
+out-beside o w = record { number = o .number; content = w .content }
 
 -- Where a call's own checks are known, its reply and the array go by them.
 content-is : (k : Checked) (given old : List ℕ) → contentAfter k given old ≡ figuresAfter (replyAfter k given) old
@@ -56,16 +81,28 @@ content-is Accepted given old = refl
 content-is (Refused e) given old = refl
 
 pub figures-told : (k : Checked) (given found old : List ℕ) → length old ≡ length found → figures found ≡ replyAfter k given → {r : ℕ} {new : List ℕ} →
-    (r ≡ status (lent (figures found) (length old))) × (new ≡ figuresAfter (lent (figures found) (length old)) old) →
-    (r ≡ status (replyAfter k given)) × (new ≡ contentAfter k given old)
+    FiguresOut (figures found) old r new → (r ≡ status (replyAfter k given)) × (new ≡ contentAfter k given old)
 figures-told k given found old same h g =
     let e = lent-all found (length old) same ∙ h in
-    (g .0 ∙ ap status e, g .1 ∙ ap (λ (reply : Reply). figuresAfter reply old) e ∙ sym (content-is k given old))
+    (g .number ∙ ap status e, g .content ∙ ap (λ (reply : Reply). figuresAfter reply old) e ∙ sym (content-is k given old))
 
 pub refusal-told : (k : Checked) (given old : List ℕ) {j : ℕ} → refusal j ≡ replyAfter k given →
     (j ≡ status (replyAfter k given)) × (old ≡ contentAfter k given old)
 unfolding status figuresAfter
 refusal-told k given old h = (ap status h, ap (λ (reply : Reply). figuresAfter reply old) h ∙ sym (content-is k given old))
+
+-- so of an exported call that gives its figures by `give`, or refuses
+pub out-figures : {checks : List Check} (given : List ℕ) {found old new : List ℕ} {r : ℕ} → length old ≡ length found
+    → figures found ≡ replyAfter (first checks) given → FiguresOut (figures found) old r new → WroteOut checks given old r new
+out-figures {checks} given {found} {old} same h g =
+    let t = figures-told (first checks) given found old same h g in
+    record { number = t .0 ∙ status-alone (first checks) given; content = t .1 }
+
+pub out-refusal : {checks : List Check} (given : List ℕ) {old : List ℕ} {j r : ℕ} → refusal j ≡ replyAfter (first checks) given → r ≡ j
+    → WroteOut checks given old r old
+out-refusal {checks} given {old} h n =
+    let t = refusal-told (first checks) given old h in
+    record { number = n ∙ t .0 ∙ status-alone (first checks) given; content = t .1 }
 
 -- The array for the figures among the checks: where it has another length, that is refused after the checks before it; else the others are asked.
 pub record Turned (found : Checked) (k : ℕ) : Type 0 where

@@ -13,7 +13,7 @@ use rounds::LeastSum;
 use swaps::RaisingSwap;
 ghost use mathlib.Core.Path.{_≡_};
 ghost use mathlib.Core.List.{[], _∷_, _++_};
-ghost use lib.ListN.{length, take};
+ghost use lib.ListN.{take};
 ghost use Rattle.refusals.specs.Table.{written, verdict, figures as given};
 ghost use Rattle.linear.specs.Calls.{leastPair};
 ghost use Rattle.differential.specs.Calls.{largestReply};
@@ -21,7 +21,7 @@ ghost use Rattle.avalanche.specs.Calls.{changeReply};
 ghost use Rattle.algebraic.specs.Calls.{degreeReply};
 ghost use Rattle.rounds.specs.Calls.{leastSum};
 ghost use Rattle.swaps.specs.Calls.{raisingSwap};
-ghost use Rattle.answers.specs.Answers.{status, lent, figuresAfter, roomNumber};
+ghost use Rattle.answers.specs.Answers.{status, FiguresOut, roomNumber};
 ghost use Rattle.catalogue.specs.Calls.{told, fetched};
 
 // The number of a call that only writes.
@@ -36,8 +36,7 @@ pub fn status_of(answer: Written) -> u32
 
 // The figures go to the lent array, or it has another length.
 pub fn give(found: &[u32], figures: &mut [u32]) -> u32
-    ensures number { λ r. ⌜ r ≡ status (lent (given (now (found .entry))) (length (now (figures .entry)))) ⌝ }
-    ensures content { λ r. ⌜ now (figures .exit) ≡ figuresAfter (lent (given (now (found .entry))) (length (now (figures .entry)))) (now (figures .entry)) ⌝ }
+    ensures { λ r. ⌜ FiguresOut (given (now (found .entry))) (now (figures .entry)) r (now (figures .exit)) ⌝ }
 {
     if figures.len() != found.len() {
         return refusals::number_of(Refusal::WrittenLength);
@@ -48,8 +47,7 @@ pub fn give(found: &[u32], figures: &mut [u32]) -> u32
 
 // The figures of each kind of answer, or the number of its refusal.
 pub fn give_pair(answer: LeastPair, figures: &mut [u32]) -> u32
-    ensures number { λ r. ⌜ r ≡ status (lent (leastPair answer) (length (now (figures .entry)))) ⌝ }
-    ensures content { λ r. ⌜ now (figures .exit) ≡ figuresAfter (lent (leastPair answer) (length (now (figures .entry)))) (now (figures .entry)) ⌝ }
+    ensures { λ r. ⌜ FiguresOut (leastPair answer) (now (figures .entry)) r (now (figures .exit)) ⌝ }
 {
     match answer {
         LeastPair::Reached { count, c, w, b } => give(&[count, c, w, b], figures),
@@ -58,8 +56,7 @@ pub fn give_pair(answer: LeastPair, figures: &mut [u32]) -> u32
 }
 
 pub fn give_cell(answer: LargestCell, figures: &mut [u32]) -> u32
-    ensures number { λ r. ⌜ r ≡ status (lent (largestReply answer) (length (now (figures .entry)))) ⌝ }
-    ensures content { λ r. ⌜ now (figures .exit) ≡ figuresAfter (lent (largestReply answer) (length (now (figures .entry)))) (now (figures .entry)) ⌝ }
+    ensures { λ r. ⌜ FiguresOut (largestReply answer) (now (figures .entry)) r (now (figures .exit)) ⌝ }
 {
     match answer {
         LargestCell::Reached { count, a, beta } => give(&[count, a, beta], figures),
@@ -68,8 +65,7 @@ pub fn give_cell(answer: LargestCell, figures: &mut [u32]) -> u32
 }
 
 pub fn give_degree(answer: DegreeFound, figures: &mut [u32]) -> u32
-    ensures number { λ r. ⌜ r ≡ status (lent (degreeReply answer) (length (now (figures .entry)))) ⌝ }
-    ensures content { λ r. ⌜ now (figures .exit) ≡ figuresAfter (lent (degreeReply answer) (length (now (figures .entry)))) (now (figures .entry)) ⌝ }
+    ensures { λ r. ⌜ FiguresOut (degreeReply answer) (now (figures .entry)) r (now (figures .exit)) ⌝ }
 {
     match answer {
         DegreeFound::Reached { degree, c } => give(&[degree, c], figures),
@@ -78,8 +74,7 @@ pub fn give_degree(answer: DegreeFound, figures: &mut [u32]) -> u32
 }
 
 pub fn give_change(answer: LargestChange, figures: &mut [u32]) -> u32
-    ensures number { λ r. ⌜ r ≡ status (lent (changeReply answer) (length (now (figures .entry)))) ⌝ }
-    ensures content { λ r. ⌜ now (figures .exit) ≡ figuresAfter (lent (changeReply answer) (length (now (figures .entry)))) (now (figures .entry)) ⌝ }
+    ensures { λ r. ⌜ FiguresOut (changeReply answer) (now (figures .entry)) r (now (figures .exit)) ⌝ }
 {
     match answer {
         LargestChange::Reached { figure, c, s } => give(&[figure, c, s], figures),
@@ -88,8 +83,7 @@ pub fn give_change(answer: LargestChange, figures: &mut [u32]) -> u32
 }
 
 pub fn give_verdict(answer: Verdict, figures: &mut [u32]) -> u32
-    ensures number { λ r. ⌜ r ≡ status (lent (verdict answer) (length (now (figures .entry)))) ⌝ }
-    ensures content { λ r. ⌜ now (figures .exit) ≡ figuresAfter (lent (verdict answer) (length (now (figures .entry)))) (now (figures .entry)) ⌝ }
+    ensures { λ r. ⌜ FiguresOut (verdict answer) (now (figures .entry)) r (now (figures .exit)) ⌝ }
 {
     match answer {
         Verdict::Yes => give(&[1u32], figures),
@@ -99,8 +93,7 @@ pub fn give_verdict(answer: Verdict, figures: &mut [u32]) -> u32
 }
 
 pub fn give_number(answer: Told, figures: &mut [u32]) -> u32
-    ensures number { λ r. ⌜ r ≡ status (lent (told answer) (length (now (figures .entry)))) ⌝ }
-    ensures content { λ r. ⌜ now (figures .exit) ≡ figuresAfter (lent (told answer) (length (now (figures .entry)))) (now (figures .entry)) ⌝ }
+    ensures { λ r. ⌜ FiguresOut (told answer) (now (figures .entry)) r (now (figures .exit)) ⌝ }
 {
     match answer {
         Told::Number(n) => give(&[n], figures),
@@ -109,8 +102,7 @@ pub fn give_number(answer: Told, figures: &mut [u32]) -> u32
 }
 
 pub fn give_place(answer: Fetched, figures: &mut [u32]) -> u32
-    ensures number { λ r. ⌜ r ≡ status (lent (fetched answer) (length (now (figures .entry)))) ⌝ }
-    ensures content { λ r. ⌜ now (figures .exit) ≡ figuresAfter (lent (fetched answer) (length (now (figures .entry)))) (now (figures .entry)) ⌝ }
+    ensures { λ r. ⌜ FiguresOut (fetched answer) (now (figures .entry)) r (now (figures .exit)) ⌝ }
 {
     match answer {
         Fetched::Lies { offset, size } => give(&[offset, size], figures),
@@ -119,8 +111,7 @@ pub fn give_place(answer: Fetched, figures: &mut [u32]) -> u32
 }
 
 pub fn give_swap(answer: RaisingSwap, figures: &mut [u32]) -> u32
-    ensures number { λ r. ⌜ r ≡ status (lent (raisingSwap answer) (length (now (figures .entry)))) ⌝ }
-    ensures content { λ r. ⌜ now (figures .exit) ≡ figuresAfter (lent (raisingSwap answer) (length (now (figures .entry)))) (now (figures .entry)) ⌝ }
+    ensures { λ r. ⌜ FiguresOut (raisingSwap answer) (now (figures .entry)) r (now (figures .exit)) ⌝ }
 {
     match answer {
         RaisingSwap::Raised { low, high, figure } => give(&[1u32, low, high, figure], figures),
@@ -151,8 +142,8 @@ pub fn give_masks(
     b: u32,
     figures: &mut [u32],
 ) -> u32
-    ensures number { λ r. ⌜ r ≡ status (lent (given (figure ∷ c ∷ (take count (w1 ∷ w2 ∷ w3 ∷ w4 ∷ []) ++ (b ∷ [])))) (length (now (figures .entry)))) ⌝ }
-    ensures content { λ r. ⌜ now (figures .exit) ≡ figuresAfter (lent (given (figure ∷ c ∷ (take count (w1 ∷ w2 ∷ w3 ∷ w4 ∷ []) ++ (b ∷ [])))) (length (now (figures .entry)))) (now (figures .entry)) ⌝ }
+    ensures { λ r. ⌜ FiguresOut (given (figure ∷ c ∷ (take count (w1 ∷ w2 ∷ w3 ∷ w4 ∷ []) ++ (b ∷ []))))
+        (now (figures .entry)) r (now (figures .exit)) ⌝ }
 {
     if count == 0 {
         return give(&[figure, c, b], figures);
@@ -170,8 +161,7 @@ pub fn give_masks(
 }
 
 pub fn give_sum(count: u32, answer: LeastSum, figures: &mut [u32]) -> u32
-    ensures number { λ r. ⌜ r ≡ status (lent (leastSum count answer) (length (now (figures .entry)))) ⌝ }
-    ensures content { λ r. ⌜ now (figures .exit) ≡ figuresAfter (lent (leastSum count answer) (length (now (figures .entry)))) (now (figures .entry)) ⌝ }
+    ensures { λ r. ⌜ FiguresOut (leastSum count answer) (now (figures .entry)) r (now (figures .exit)) ⌝ }
 {
     match answer {
         LeastSum::Reached {

@@ -11,8 +11,7 @@ use Rattle.boolean.specs.Selection.{Candidate, Ascending, SameMembers}
 use Rattle.boolean.proofs.Lists.{some-member, mem-each, in-each, each-same, ascending-each, ascending-blocks}
 use Rattle.boolean.proofs.Kept.{each-cong-on}
 use Rattle.boolean.proofs.Components.{mem-masksBelow, in-masksBelow, ascending-masksBelow, first-masksBelow, mem-components, in-components, ascending-components, first-component, first-mask}
-use Rattle.avalanche.specs.Avalanche.{shifts, atMost, measured}
-use Rattle.avalanche.specs.Calls.{change, changesOf}
+use Rattle.avalanche.specs.Avalanche.{shifts, atMost, measured, change, changesOf}
 use Rattle.avalanche.specs.Statements.{changeRank}
 
 -- ---- the changes of at most j inputs, in ascending order

@@ -20,7 +20,7 @@ use Rattle.boolean.proofs.Transform.{transform-cong}
 use Rattle.boolean.proofs.Walsh.{walsh-le}
 use Rattle.boolean.proofs.Correlation.{squares-transform}
 use Rattle.walsh.specs.Work.{Summable}
-use Rattle.avalanche.specs.Calls.{correlations}
+use Rattle.avalanche.specs.Work.{correlations}
 
 module _ (n : ℕ) (rows : List ℕ) (c : ℕ) (low : 1 ≤ n) (few : n ≤ 8) {values : List ℤ} (e : values ≡ spectrum n (component rows c)) where
   -- the spectrum's values are small

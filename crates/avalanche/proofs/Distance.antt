@@ -17,8 +17,8 @@ use Rattle.refusals.specs.Table.{first, boxChecks, Box}
 use Rattle.refusals.specs.declared.Checked.the-variants.{Accepted}
 use Rattle.refusals.proofs.Bounds.{range-low}
 use Rattle.refusals.proofs.Checks.{box, passed, accepted-after}
-use Rattle.avalanche.specs.Avalanche.{shifts, atMost, measured, imbalance, dynamicDistance}
-use Rattle.avalanche.specs.Calls.{distanceChecks, correlated, change}
+use Rattle.avalanche.specs.Avalanche.{shifts, atMost, measured, imbalance, dynamicDistance, correlated, change}
+use Rattle.avalanche.specs.Calls.{distanceChecks}
 use Rattle.avalanche.proofs.Changes.{measured-cong}
 
 -- ---- the checks

@@ -5,4 +5,6 @@ pub mod Widest
 pub mod Sweeps
 pub mod Completeness
 pub mod Distance
+pub mod Reports
+pub mod Criteria
 pub mod Theorems

@@ -11,7 +11,7 @@ use lib.Count.{ones, ones-le}
 use lib.IntN.{ℤ, natAbs}
 use lib.ListN.{length}
 use Rattle.boolean.specs.Functions.{valueAt, Within}
-use Rattle.avalanche.specs.Calls.{sizeWithin, LargestWithin, FirstWithin}
+use Rattle.avalanche.specs.Work.{sizeWithin, LargestWithin, FirstWithin}
 
 -- ---- the magnitude at one change
 pub size-within : (j s : ℕ) (value : ℤ) → ones s ≤ j → sizeWithin j s value ≡ natAbs value

@@ -9,7 +9,7 @@ use Rattle.boolean.specs.Sums.{listBelow, each}
 use Rattle.boolean.specs.Functions.{component}
 use Rattle.boolean.specs.Selection.{Candidate, best, higher, firstLargest, ranked}
 use Rattle.boolean.proofs.Lists.{length-listBelow}
-use Rattle.boolean.proofs.Components.{masksBelow}
+use Rattle.boolean.specs.Statements.{masksBelow}
 use Rattle.boolean.proofs.FirstLargest.{firstLargest-none}
 use Rattle.boolean.proofs.OneBit.{ones-one}
 use Rattle.refusals.specs.Table.{Box}
@@ -17,9 +17,9 @@ use Rattle.masks.specs.Masks.{Next, Raised, outputs}
 use Rattle.masks.proofs.Fewest.{few-outputs, largest-swept}
 use Rattle.masks.proofs.Walk.{best-starts, best-next, best-ends}
 use Rattle.masks.proofs.Boxes.{Stepwise, stepwise-starts, stepwise-next}
-use Rattle.linear.specs.Calls.{Swept}
-use Rattle.avalanche.specs.Avalanche.{measured}
-use Rattle.avalanche.specs.Calls.{truthTable, correlations, correlated, change, changesOf}
+use Rattle.linear.specs.Work.{Swept}
+use Rattle.avalanche.specs.Avalanche.{measured, correlated, change, changesOf}
+use Rattle.avalanche.specs.Work.{truthTable, correlations}
 use Rattle.avalanche.proofs.Changes.{changesOf-first, measured-is}
 use Rattle.avalanche.proofs.Widest.{blocks, values-length}
 

@@ -1,58 +1,53 @@
--- The autocorrelation and the dynamic distance: the largest figure, the first change that has it, and (1, 1) where it is 0, in whichever order they
--- are visited. The strict avalanche criterion as document 000 defines it, and bit independence.
-use mathlib.Core.Path.{_≡_, sym, ap, ap₂, _∙_, subst}
-use mathlib.Core.Logic.{_⊎_, inl, inr, ⊎-elim, _↔_}
-use mathlib.Core.List.{List, List·Memᴰ}
-use Prim.Native.Nat.{ℕ, suc, _+_, _*_, _-_, _^_, _<_, _≤_}
-use native.Mathlib.Nat.{le-refl, le-of-eq, mul-le-mul-right, suc-mul}
+-- The autocorrelation and the dynamic distance as the calls reply them: the largest figure, the first change that has it, and (1, 1) where it is 0, in
+-- whichever order they are visited; a wider limit covers more. The strict avalanche criterion as document 000 defines it, bit independence, and
+-- completeness.
+use mathlib.Core.Path.{_≡_, sym, _∙_}
+use mathlib.Core.Logic.{_↔_, Iff·trans}
+use mathlib.Core.List.{List, [], _∷_}
+use Prim.Native.Nat.{ℕ, _-_, _^_, _<_, _≤_}
 use native.Mathlib.Omega.{arith}
-use lib.Bits.{bitXor, xor-lt}
-use lib.IntN.{ℤ, pos, negsuc, _+ℤ_, _-ℤ_, natAbs, +ℤ-idl, +ℤ-invr, -ℤ-+ℤ-cancel}
-use lib.Pow.{pow-pos, pow-lt}
+use lib.Bits.{bitXor}
+use lib.IntN.{natAbs}
 use Rattle.boolean.specs.Sums.{each}
-use Rattle.boolean.specs.Functions.{Within, changes, component, components, column, maskRank}
-use Rattle.boolean.specs.Selection.{Candidate, higher, firstBest, firstLargest, SameMembers, ranked, First}
-use Rattle.boolean.proofs.Components.{whole-within, rank-of-before}
-use Rattle.boolean.proofs.Correlation.{changes-cong}
-use Rattle.boolean.proofs.FirstLargest.{firstLargest-none}
-use Rattle.boolean.proofs.Digits.{component-xor}
-use Rattle.boolean.proofs.OneBit.{ones-power, power-of-ones}
-use Rattle.boolean.proofs.TwoBits.{xor-powers, ones-powers, powers-of-ones}
-use Rattle.boolean.proofs.Columns.{component-column}
-use Rattle.boolean.proofs.Selection.{firstLargest-ge, firstLargest-mem, firstLargest-first, firstLargest-any-order, first-ranked}
-use Rattle.refusals.specs.Table.{Box}
-use Rattle.avalanche.specs.Avalanche.{measured, boxAutocorrelation, imbalance, dynamicDistance}
-use Rattle.avalanche.specs.Calls.{correlated, change, changesOf}
-use Rattle.avalanche.specs.Statements.{Before, changeRank, Widest, distanceOf}
-use Rattle.avalanche.proofs.Changes.{in-measured, mem-measured, ascending-measured, measured-first, measured-same}
+use Rattle.boolean.specs.Functions.{Within, autocorrelation, component, components, column}
+use Rattle.boolean.specs.Selection.{Candidate, shown, higher, firstBest, SameMembers, ranked}
+use Rattle.boolean.proofs.Components.{whole-within, within-more}
+use Rattle.boolean.proofs.Selection.{firstLargest-any-order}
+use Rattle.refusals.specs.Table.{Box, first, figures, boxChecks, limitChecks, asFigure}
+use Rattle.refusals.specs.declared.Checked.the-variants.{Accepted}
+use Rattle.refusals.proofs.Checks.{limited, reply-accepted}
+use Rattle.refusals.proofs.Replies.{figures-accepted, head-same, same-figure, figure-true}
+use Rattle.avalanche.specs.Avalanche.{changesOf, measured, correlated, boxAutocorrelation, dynamicDistance, complete}
+use Rattle.avalanche.specs.Calls.{distanceChecks, autocorrelationReply, distanceReply, completeReply}
+use Rattle.avalanche.specs.Statements.{AutocorrelationReported, DistanceReported, ChangesAtHalf, changeRank, distanceOf}
+use Rattle.avalanche.proofs.Changes.{ascending-measured, measured-same}
+use Rattle.avalanche.proofs.Criteria.{avalanche-exactly, independence-exactly, complete-iff}
+use Rattle.avalanche.proofs.Distance.{distance-box, outputs-low, inputs-low}
+use Rattle.avalanche.proofs.Reports.{largest-reported}
 
--- a change before another has a lower number
-before-rank : (n m c′ s′ c s : ℕ) → c′ < 2 ^ m → s′ < 2 ^ n → Before c′ s′ c s → maskRank m c′ * 2 ^ n + s′ < maskRank m c * 2 ^ n + s
-before-rank n m c′ s′ c s hc hs (inl l) = omega (arith, suc-mul (maskRank m c′) (2 ^ n), mul-le-mul-right (2 ^ n) (rank-of-before m c′ c hc l))
-before-rank n m c′ s′ c s hc hs (inr l) = omega (arith, ap (λ (z : ℕ). maskRank m z * 2 ^ n) (l .0))
+-- ---- what is reported of an accepted box
+pub autocorrelation-reported : (n m : ℕ) (rows : List ℕ) (i : ℕ) → first (limitChecks n m rows i) ≡ Accepted
+    → AutocorrelationReported n m rows i
+unfolding boxAutocorrelation
+autocorrelation-reported n m rows i h =
+    let l = limited n m rows i h in
+    largest-reported n m i n (correlated n rows) (l .box .n-low) (l .box .m-low) (l .i-low) (l .box .n-low)
+    (sym (reply-accepted h (shown (boxAutocorrelation n m rows i))))
 
-module _ (n m i j : ℕ) (figure : ℕ → ℕ → ℕ) (n-low : 1 ≤ n) (m-low : 1 ≤ m) (i-low : 1 ≤ i) (j-low : 1 ≤ j) where
-  widest : Widest n m i j figure (firstLargest (measured n m i j figure))
-  widest =
-      let head = measured-first n m i j figure n-low m-low i-low j-low in
-      let found = mem-measured n m i j figure (firstLargest (measured n m i j figure))
-      (subst (λ (l : List Candidate). List·Memᴰ (firstLargest l) l) (sym (head .1)) (firstLargest-mem (change figure 1 1) (head .0))) in
-      record {
-        most = λ c s hc hs. firstLargest-ge (measured n m i j figure) (change figure c s) (in-measured n m i j figure c s hc hs);
-        c = found .0;
-        s = found .1;
-        c-within = found .2;
-        s-within = found .3;
-        reached = found .4;
-        first = λ c′ s′ hc hs l.
-            first-ranked (changeRank n m) (λ r p. p .figure < r .figure) (ascending-measured n m i j figure)
-            (subst (λ (l : List Candidate). First (λ r p. p .figure < r .figure) (firstLargest l) l) (sym (head .1)) (firstLargest-first (change figure 1 1) (head .0)))
-            (change figure c′ s′) (in-measured n m i j figure c′ s′ hc hs)
-            (omega (arith, ap (changeRank n m) (found .4), before-rank n m c′ s′ (found .0) (found .1) (hc .high) (hs .high) l));
-        none = λ e.
-            ap (λ (p : Candidate). p .witness)
-            (ap firstLargest (head .1) ∙ firstLargest-none (change figure 1 1) (head .0) (sym (ap (λ (l : List Candidate). firstLargest l .figure) (head .1)) ∙ e));
-      }
+pub distance-reported : (n m : ℕ) (rows : List ℕ) (i j : ℕ) → first (distanceChecks n m rows i j) ≡ Accepted
+    → DistanceReported n m rows i j
+unfolding dynamicDistance
+distance-reported n m rows i j h =
+    let b = distance-box n m rows i j h in
+    largest-reported n m i j (distanceOf n rows) (b .n-low) (b .m-low) (outputs-low n m rows i j h) (inputs-low n m rows i j h)
+    (sym (reply-accepted h (shown (dynamicDistance n m rows i j))))
+
+-- "and s from 1": no change is left out by their number of ones
+pub autocorrelation-most : (n m : ℕ) (rows : List ℕ) (i d : ℕ) (v : List ℕ) → autocorrelationReply n m rows i ≡ figures (d ∷ v)
+    → (c s : ℕ) → Within i (2 ^ m) c → 1 ≤ s → s < 2 ^ n → natAbs (autocorrelation n (component rows c) s) ≤ d
+autocorrelation-most n m rows i d v e c s w low high =
+    let r = autocorrelation-reported n m rows i (figures-accepted (first (limitChecks n m rows i)) (shown (boxAutocorrelation n m rows i)) e .0) in
+    omega (arith, r .largest c s (record { mask = w; shift = whole-within n s low high }), same-figure (r .reply) e)
 
 -- ---- "Combinations may be visited in any order without effect on any answer." Over any list with the members of `measured`, in any order and some
 -- of them more than once, the largest figure, and of its changes the one of the lowest rank, is the box's figure with its witness.
@@ -80,127 +75,59 @@ module _ (n m : ℕ) (rows : List ℕ) (i : ℕ) where
   distance-any-component-order j order same =
       distance-any-order j (each order (changesOf n j (distanceOf n rows))) (measured-same n m i j (distanceOf n rows) order same)
 
--- ---- a figure of 0: changes at half of the inputs
-pub no-size : (z : ℤ) → natAbs z ≡ 0 → z ≡ pos 0
-no-size (pos k) e = ap pos e
-no-size (negsuc k) e = absurd (omega arith)
+-- ---- "cover combinations of at most i outputs": a wider limit covers more, so that no figure is smaller
+module _ (n m : ℕ) (rows : List ℕ) (i j : ℕ) (wider : i ≤ j) (d e : ℕ) (v w : List ℕ) where
+  pub autocorrelation-rises : autocorrelationReply n m rows i ≡ figures (d ∷ v) → autocorrelationReply n m rows j ≡ figures (e ∷ w) → d ≤ e
+  autocorrelation-rises p q =
+      let r = autocorrelation-reported n m rows i (figures-accepted (first (limitChecks n m rows i)) _ p .0) in
+      let s = autocorrelation-reported n m rows j (figures-accepted (first (limitChecks n m rows j)) _ q .0) in
+      let t = r .member in
+      let most = s .largest (r .c) (r .s) (record { mask = within-more wider (t .mask); shift = t .shift }) in
+      omega (arith, most, r .reached, same-figure (r .reply) p, same-figure (s .reply) q)
 
-module _ (n : ℕ) (f : ℕ → ℕ) (d : ℕ) where
-  pub balanced : imbalance n f d ≡ 0 → changes n f d ≡ 2 ^ (n - 1)
-  unfolding imbalance
-  balanced e =
-      ap natAbs
-      (sym (sym (-ℤ-+ℤ-cancel (pos (2 ^ (n - 1))) (pos (changes n f d)))
-      ∙ ap (λ (z : ℤ). z +ℤ pos (changes n f d)) (no-size (pos (2 ^ (n - 1)) -ℤ pos (changes n f d)) e) ∙ +ℤ-idl (pos (changes n f d))))
+  pub distance-rises : (k l : ℕ) → k ≤ l → distanceReply n m rows i k ≡ figures (d ∷ v) → distanceReply n m rows j l ≡ figures (e ∷ w)
+      → d ≤ e
+  distance-rises k l more p q =
+      let r = distance-reported n m rows i k (figures-accepted (first (distanceChecks n m rows i k)) _ p .0) in
+      let s = distance-reported n m rows j l (figures-accepted (first (distanceChecks n m rows j l)) _ q .0) in
+      let t = r .member in
+      let most = s .largest (r .c) (r .s) (record { mask = within-more wider (t .mask); shift = within-more more (t .shift) }) in
+      omega (arith, most, r .reached, same-figure (r .reply) p, same-figure (s .reply) q)
 
-  pub no-imbalance : changes n f d ≡ 2 ^ (n - 1) → imbalance n f d ≡ 0
-  unfolding imbalance
-  no-imbalance e = ap (λ (k : ℕ). natAbs (pos (2 ^ (n - 1)) -ℤ pos k)) e ∙ ap natAbs (+ℤ-invr (pos (2 ^ (n - 1))))
+-- ---- the criteria, of a reply
+module _ (n m : ℕ) (rows : List ℕ) (i j d : ℕ) (witness : List ℕ) (e : distanceReply n m rows i j ≡ figures (d ∷ witness)) where
+  said : (first (distanceChecks n m rows i j) ≡ Accepted) × ((d ∷ witness) ≡ shown (dynamicDistance n m rows i j))
+  said = figures-accepted (first (distanceChecks n m rows i j)) (shown (dynamicDistance n m rows i j)) e
 
-module _ (n m : ℕ) (rows : List ℕ) (b : Box n m rows) where
-  -- ---- the autocorrelation: no component within the limit and no change from 1 is left out
-  pub autocorrelation-widest : (i : ℕ) → 1 ≤ i → Widest n m i n (correlated n rows) (boxAutocorrelation n m rows i)
-  unfolding boxAutocorrelation
-  autocorrelation-widest i i-low = widest n m i n (correlated n rows) (b .n-low) (b .m-low) i-low (b .n-low)
+  replied-box : Box n m rows
+  replied-box = distance-box n m rows i j (said .0)
 
-  pub autocorrelation-most : (i : ℕ) → 1 ≤ i → (c s : ℕ) → Within i (2 ^ m) c → 1 ≤ s → s < 2 ^ n → correlated n rows c s ≤ boxAutocorrelation n m rows i .figure
-  autocorrelation-most i i-low c s hc ls hs = autocorrelation-widest i i-low .most c s hc (whole-within n s ls hs)
+  -- the figure of the reply is the definition's
+  pub replied-distance : d ≡ dynamicDistance n m rows i j .figure
+  replied-distance = head-same (said .1)
 
-  -- ---- the dynamic distance
-  pub distance-widest : (i j : ℕ) → 1 ≤ i → 1 ≤ j → Widest n m i j (distanceOf n rows) (dynamicDistance n m rows i j)
-  unfolding dynamicDistance
-  distance-widest i j i-low j-low = widest n m i j (distanceOf n rows) (b .n-low) (b .m-low) i-low j-low
+-- "SAC holds when order (1, 1) gives 0,": document 000's strict avalanche criterion, each input bit changes each column at half of the inputs
+pub strict-avalanche : (n m : ℕ) (rows : List ℕ) (d : ℕ) (witness : List ℕ) → distanceReply n m rows 1 1 ≡ figures (d ∷ witness)
+    → (d ≡ 0) ↔ ((j k : ℕ) → 1 ≤ j → j ≤ m → 1 ≤ k → k ≤ n → ChangesAtHalf n (column rows j) k)
+strict-avalanche n m rows d witness e =
+    let is = replied-distance n m rows 1 1 d witness e in
+    Iff·trans (λ z. sym is ∙ z, λ z. is ∙ z) (avalanche-exactly n m rows (replied-box n m rows 1 1 d witness e))
 
-  -- ---- the criteria, which ask for changes at half of the inputs
-  -- columns and input bits are counted from 1
-  back : (p : ℕ) → p ≡ suc p - 1
-  back p = omega arith
+-- "BIC when (2, 1) does.": each input bit changes each column, and each XOR of two columns, at half of the inputs. (An accepted call of order (2, 1)
+-- has m ≥ 2; with m = 1 it is refused by 6.)
+pub bit-independence : (n m : ℕ) (rows : List ℕ) (d : ℕ) (witness : List ℕ) → distanceReply n m rows 2 1 ≡ figures (d ∷ witness)
+    → (d ≡ 0)
+    ↔ (((j k : ℕ) → 1 ≤ j → j ≤ m → 1 ≤ k → k ≤ n → ChangesAtHalf n (column rows j) k)
+    × ((i j k : ℕ) → 1 ≤ i → i < j → j ≤ m → 1 ≤ k → k ≤ n → ChangesAtHalf n (λ x. bitXor (column rows i x) (column rows j x)) k))
+bit-independence n m rows d witness e =
+    let is = replied-distance n m rows 2 1 d witness e in
+    Iff·trans (λ z. sym is ∙ z, λ z. is ∙ z) (independence-exactly n m rows (replied-box n m rows 2 1 d witness e))
 
-  -- the masks with a single 1 are the powers of two
-  single : (k p : ℕ) → 1 ≤ p → p ≤ k → Within 1 (2 ^ k) (2 ^ (p - 1))
-  single k p l h = record { low = pow-pos (p - 1); high = pow-lt (omega arith); few = le-of-eq (ones-power (p - 1)) }
-
-  power : {k v : ℕ} → Within 1 (2 ^ k) v → (p : ℕ) × (1 ≤ p) × (p ≤ k) × (v ≡ 2 ^ (p - 1))
-  power {k} {v} w =
-      let t = power-of-ones k v (w .low) (w .high) (w .few) in
-      (suc (t .0), omega arith, omega (arith, t .1), t .2 ∙ ap (λ (q : ℕ). 2 ^ q) (back (t .0)))
-
-  -- order (i, 1) gives 0 exactly when each combination of at most i outputs changes at half of the inputs under each single input bit
-  single-bits : (i : ℕ) → 1 ≤ i → dynamicDistance n m rows i 1 .figure ≡ 0
-      ↔ ((c k : ℕ) → Within i (2 ^ m) c → 1 ≤ k → k ≤ n → changes n (component rows c) (2 ^ (k - 1)) ≡ 2 ^ (n - 1))
-  single-bits i i-low =
-      let t = distance-widest i 1 i-low (le-refl 1) in (
-        λ e c k w lk hk.
-            let low = t .most c (2 ^ (k - 1)) w (single n k lk hk) in
-            let z : distanceOf n rows c (2 ^ (k - 1)) ≡ 0 = omega arith in
-            balanced n (component rows c) (2 ^ (k - 1)) z,
-        λ h.
-            let k = power (t .s-within) in
-            ap (λ (p : Candidate). p .figure) (t .reached)
-            ∙ no-imbalance n (component rows (t .c)) (t .s)
-            (ap (changes n (component rows (t .c))) (k .3) ∙ h (t .c) (k .0) (t .c-within) (k .1) (k .2)),
-      )
-
-  by-column : (j d : ℕ) → changes n (component rows (2 ^ (j - 1))) d ≡ changes n (column rows j) d
-  by-column j d = changes-cong n (component rows (2 ^ (j - 1))) (column rows j) d (λ x. component-column rows j x)
-
-  -- "SAC holds when order (1, 1) gives 0": document 000's strict avalanche criterion, each single input bit changes each column at half of the inputs
-  pub strict-avalanche : dynamicDistance n m rows 1 1 .figure ≡ 0
-      ↔ ((j k : ℕ) → 1 ≤ j → j ≤ m → 1 ≤ k → k ≤ n → changes n (column rows j) (2 ^ (k - 1)) ≡ 2 ^ (n - 1))
-  strict-avalanche = (
-    λ e j k lj hj lk hk. sym (by-column j (2 ^ (k - 1))) ∙ single-bits 1 (le-refl 1) .0 e (2 ^ (j - 1)) k (single m j lj hj) lk hk,
-    λ h. single-bits 1 (le-refl 1) .1
-        (λ c k w lk hk.
-        let j = power w in
-        ap (λ (c : ℕ). changes n (component rows c) (2 ^ (k - 1))) (j .3) ∙ by-column (j .0) (2 ^ (k - 1)) ∙ h (j .0) k (j .1) (j .2) lk hk),
-  )
-
-  -- the masks with two ones are the XORs of two powers of two, and their components the XORs of two columns
-  double : (i j : ℕ) → 1 ≤ i → i < j → j ≤ m → Within 2 (2 ^ m) (bitXor (2 ^ (i - 1)) (2 ^ (j - 1)))
-  double i j li l hj =
-      let p : i - 1 < j - 1 = omega arith in
-      record {
-        low = omega (arith, xor-powers (i - 1) (j - 1) p, pow-pos (i - 1));
-        high = xor-lt m (2 ^ (i - 1)) (2 ^ (j - 1)) (pow-lt (omega arith)) (pow-lt (omega arith));
-        few = le-of-eq (ones-powers (i - 1) (j - 1) p);
-      }
-
-  one-or-two : {c : ℕ} → Within 2 (2 ^ m) c
-      → ((j : ℕ) × (1 ≤ j) × (j ≤ m) × (c ≡ 2 ^ (j - 1))) ⊎ ((i j : ℕ) × (1 ≤ i) × (i < j) × (j ≤ m) × (c ≡ bitXor (2 ^ (i - 1)) (2 ^ (j - 1))))
-  one-or-two {c} w =
-      ⊎-elim (λ t. inl (suc (t .0), omega arith, omega (arith, t .1), t .2 ∙ ap (λ (q : ℕ). 2 ^ q) (back (t .0))))
-      (λ t. inr (
-        suc (t .0),
-        suc (t .1),
-        omega arith,
-        omega (arith, t .2),
-        omega (arith, t .3),
-        t .4 ∙ ap₂ (λ (p q : ℕ). bitXor (2 ^ p) (2 ^ q)) (back (t .0)) (back (t .1)),
-      ))
-      (powers-of-ones m c (w .low) (w .high) (w .few))
-
-  by-columns : (i j d : ℕ) → changes n (component rows (bitXor (2 ^ (i - 1)) (2 ^ (j - 1)))) d ≡ changes n (λ x. bitXor (column rows i x) (column rows j x)) d
-  by-columns i j d =
-      changes-cong n _ _ d
-      (λ x. sym (component-xor rows (2 ^ (i - 1)) (2 ^ (j - 1)) x) ∙ ap₂ bitXor (component-column rows i x) (component-column rows j x))
-
-  -- "BIC when (2, 1) does": each single input bit changes each column, and each XOR of two columns, at half of the inputs. (An accepted call of order
-  -- (2, 1) has m ≥ 2; with m = 1 it is refused by 6.)
-  pub bit-independence : dynamicDistance n m rows 2 1 .figure ≡ 0
-      ↔ (((j k : ℕ) → 1 ≤ j → j ≤ m → 1 ≤ k → k ≤ n → changes n (column rows j) (2 ^ (k - 1)) ≡ 2 ^ (n - 1))
-      × ((i j k : ℕ) → 1 ≤ i → i < j → j ≤ m → 1 ≤ k → k ≤ n → changes n (λ x. bitXor (column rows i x) (column rows j x)) (2 ^ (k - 1)) ≡ 2 ^ (n - 1)))
-  bit-independence = (
-    λ e.
-        let all = single-bits 2 (omega arith) .0 e in (
-          λ j k lj hj lk hk.
-              let one = single m j lj hj in
-              sym (by-column j (2 ^ (k - 1))) ∙ all (2 ^ (j - 1)) k (record { low = one .low; high = one .high; few = omega (arith, one .few) }) lk hk,
-          λ i j k li l hj lk hk. sym (by-columns i j (2 ^ (k - 1))) ∙ all (bitXor (2 ^ (i - 1)) (2 ^ (j - 1))) k (double i j li l hj) lk hk,
-        ),
-    λ h. single-bits 2 (omega arith) .1
-        (λ c k w lk hk. ⊎-elim
-        (λ t. ap (λ (c : ℕ). changes n (component rows c) (2 ^ (k - 1))) (t .3) ∙ by-column (t .0) (2 ^ (k - 1)) ∙ h .0 (t .0) k (t .1) (t .2) lk hk)
-        (λ t. ap (λ (c : ℕ). changes n (component rows c) (2 ^ (k - 1))) (t .5) ∙ by-columns (t .0) (t .1) (2 ^ (k - 1))
-        ∙ h .1 (t .0) (t .1) k (t .2) (t .3) (t .4) lk hk)
-        (one-or-two w)),
-  )
+-- ---- "Complete: every input bit changes every column at some x." The reply is 1 for yes.
+pub complete-exactly : (n m : ℕ) (rows : List ℕ) (d : ℕ) → completeReply n m rows ≡ figures (d ∷ [])
+    → (d ≡ 1)
+    ↔ ((k j : ℕ) → 1 ≤ k → k ≤ n → 1 ≤ j → j ≤ m
+    → (x : ℕ) × (x < 2 ^ n) × (¬ (column rows j x ≡ column rows j (bitXor x (2 ^ (k - 1))))))
+complete-exactly n m rows d e =
+    Iff·trans (figure-true (complete n m rows) (figures-accepted (first (boxChecks n m rows)) (asFigure (complete n m rows)) e .1))
+    (complete-iff n m rows)

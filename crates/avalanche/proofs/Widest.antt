@@ -19,8 +19,10 @@ use Rattle.boolean.proofs.Products.{abs-multiple}
 use Rattle.boolean.proofs.OneBit.{ones-pos}
 use Rattle.boolean.proofs.Selection.{best-takes, best-keeps, first-is, firstLargest-ge, firstLargest-mem, ranked-first}
 use Rattle.masks.specs.Masks.{outputs, preferred}
-use Rattle.masks.proofs.Fewest.{Blocks, largest-names, higher-test}
-use Rattle.avalanche.specs.Calls.{correlations, correlated, change, changesOf, LargestWithin, FirstWithin}
+use Rattle.masks.specs.Statements.{Blocks}
+use Rattle.masks.proofs.Fewest.{largest-names, higher-test}
+use Rattle.avalanche.specs.Work.{correlations, LargestWithin, FirstWithin}
+use Rattle.avalanche.specs.Avalanche.{correlated, change, changesOf}
 use Rattle.avalanche.specs.Statements.{changeRank}
 use Rattle.avalanche.proofs.Changes.{in-changesOf, mem-changesOf, changesOf-some, ascending-changesOf}
 

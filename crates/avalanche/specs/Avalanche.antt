@@ -15,33 +15,47 @@ unfolding listFrom
 shifts n = listFrom 1 (2 ^ n - 1) (λ s. s)
 
 -- those of a list of changes that have at most k ones
-unfoldable pub atMost : ℕ → List ℕ → List ℕ
+unfoldable pub atMost : (k : ℕ) (changes : List ℕ) → List ℕ
 unfolding keep
 atMost k changes = keep (λ v. leb (ones v) k) changes
 
+-- a component c and a change s with their figure
+abbrev pub change : (figure : ℕ → ℕ → ℕ) (c s : ℕ) → Candidate
+change figure c s = record { figure = figure c s; witness = c ∷ s ∷ [] }
+
+-- the changes of at most j inputs of one component, in ascending s
+unfoldable pub changesOf : (n j : ℕ) (figure : ℕ → ℕ → ℕ) (c : ℕ) → List Candidate
+unfolding each atMost shifts
+changesOf n j figure c = each (atMost j (shifts n)) (λ s. change figure c s ∷ [])
+
 -- a figure for each component of at most i outputs and each change of at most j inputs, first in the components' order, then in that of
 -- the changes
-unfoldable pub measured : ℕ → ℕ → ℕ → ℕ → (ℕ → ℕ → ℕ) → List Candidate
-unfolding each components atMost shifts
-measured n m i j figure =
-    each (components m i) (λ c. each (atMost j (shifts n)) (λ s. record { figure = figure c s; witness = c ∷ s ∷ [] } ∷ []))
+unfoldable pub measured : (n m i j : ℕ) (figure : ℕ → ℕ → ℕ) → List Candidate
+unfolding each components changesOf
+measured n m i j figure = each (components m i) (λ c. changesOf n j figure c)
 
--- the box's autocorrelation: the first largest |r(s)| over the components within the limit i and all s from 1
-unfoldable pub boxAutocorrelation : ℕ → ℕ → List ℕ → ℕ → Candidate
+-- |r(s)| of component c
+abbrev pub correlated : (n : ℕ) (rows : List ℕ) (c s : ℕ) → ℕ
+correlated n rows c s = natAbs (autocorrelation n (component rows c) s)
+
+-- the box's autocorrelation: the first largest |r(s)| over the components within the limit i and all s from 1. (None below 2^n has more
+-- than n ones.)
+unfoldable pub boxAutocorrelation : (n m : ℕ) (rows : List ℕ) (i : ℕ) → Candidate
 unfolding firstLargest measured
-boxAutocorrelation n m rows i = firstLargest (measured n m i n (λ c s. natAbs (autocorrelation n (component rows c) s)))
+boxAutocorrelation n m rows i = firstLargest (measured n m i n (λ c s. correlated n rows c s))
 
 -- |2^(n−1) − the count of x where f changes under d|: twice document 001's figure, which is a half at n = 1
-unfoldable pub imbalance : ℕ → (ℕ → ℕ) → ℕ → ℕ
+unfoldable pub imbalance : (n : ℕ) (f : ℕ → ℕ) (d : ℕ) → ℕ
 unfolding changes
 imbalance n f d = natAbs (pos (2 ^ (n - 1)) -ℤ pos (changes n f d))
 
 -- the dynamic distance of order (i, j): the first largest over components of at most i ones and changes of 1 to j ones
-unfoldable pub dynamicDistance : ℕ → ℕ → List ℕ → ℕ → ℕ → Candidate
+unfoldable pub dynamicDistance : (n m : ℕ) (rows : List ℕ) (i j : ℕ) → Candidate
 unfolding firstLargest measured imbalance
 dynamicDistance n m rows i j = firstLargest (measured n m i j (λ c d. imbalance n (component rows c) d))
 
 -- complete: every input bit changes every column at some x
-unfoldable pub complete : ℕ → ℕ → List ℕ → Bool
+unfoldable pub complete : (n m : ℕ) (rows : List ℕ) → Bool
 unfolding every listFrom changes column
-complete n m rows = every (λ k. every (λ j. not (eqb (changes n (column rows j) (2 ^ (k - 1))) 0)) (listFrom 1 m (λ j. j))) (listFrom 1 n (λ k. k))
+complete n m rows =
+    every (λ k. every (λ j. not (eqb (changes n (column rows j) (2 ^ (k - 1))) 0)) (listFrom 1 m (λ j. j))) (listFrom 1 n (λ k. k))

@@ -1,3 +1,4 @@
 pub mod Avalanche
 pub mod Calls
+pub mod Work
 pub mod Statements

@@ -1,36 +1,54 @@
 -- What the theorems beside the contracts say; no contract needs it.
-use Prim.Native.Nat.{ℕ, _+_, _*_, _^_, _<_, _≤_}
+use Prim.Native.Nat.{ℕ, _+_, _-_, _*_, _^_, _<_, _≤_}
 use mathlib.Core.Path.{_≡_}
 use mathlib.Core.Logic.{_⊎_}
 use mathlib.Core.List.{List, [], _∷_}
-use Rattle.boolean.specs.Functions.{at, component, Within, MaskBefore, maskRank}
+use lib.IntN.{natAbs}
+use Rattle.boolean.specs.Functions.{at, autocorrelation, changes, component, Within, MaskBefore, maskRank}
 use Rattle.boolean.specs.Selection.{Candidate}
+use Rattle.refusals.specs.Table.{Reply, figures}
 use Rattle.avalanche.specs.Avalanche.{imbalance}
-use Rattle.avalanche.specs.Calls.{change}
+use Rattle.avalanche.specs.Calls.{autocorrelationReply, distanceReply}
+
+-- a combination within the limit i, and an input change of at most j ones
+pub record IsChange (n m i j c s : ℕ) : Type 0 where
+  pub mask : Within i (2 ^ m) c
+  pub shift : Within j (2 ^ n) s
 
 -- (c′, s′) comes before (c, s): by c in the components' order, then s
 abbrev pub Before : (c′ s′ c s : ℕ) → Type 0
 Before c′ s′ c s = MaskBefore c′ c ⊎ ((c′ ≡ c) × (s′ < s))
 
--- a change's number in that order
-abbrev pub changeRank : ℕ → ℕ → Candidate → ℕ
-changeRank n m p = maskRank m (at (p .witness) 0) * 2 ^ n + at (p .witness) 1
-
--- r is the first of the largest figures over components with at most i ones and changes with at most j
-pub record Widest (n m i j : ℕ) (figure : ℕ → ℕ → ℕ) (r : Candidate) : Type 0 where
-  -- no figure is larger
-  pub most : (c s : ℕ) → Within i (2 ^ m) c → Within j (2 ^ n) s → figure c s ≤ r .figure
-  -- it is that of its witness
+-- What is reported of a figure that each combination c within i has under each change s of at most j ones: the largest, d, and the first c
+-- and s that have it. Where it is 0 they are 1 and 1.
+pub record LargestReported (n m i j : ℕ) (figure : (c s : ℕ) → ℕ) (said : Reply) : Type 0 where
+  pub d : ℕ
   pub c : ℕ
   pub s : ℕ
-  pub c-within : Within i (2 ^ m) c
-  pub s-within : Within j (2 ^ n) s
-  pub reached : r ≡ change figure c s
-  -- each before it is smaller
-  pub first : (c′ s′ : ℕ) → Within i (2 ^ m) c′ → Within j (2 ^ n) s′ → Before c′ s′ c s → figure c′ s′ < r .figure
-  -- a figure of 0 is that of (1, 1)
-  pub none : r .figure ≡ 0 → r .witness ≡ 1 ∷ 1 ∷ []
+  pub reply : said ≡ figures (d ∷ c ∷ s ∷ [])
+  pub largest : (c′ s′ : ℕ) → IsChange n m i j c′ s′ → figure c′ s′ ≤ d
+  pub member : IsChange n m i j c s
+  pub reached : figure c s ≡ d
+  pub before : (c′ s′ : ℕ) → IsChange n m i j c′ s′ → Before c′ s′ c s → figure c′ s′ < d
+  pub none : d ≡ 0 → (c ≡ 1) × (s ≡ 1)
+
+-- the autocorrelation within i: the largest |r(s)|, s from 1 (of at most n ones: every s below 2^n)
+abbrev pub AutocorrelationReported : (n m : ℕ) (rows : List ℕ) (i : ℕ) → Type 0
+AutocorrelationReported n m rows i =
+    LargestReported n m i n (λ c s. natAbs (autocorrelation n (component rows c) s)) (autocorrelationReply n m rows i)
+
+-- the dynamic distance of order (i, j): the largest |2^(n−1) − the count of x where c changes under s|
+abbrev pub DistanceReported : (n m : ℕ) (rows : List ℕ) (i j : ℕ) → Type 0
+DistanceReported n m rows i j = LargestReported n m i j (λ c s. imbalance n (component rows c) s) (distanceReply n m rows i j)
+
+-- f changes at half of the inputs when input bit k is flipped
+abbrev pub ChangesAtHalf : (n : ℕ) (f : ℕ → ℕ) (k : ℕ) → Type 0
+ChangesAtHalf n f k = changes n f (2 ^ (k - 1)) ≡ 2 ^ (n - 1)
+
+-- a change's number in the order by c, then s
+abbrev pub changeRank : (n m : ℕ) (p : Candidate) → ℕ
+changeRank n m p = maskRank m (at (p .witness) 0) * 2 ^ n + at (p .witness) 1
 
 -- the figure of the dynamic distance, at a component and a change
-abbrev pub distanceOf : ℕ → List ℕ → ℕ → ℕ → ℕ
+abbrev pub distanceOf : (n : ℕ) (rows : List ℕ) (c d : ℕ) → ℕ
 distanceOf n rows c d = imbalance n (component rows c) d

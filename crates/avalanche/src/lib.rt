@@ -10,17 +10,18 @@ ghost use lib.Dec.{eqb};
 ghost use lib.IntN.{pos, _+ℤ_, natAbs};
 ghost use lib.ListN.{length};
 ghost use Rattle.boolean.specs.Bits.{bit};
-ghost use Rattle.boolean.specs.Sums.{listFrom, listBelow, every};
+ghost use Rattle.boolean.specs.Sums.{listFrom, listBelow, every, AnyContent};
 ghost use Rattle.boolean.specs.Functions.{valueAt, changes, column, square};
 ghost use Rattle.boolean.specs.Selection.{best, higher, firstLargest, ranked};
 ghost use Rattle.refusals.specs.Table.{first, verdict, Box};
 ghost use Rattle.walsh.specs.Work.{Spectra};
 ghost use Rattle.masks.specs.Masks.{outputs};
-ghost use Rattle.masks.specs.Steps.{Stepping};
-ghost use Rattle.linear.specs.Calls.{Swept};
-ghost use Rattle.avalanche.specs.Avalanche.{measured};
+ghost use Rattle.masks.specs.Steps.{stepTables, Stepping};
+ghost use Rattle.linear.specs.Work.{Swept};
+ghost use Rattle.avalanche.specs.Avalanche.{measured, correlated, changesOf};
 ghost use Rattle.avalanche.specs.Avalanche as spec;
-ghost use Rattle.avalanche.specs.Calls.{distanceChecks, changeReply, autocorrelationReply, distanceReply, completeReply, candidate, truthTable, correlations, correlated, changesOf, sizeWithin, Compared, LargestWithin, FirstWithin};
+ghost use Rattle.avalanche.specs.Calls.{distanceChecks, changeReply, autocorrelationReply, distanceReply, completeReply};
+ghost use Rattle.avalanche.specs.Work.{candidate, truthTable, correlations, sizeWithin, Compared, LargestWithin, FirstWithin};
 
 // The best so far.
 pub struct FoundChange {
@@ -54,7 +55,9 @@ pub fn check_distance(n: u32, m: u32, rows: &[u32], i: u32, j: u32) -> Checked
 // Each value is replaced by the square of its double.
 fn square_all(values: &mut [i32])
     requires { ⌜ ((k : ℕ) → natAbs (valueAt (now values) k) ≤ 128) ⌝ }
-    ensures { λ _. ⌜ now (values .exit) ≡ listBelow (length (now (values .entry))) (λ k. pos (square (valueAt (now (values .entry)) k +ℤ valueAt (now (values .entry)) k))) ⌝ }
+    ensures { λ _. ⌜ now (values .exit)
+        ≡ listBelow (length (now (values .entry)))
+        (λ k. pos (square (valueAt (now (values .entry)) k +ℤ valueAt (now (values .entry)) k))) ⌝ }
 {
     let mut k = 0;
     while k < values.len() {
@@ -84,7 +87,7 @@ fn correlate(
     walsh::transform(n, values);
 }
 
-// The same, from the truth table of component `last`, the mask before c.
+// 2^n times the autocorrelation of component c at every s, from the truth table of component `last`, the mask before c.
 fn next_correlation(
     fixed: &[i32; 2048],
     n: u32,
@@ -96,8 +99,10 @@ fn next_correlation(
     table: &mut [u8],
     values: &mut [i32],
 )
-    requires { ⌜ Swept n m (now rows) (now table) (now values) × Spectra (now fixed) × Stepping m (now rows) (now steps) last c (now table) ⌝ }
-    ensures { λ _. ⌜ (now (values .exit) ≡ correlations n (now (rows .entry)) c) × (now (table .exit) ≡ truthTable n (now (rows .entry)) c) ⌝ }
+    requires { ⌜ Swept n m (now rows) (now table) (now values) × Spectra (now fixed)
+        × Stepping m (now rows) (now steps) last c (now table) ⌝ }
+    ensures { λ _. ⌜ (now (values .exit) ≡ correlations n (now (rows .entry)) c)
+        × (now (table .exit) ≡ truthTable n (now (rows .entry)) c) ⌝ }
 {
     masks::next_component(m, rows, steps, last, c, table);
     correlate(fixed, n, m, rows, c, table, values);
@@ -173,8 +178,8 @@ fn first_within(values: &[i32], j: u32, largest: u32) -> u32
     place
 }
 
-// The best change so far, or the first best of component c, whose autocorrelation is given 2^n times: by the figure, and among equal figures by fewer
-// outputs. The figure is divided once, after the scan, and its change is looked for only where it is taken.
+// The best change so far, or the first best of component c, whose autocorrelation is given 2^n times: by the figure, and among equal
+// figures by fewer outputs. The figure is divided once, after the scan, and its change is looked for only where it is taken.
 fn with_correlation(
     found: FoundChange,
     n: u32,
@@ -185,7 +190,8 @@ fn with_correlation(
     values: &[i32],
 ) -> FoundChange
     requires { ⌜ Compared n m (now rows) j found c (now values) ⌝ }
-    ensures { λ r. ⌜ candidate r ≡ best (ranked higher outputs) (candidate found) (firstLargest (changesOf n j (correlated n (now (rows .entry))) c) ∷ []) ⌝ }
+    ensures { λ r. ⌜ candidate r
+        ≡ best (ranked higher outputs) (candidate found) (firstLargest (changesOf n j (correlated n (now (rows .entry))) c) ∷ []) ⌝ }
 {
     let largest = largest_within(n, values, j);
     let figure = largest / rows.len() as u32;
@@ -210,8 +216,11 @@ fn sweep(
     table: &mut [u8],
     values: &mut [i32],
 ) -> FoundChange
-    requires { ⌜ Swept n m (now rows) (now table) (now values) × Spectra (now fixed) × (length (now steps) ≡ m * length (now rows)) × (1 ≤ i) × (1 ≤ j) ⌝ }
-    ensures { λ r. ⌜ candidate r ≡ firstLargest (measured n m i j (correlated n (now (rows .entry)))) ⌝ }
+    requires { ⌜ Swept n m (now rows) (now table) (now values) × Spectra (now fixed)
+        × (length (now steps) ≡ m * length (now rows)) × (1 ≤ i) × (1 ≤ j) ⌝ }
+    ensures { λ r. ⌜ (candidate r ≡ firstLargest (measured n m i j (correlated n (now (rows .entry)))))
+        × (now (steps .exit) ≡ stepTables m (now (rows .entry)))
+        × AnyContent (now (table .entry)) (now (table .exit)) × AnyContent (now (values .entry)) (now (values .exit)) ⌝ }
 {
     masks::write_steps(m, rows, steps);
     masks::write_component(rows, 0, table);
@@ -279,7 +288,7 @@ fn column_changes(n: u32, m: u32, rows: &[u32], flip: usize, j: u32) -> bool
     false
 }
 
-// Whether every column does.
+// Whether every column changes at some input where `flip` is XORed to it.
 fn every_column_changes(n: u32, m: u32, rows: &[u32], flip: usize) -> bool
     requires { ⌜ Box n m (now rows) × (flip < 2 ^ n) ⌝ }
     ensures { λ r. ⌜ r ≡ every (λ j. not (eqb (changes n (column (now (rows .entry)) j) flip) 0)) (listFrom 1 m (λ j. j)) ⌝ }

@@ -14,6 +14,7 @@ use lib.Dec.{eqb}
 use lib.Pow.{pow-pos}
 use Rattle.boolean.specs.Bits.{dot, affine}
 use Rattle.boolean.specs.Functions.{Boolean, coefficient, degree, distance}
+use Rattle.boolean.specs.Statements.{Same, IsAffine}
 use Rattle.boolean.proofs.Counted.{count-no, count-zero}
 use Rattle.boolean.proofs.Degrees.{le-degree, degree-reached}
 use Rattle.boolean.proofs.Dots.{bit-cases, dot-zero, dot-01, dot-10, dot-11}
@@ -21,10 +22,6 @@ use Rattle.boolean.proofs.NormalForm.{difference, coefficient-cong, coe
 use Rattle.boolean.proofs.OneBit.{ones-one, ones-power, power-of-ones}
 use Rattle.boolean.proofs.Transform.{half-cases}
 use Rattle.boolean.proofs.Xor.{xor-assoc, xor-cancel-left, xor-equal}
-
--- two functions are equal on n bits
-abbrev pub Same : ℕ → (ℕ → ℕ) → (ℕ → ℕ) → Type 0
-Same n f g = (x : ℕ) → x < 2 ^ n → f x ≡ g x
 
 -- no coefficient stands at two ones or more
 abbrev pub Low : ℕ → (ℕ → ℕ) → Type 0
@@ -59,9 +56,6 @@ constant (suc n) f h x l =
     half-cases n (λ x. f x ≡ f 0) lower (λ x k. xor-equal (f x) (f (2 ^ n + x)) (none-above n f h x k) ∙ lower x k) x l
 
 -- ---- a function without coefficients at two ones or more is affine
-abbrev pub IsAffine : ℕ → (ℕ → ℕ) → Type 0
-IsAffine n f = (w b : ℕ) × (w < 2 ^ n) × (b < 2) × Same n f (affine w b)
-
 -- the lower half is affine, and the upper differs from it by a constant
 module _ (n : ℕ) (f : ℕ → ℕ) (w b : ℕ) (hw : w < 2 ^ n) (hb : b < 2) (lower : Same n f (affine w b)) where
   upper : (t : ℕ) → Same n (difference n f) (λ x. t) → (x : ℕ) → x < 2 ^ n → f (2 ^ n + x) ≡ bitXor (affine w b x) t

@@ -1,6 +1,6 @@
 -- The linear approximation values: twice each is the Walsh value. Hence the halving rule, their size, and the way back to the function.
 use mathlib.Core.Path.{_≡_, sym, ap, ap₂, _∙_, subst}
-use mathlib.Core.Logic.{_⊎_, inl, inr}
+use mathlib.Core.Logic.{inl, inr}
 use mathlib.Core.Bool.{not}
 use mathlib.Core.List.{[], _∷_}
 use Prim.Native.Nat.{ℕ, zero, suc, _+_, _*_, _-_, _^_, _<_, _≤_}
@@ -12,6 +12,7 @@ use lib.IntN.{ℤ, pos, _+ℤ_, _-ℤ_, _*ℤ_, negℤ, natAbs, *ℤ-one, +ℤ-n
 use Rattle.boolean.specs.Bits.{dot}
 use Rattle.boolean.specs.Functions.{Boolean, walsh, approximation, sign, signBit, transform, inverse}
 use Rattle.boolean.specs.Sums.{countBelow}
+use Rattle.boolean.specs.Statements.{Full}
 use Rattle.boolean.proofs.Ints.{add4, *ℤ-distr, *ℤ-neg, one-*ℤ}
 use Rattle.boolean.proofs.Ring.{v, _⊞_, _⊖_, solve}
 use Rattle.boolean.proofs.Counts.{count-cong, count-not}
@@ -107,23 +108,20 @@ module _ (n : ℕ) (low : 1 ≤ n) where
       ∙ sym (walsh-twice n g w low))
 
   -- so integers are a spectrum exactly when their transform is 2^(n−1) or −2^(n−1) everywhere
-  abbrev pub Full : ℤ → Type 0
-  Full z = (z ≡ pos (2 ^ (n - 1))) ⊎ (z ≡ negℤ (pos (2 ^ (n - 1))))
-
-  pub spectrum-back : (F : ℕ → ℤ) → ((x : ℕ) → x < 2 ^ n → Full (transform n F x)) → (w : ℕ) → w < 2 ^ n → F w ≡ approximation n (inverse n F) w
+  pub spectrum-back : (F : ℕ → ℤ) → ((x : ℕ) → x < 2 ^ n → Full n (transform n F x)) → (w : ℕ) → w < 2 ^ n → F w ≡ approximation n (inverse n F) w
   unfolding inverse
   spectrum-back F h = spectrum-of F (λ x. signBit (transform n F x)) (λ x l. sign-bit-lt (transform n F x)) (λ x l. pick x (h x l))
     where
-      pick : (x : ℕ) → Full (transform n F x) → transform n F x ≡ pos (2 ^ (n - 1)) *ℤ sign (signBit (transform n F x))
+      pick : (x : ℕ) → Full n (transform n F x) → transform n F x ≡ pos (2 ^ (n - 1)) *ℤ sign (signBit (transform n F x))
       pick x (inl e) = subst (λ (z : ℤ). z ≡ pos (2 ^ (n - 1)) *ℤ sign (signBit z)) (sym e) (sign-bit-pos (2 ^ (n - 1)))
       pick x (inr e) = subst (λ (z : ℤ). z ≡ pos (2 ^ (n - 1)) *ℤ sign (signBit z)) (sym e) (sign-bit-neg (2 ^ (n - 1)) (pow-pos (n - 1)))
 
   pub spectrum-forth : (F : ℕ → ℤ) (g : ℕ → ℕ) → Boolean n g → ((w : ℕ) → w < 2 ^ n → F w ≡ approximation n g w)
-      → (x : ℕ) → x < 2 ^ n → Full (transform n F x)
+      → (x : ℕ) → x < 2 ^ n → Full n (transform n F x)
   unfolding lib.IntN.one
   spectrum-forth F g h e x l = pick (g x) (transform-cong n _ _ x e ∙ approximation-inversion g h x l)
     where
-      pick : (b : ℕ) → transform n F x ≡ pos (2 ^ (n - 1)) *ℤ sign b → Full (transform n F x)
+      pick : (b : ℕ) → transform n F x ≡ pos (2 ^ (n - 1)) *ℤ sign b → Full n (transform n F x)
       pick zero q = inl (q ∙ ap (λ (z : ℤ). pos (2 ^ (n - 1)) *ℤ z) sign-zero ∙ *ℤ-one (pos (2 ^ (n - 1))))
       pick (suc b) q =
           inr (q ∙ ap (λ (z : ℤ). pos (2 ^ (n - 1)) *ℤ z) (sign-suc b) ∙ *ℤ-neg (pos (2 ^ (n - 1))) (pos 1) ∙ ap negℤ (*ℤ-one (pos (2 ^ (n - 1)))))

@@ -4,7 +4,8 @@ use mathlib.Core.Bool.{Bool, true, false}
 use mathlib.Core.List.{List, [], _∷_, _++_}
 use Rattle.boolean.specs.Sums.{each}
 use Rattle.boolean.specs.Selection.{Candidate, best, firstBest, First, here, there}
-use Rattle.boolean.proofs.Selection.{Ordered, ByFigure, best-takes, best-keeps, best-append, best-stays, best-is, best-all, best-first}
+use Rattle.boolean.specs.Statements.{Ordered, ByFigure}
+use Rattle.boolean.proofs.Selection.{best-takes, best-keeps, best-append, best-stays, best-is, best-all, best-first}
 
 -- the first best of one block
 abbrev pub leader : {A : Type 0} → (Candidate → Candidate → Bool) → (A → List Candidate) → A → List Candidate

@@ -5,7 +5,7 @@ use mathlib.Core.Logic.{inl, inr}
 use mathlib.Core.Bool.{Bool, true, false}
 use mathlib.Core.List.{List, [], _∷_, _++_, List·Memᴰ, List·Memᴰ·head, List·Memᴰ·tail}
 use Prim.Native.Nat.{ℕ, zero, suc, _+_, _*_, _-_, _^_, _≤_, _<_}
-use native.Mathlib.Nat.{add-zero, le-refl, suc-mul, mul-le-mul-right}
+use native.Mathlib.Nat.{add-zero, le-refl, le-trans, suc-mul, mul-le-mul-right}
 use native.Mathlib.Omega.{arith}
 use borrow.Author.Tests.{leb-true, le-leb, eqb-true, eq-eqb}
 use lib.Count.{ones, onesIn, ones-le}
@@ -17,6 +17,7 @@ use Rattle.boolean.proofs.Lists.{mem-listFrom, in-listFrom, mem-each, i
 use Rattle.boolean.proofs.Kept.{keep-takes, keep-drops, mem-keep, in-keep, ascending-keep}
 use Rattle.boolean.proofs.OneBit.{ones-one, ones-pos}
 use Rattle.boolean.specs.Selection.{Ascending, SameMembers}
+use Rattle.boolean.specs.Statements.{masksBelow}
 
 -- the test of the limit
 abbrev pub limited : ℕ → ℕ → Bool
@@ -48,10 +49,7 @@ module _ (p : ℕ → Bool) where
         ap (λ (z : ℕ). keep p (listFrom 1 z (λ c. c))) more ∙ keep-takes p 1 (listFrom 2 (2 ^ m - 2) (λ c. c)) e,
       )
 
--- ---- the masks within a limit below a bound, in ascending order: not as components come, but as a loop visits them
-abbrev pub masksBelow : ℕ → ℕ → List ℕ
-masksBelow i end = keep (limited i) (listFrom 1 (end - 1) (λ c. c))
-
+-- ---- the masks within a limit below a bound, in ascending order
 module _ (i end : ℕ) (some : 1 ≤ end) where
   pub mem-masksBelow : (c : ℕ) → List·Memᴰ c (masksBelow i end) → Within i end c
   mem-masksBelow c k =
@@ -153,6 +151,10 @@ same-masks m i c = (λ h. in-components m i c (mem-masksBelow i (2 ^ m) (pow-pos
 
 pub whole-within : (m c : ℕ) → 1 ≤ c → c < 2 ^ m → Within m (2 ^ m) c
 whole-within m c l h = record { low = l; high = h; few = ones-le m c h }
+
+-- a wider limit takes what a narrower one takes
+pub within-more : {i j end c : ℕ} → i ≤ j → Within i end c → Within j end c
+within-more l w = record { low = w .low; high = w .high; few = le-trans (w .few) l }
 
 -- the mask 1 is always one of them
 pub first-mask : (m i : ℕ) → 1 ≤ m → 1 ≤ i → Within i (2 ^ m) 1

@@ -1,12 +1,13 @@
 -- The autocorrelation: the transform of the squares of the Walsh values gives it back, it counts the changes, and an affine function that is added changes
 -- at most its sign. Assumes nothing.
 use mathlib.Core.Path.{_≡_, sym, ap, ap₂, _∙_}
-use mathlib.Core.Bool.{not}
+use mathlib.Core.Bool.{Bool, cond, not}
 use mathlib.Core.List.{[], _∷_}
 use Prim.Native.Nat.{ℕ, zero, suc, _+_, _*_, _-_, _^_, _<_, _≤_}
 use native.Mathlib.Nat.{not-suc-le-zero, two-pow-succ}
 use native.Mathlib.Omega.{arith}
-use lib.Bits.{bitXor, xor-lt}
+use borrow.Author.Tests.{eq-eqb}
+use lib.Bits.{bitXor, xor-lt, xor-zero-r}
 use lib.Dec.{eqb}
 use lib.IntN.{ℤ, pos, negsuc, _+ℤ_, _-ℤ_, _*ℤ_, natAbs, +ℤ-negℤ-cancel}
 use Rattle.boolean.specs.Bits.{affine, dot}
@@ -19,7 +20,7 @@ use Rattle.boolean.proofs.Walsh.{agree-count}
 use Rattle.boolean.proofs.Spectrum.{wiener-khinchin}
 use Rattle.boolean.proofs.Counts.{count-cong}
 use Rattle.boolean.proofs.Sizes.{abs-sign, abs-twice}
-use Rattle.boolean.proofs.Sums.{sum-cong, sum-mul}
+use Rattle.boolean.proofs.Sums.{sum-cong, sum-mul, sum-ones}
 
 -- what the squares of the Walsh values transform to
 pub squares-transform : (n : ℕ) (f : ℕ → ℕ) → Boolean n f → (s : ℕ) → s < 2 ^ n
@@ -45,6 +46,13 @@ correlation-half (suc n) f s h =
     ∙ ap natAbs
     (solve (pos (2 ^ n) ∷ pos d ∷ []) ((v 0 ⊖ v 1) ⊞ (v 0 ⊖ v 1)) ((v 0 ⊞ v 0) ⊖ (v 1 ⊞ v 1)) tt
     ∙ ap₂ (λ (a b : ℕ). pos a -ℤ pos b) (sym (two-pow-succ n)) twice ∙ sym (correlation-changes (suc n) f s))
+
+-- r(0) is 2^n: every input agrees with itself
+pub correlation-zero : (n : ℕ) (f : ℕ → ℕ) → autocorrelation n f 0 ≡ pos (2 ^ n)
+unfolding autocorrelation agreement
+correlation-zero n f =
+    sum-cong (2 ^ n) _ _ (λ x l. ap (λ (t : Bool). cond t (pos 1) (negsuc 0)) (eq-eqb (f x) (f (bitXor x 0)) (ap f (sym (xor-zero-r x)))))
+    ∙ sum-ones (2 ^ n)
 
 -- equal functions have the same changes
 pub changes-cong : (n : ℕ) (f g : ℕ → ℕ) (s : ℕ) → ((x : ℕ) → f x ≡ g x) → changes n f s ≡ changes n g s

@@ -9,6 +9,7 @@ use native.Mathlib.Omega.{arith}
 use borrow.Author.Tests.{ltb-true, ltb-false, eqb-true, eqb-false, lt-ltb, le-ltb}
 use lib.Dec.{ltb, eqb}
 use Rattle.boolean.specs.Selection.{Candidate, best, lower, higher, firstBest, firstLeast, firstLargest, Ascending, SameMembers, ranked, First, here, there}
+use Rattle.boolean.specs.Statements.{Ordered, ByFigure}
 
 -- a member of a list is its head or a member of the rest
 pub of-cons : {C : Type 0} (P : C → Type 0) {c d : C} {cs : List C} → P d → (List·Memᴰ c cs → P c) → List·Memᴰ c (d ∷ cs) → P c
@@ -81,16 +82,6 @@ best-agrees beats other rank b (c ∷ cs) a h =
     (λ e.
     best-agrees beats other rank b cs (λ d m. a .0 d (List·Memᴰ·tail m), a .1 .1) (λ x y m. h x y (List·Memᴰ·tail m))
     ∙ sym (best-keeps other b c cs (sym same ∙ e)))
-
--- a comparison that goes by an order: R, at least as good as; S, better than
-pub record Ordered {C : Type 0} (beats : C → C → Bool) (R S : C → C → Type 0) : Type 0 where
-  pub same : (a : C) → R a a
-  pub trans : (a b c : C) → R a b → R b c → R a c
-  pub weak : (a b : C) → S a b → R a b
-  pub left : (a b c : C) → R a b → S b c → S a c
-  pub right : (a b c : C) → S a b → R b c → S a c
-  pub wins : (c b : C) → beats c b ≡ true → S c b
-  pub loses : (c b : C) → beats c b ≡ false → R b c
 
 module _ {C : Type 0} {beats : C → C → Bool} {R S : C → C → Type 0} (o : Ordered beats R S) where
   -- the result is at least as good as each candidate
@@ -248,12 +239,6 @@ module _ (beats : Candidate → Candidate → Bool) (rank : Candidate → ℕ) w
   pub first-is-ranked : (cs : List Candidate) → Ascending rank cs → firstBest beats cs ≡ firstBest (ranked beats rank) cs
   first-is-ranked [] a = refl
   first-is-ranked (c ∷ cs) a = best-agrees beats (ranked beats rank) rank c cs a (λ x y m l. sym (agree x y l))
-
--- an order of candidates that goes by their figures alone
-pub record ByFigure (R S : Candidate → Candidate → Type 0) : Type 0 where
-  pub equal : (a b : Candidate) → a .figure ≡ b .figure → R a b
-  pub unequal : (a b : Candidate) → R a b → (a .figure ≡ b .figure → ⊥) → S a b
-  pub strict : (a b : Candidate) → S a b → R b a → ⊥
 
 pub by-least : ByFigure Le Lt
 by-least = omega arith

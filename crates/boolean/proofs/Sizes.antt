@@ -12,6 +12,11 @@ use Rattle.boolean.specs.Sums.{sumBelow}
 use Rattle.boolean.specs.Functions.{sign, transform}
 use Rattle.boolean.proofs.Ints.{one-*ℤ, minus-one-*ℤ}
 
+-- only 0 has the size 0
+pub no-size : (z : ℤ) → natAbs z ≡ 0 → z ≡ pos 0
+no-size (pos k) e = ap pos e
+no-size (negsuc k) e = absurd (omega arith)
+
 pub abs-add : (a b : ℤ) → natAbs (a +ℤ b) ≤ natAbs a + natAbs b
 abs-add (pos a) (pos b) = le-refl (a + b)
 abs-add (pos a) (negsuc b) = pick (ltb a (suc b))

@@ -2,7 +2,7 @@
 use mathlib.Core.Path.{_≡_, refl, sym, ap, ap₂, _∙_}
 use Prim.Native.Nat.{ℕ, zero, suc, _+_, _*_, _-_, _^_, _<_}
 use native.Mathlib.Nat.{add-zero, add-suc, le-refl, le-suc, le-trans, two-pow-succ}
-use lib.IntN.{ℤ, _+ℤ_, _*ℤ_, negℤ, +ℤ-idr, +ℤ-assoc, negℤ-+ℤ, *ℤ-zero}
+use lib.IntN.{ℤ, pos, _+ℤ_, _*ℤ_, negℤ, +ℤ-idr, +ℤ-assoc, negℤ-+ℤ, *ℤ-zero}
 use Rattle.boolean.specs.Sums.{sumBelow}
 use Rattle.boolean.proofs.Ints.{add4, *ℤ-distl}
 
@@ -36,3 +36,9 @@ pub sum-mul : (c : ℤ) (k : ℕ) (f : ℕ → ℤ) → sumBelow k (λ x. c *ℤ
 unfolding sumBelow
 sum-mul c zero f = sym (*ℤ-zero c)
 sum-mul c (suc k) f = ap (λ (z : ℤ). z +ℤ c *ℤ f k) (sum-mul c k f) ∙ sym (*ℤ-distl c (sumBelow k f) (f k))
+
+-- as many ones as there are numbers
+pub sum-ones : (k : ℕ) → sumBelow k (λ x. pos 1) ≡ pos k
+unfolding sumBelow
+sum-ones zero = refl
+sum-ones (suc k) = ap (λ (z : ℤ). z +ℤ pos 1) (sum-ones k) ∙ ap pos (add-suc k 0 ∙ ap suc (add-zero k))

@@ -7,7 +7,7 @@ use mathlib.Core.List.{List, [], _∷_}
 use lib.Bits.{bitAnd, bitXor}
 use lib.Count.{ones}
 use lib.Dec.{eqb}
-use lib.ListN.{getD, set}
+use lib.ListN.{length, getD, set}
 use lib.IntN.{ℤ, pos, negsuc, _-ℤ_, _*ℤ_, negℤ, natAbs}
 use Rattle.boolean.specs.Bits.{parity, dot, affine, bit, within}
 use Rattle.boolean.specs.Sums.{sumBelow, countBelow, xorBelow, largestBelow, listFrom, listBelow, each, keep}
@@ -27,6 +27,15 @@ swapped rows x y = set (set rows x (at rows y)) y (at rows x)
 -- the same of a list of integers
 abbrev pub valueAt : List ℤ → ℕ → ℤ
 valueAt values w = getD values w (pos 0)
+
+-- how many of the first k values of a list are v
+unfoldable pub occurrences : (values : List ℕ) (k v : ℕ) → ℕ
+unfolding countBelow
+occurrences values k v = countBelow k (λ x. eqb (at values x) v)
+
+-- every value of a list is below the limit
+abbrev pub Below : (limit : ℕ) (values : List ℕ) → Type 0
+Below limit values = (x : ℕ) → x < length values → at values x < limit
 
 -- +1 where two truth values are equal, and −1 elsewhere
 unfoldable pub agreement : ℕ → ℕ → ℤ

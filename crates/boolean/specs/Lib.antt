@@ -2,3 +2,4 @@ pub mod Bits
 pub mod Sums
 pub mod Functions
 pub mod Selection
+pub mod Statements

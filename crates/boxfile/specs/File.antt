@@ -1,5 +1,6 @@
 -- A box file: n, m in a byte each, then the rows, four bytes each, low byte first.
 use Prim.Native.Nat.{ℕ, _+_, _*_, _^_}
+use mathlib.Core.Bool.{cond}
 use mathlib.Core.List.{List, [], _∷_}
 use lib.Dec.{leb, eqb}
 use lib.ListN.{length}
@@ -12,16 +13,16 @@ use Rattle.boxfile.specs.declared.BoxFile.{BoxFile}
 use Rattle.boxfile.specs.declared.BoxFile.the-variants.{Read, Declined}
 
 -- row x, from its four bytes
-unfoldable pub rowAt : List ℕ → ℕ → ℕ
+unfoldable pub rowAt : (file : List ℕ) (x : ℕ) → ℕ
 rowAt file x = at file (4 * x + 2) + 256 * at file (4 * x + 3) + 65536 * at file (4 * x + 4) + 16777216 * at file (4 * x + 5)
 
 -- the rows of a box of n inputs
-unfoldable pub rowsOf : List ℕ → ℕ → List ℕ
+unfoldable pub rowsOf : (file : List ℕ) (n : ℕ) → List ℕ
 unfolding listBelow rowAt
 rowsOf file n = listBelow (2 ^ n) (λ x. rowAt file x)
 
 -- the checks once n and m have been read; the rows go to an array of that room
-unfoldable pub readChecks : List ℕ → ℕ → ℕ → ℕ → List Check
+unfoldable pub readChecks : (file : List ℕ) (n m room : ℕ) → List Check
 unfolding rowsOf
 readChecks file n m room =
     (InputWidth unless inRange 1 8 n)
@@ -32,7 +33,7 @@ readChecks file n m room =
     ∷ []
 
 -- the checks of a file: under 2 bytes there is no n and no m
-unfoldable pub fileChecks : List ℕ → ℕ → List Check
+unfoldable pub fileChecks : (file : List ℕ) (room : ℕ) → List Check
 unfolding readChecks
 fileChecks file room = (FileLength unless leb 2 (length file)) ∷ readChecks file (at file 0) (at file 1) room
 
@@ -41,7 +42,11 @@ abbrev pub boxFile : BoxFile → Reply
 boxFile (Read n m) = figures (n ∷ m ∷ [])
 boxFile (Declined e) = refusal (number e)
 
+-- how many rows the file's n asks for: none where a box has no such n, and an empty file, whose n reads as 0, is one of these
+unfoldable pub roomOf : (file : List ℕ) → ℕ
+roomOf file = cond (inRange 1 8 (at file 0)) (2 ^ at file 0) 0
+
 -- what the checks of a file find where its rows are given the room that they take: no reader of the file alone is refused by 7
-unfoldable pub fileFound : List ℕ → Checked
+unfoldable pub fileFound : (file : List ℕ) → Checked
 unfolding fileChecks
 fileFound file = first (fileChecks file (2 ^ at file 0))

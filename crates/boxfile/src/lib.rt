@@ -3,12 +3,11 @@ use refusals::Checked;
 use refusals::Refusal;
 ghost use mathlib.Core.Path.{_≡_};
 ghost use mathlib.Core.List.{[], _∷_};
-ghost use Prim.Native.Nat.{_+_, _*_, _^_, _<_};
+ghost use Prim.Native.Nat.{_+_, _*_, _^_, _<_, _≤_};
 ghost use lib.ListN.{length};
 ghost use Rattle.boolean.specs.Functions.{at};
-ghost use Rattle.refusals.specs.Table.{first, replyAfter, contentAfter, allBelow};
-ghost use Rattle.boxfile.specs.File.{rowAt, rowsOf, readChecks, fileChecks, boxFile, fileFound};
-ghost use Rattle.boxfile.specs.Work.{Room};
+ghost use Rattle.refusals.specs.Table.{first, allBelow, Wrote};
+ghost use Rattle.boxfile.specs.File.{rowAt, rowsOf, readChecks, fileChecks, boxFile, roomOf, fileFound};
 
 // The answer of reading a file: the widths of its box.
 pub enum BoxFile {
@@ -105,8 +104,11 @@ pub fn check_file(file: &[u8], room: usize) -> Checked
 
 // Reads a box from the bytes of its file: the widths are the answer, and the rows go to the lent array.
 pub fn read_box(file: &[u8], rows: &mut [u32]) -> BoxFile
-    ensures reply { λ r. ⌜ boxFile r ≡ replyAfter (first (fileChecks (now (file .entry)) (length (now (rows .entry))))) (at (now (file .entry)) 0 ∷ at (now (file .entry)) 1 ∷ []) ⌝ }
-    ensures content { λ r. ⌜ now (rows .exit) ≡ contentAfter (first (fileChecks (now (file .entry)) (length (now (rows .entry))))) (rowsOf (now (file .entry)) (at (now (file .entry)) 0)) (now (rows .entry)) ⌝ }
+    ensures { λ r. ⌜ Wrote
+        (fileChecks (now (file .entry)) (length (now (rows .entry))))
+        (at (now (file .entry)) 0 ∷ at (now (file .entry)) 1 ∷ [])
+        (rowsOf (now (file .entry)) (at (now (file .entry)) 0))
+        (now (rows .entry)) (boxFile r) (now (rows .exit)) ⌝ }
 {
     if let Checked::Refused(e) = check_file(file, rows.len()) {
         return BoxFile::Declined(e);
@@ -121,7 +123,7 @@ pub fn read_box(file: &[u8], rows: &mut [u32]) -> BoxFile
 
 // How many rows the file's n asks for; 0 where there is no n, or none that a box has, and the room then does not matter.
 pub fn room_of(file: &[u8]) -> usize
-    ensures { λ r. ⌜ Room (now (file .entry)) r ⌝ }
+    ensures { λ r. ⌜ (r ≡ roomOf (now (file .entry))) × (r ≤ 256) ⌝ }
 {
     if file.len() == 0 {
         return 0;

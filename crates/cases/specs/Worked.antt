@@ -1,113 +1,18 @@
--- Document 01's proved cases, with the limits of document 02, in a single theorem over a table of them, computed over the definitions that the
--- contracts cite.
+-- Document 01's proved cases, with the limits and the later calls of document 02: a table. The theorem over it is `worked` (proofs/Worked).
 use Prim.Native.Nat.{ℕ, _^_}
-use mathlib.Core.Bool.{Bool, true, false, _&&_}
-use mathlib.Core.List.{List, [], _∷_}
-use lib.Count.{ones}
-use lib.Dec.{T, eqb}
-use lib.IntN.{ℤ, pos, negsuc}
-use lib.ListN.{length, drop}
-use Rattle.boolean.specs.Bits.{parity, dot, affine, bit, within}
-use Rattle.boolean.specs.Sums.{sumBelow, one-if, countBelow, xorBelow, listFrom, listBelow, each, every, keep, largestBelow, distinct}
-use Rattle.boolean.specs.Functions.{at, valueAt, agreement, approximation, spectrum, distance, autocorrelation, changes, coefficient, degree, column, component, components, sign, transform, signBit, inverse, sameValues, isSpectrum}
-use Rattle.boolean.specs.Selection.{best, firstLeast, firstLargest}
-use Rattle.refusals.specs.Table.{limitChecks, tableCallChecks, Reply, figures, refusal, first, replyAfter, contentAfter}
-use Rattle.walsh.specs.Calls.{inverseLengths, functionCheck, inverseChecks}
-use Rattle.linear.specs.Nonlinearity.{pairsOf, pairs, nonlinearity, nonlinearityReply}
-use Rattle.differential.specs.XorTable.{difference, cell, cellsOf, cells, largestCell}
-use Rattle.differential.specs.Calls.{rowChecks, xorReply}
-use Rattle.avalanche.specs.Avalanche.{shifts, atMost, measured, boxAutocorrelation, imbalance, dynamicDistance, complete}
-use Rattle.avalanche.specs.Calls.{distanceChecks, distanceReply, autocorrelationReply, completeReply}
-use Rattle.algebraic.specs.Algebraic.{degrees, boxDegree}
-use Rattle.algebraic.specs.Calls.{boxDegreeReply}
-use Rattle.constructions.specs.Enlargement.{enlarged, enlargedTable, enlargedRows}
-use Rattle.constructions.specs.BentForm.{bentForm, bentTable, isPermutation}
-use Rattle.constructions.specs.Calls.{columnChecks, enlargeChecks, bentChecks}
-
--- what a call says: its reply, or the final content of an array that it was lent
-pub data Outcome : Type 0 where
-  says : Reply → Outcome
-  holds : List ℕ → Outcome
-  holdsSigned : List ℤ → Outcome
-
-infix 4 _is_
--- a line of the table: what is asked, and what the document prints
-pub data Case : Type 0 where
-  _is_ : Outcome → Outcome → Case
-
-abbrev pub sameList : List ℕ → List ℕ → Bool
-sameList [] [] = true
-sameList [] (y ∷ ys) = false
-sameList (x ∷ xs) [] = false
-sameList (x ∷ xs) (y ∷ ys) = eqb x y && sameList xs ys
-
-abbrev pub sameReply : Reply → Reply → Bool
-sameReply (figures a) (figures b) = sameList a b
-sameReply (figures a) (refusal n) = false
-sameReply (refusal m) (figures b) = false
-sameReply (refusal m) (refusal n) = eqb m n
-
-abbrev pub same : Outcome → Outcome → Bool
-same (says a) (says b) = sameReply a b
-same (says a) (holds b) = false
-same (says a) (holdsSigned b) = false
-same (holds a) (says b) = false
-same (holds a) (holds b) = sameList a b
-same (holds a) (holdsSigned b) = false
-same (holdsSigned a) (says b) = false
-same (holdsSigned a) (holds b) = false
-same (holdsSigned a) (holdsSigned b) = sameValues a b
-
-abbrev pub right : List Case → Bool
-right [] = true
-right ((a is b) ∷ cs) = same a b && right cs
-
--- the replies and contents of the calls, as their contracts have them; i is the limit on combinations
-abbrev pub nonlinearityOf : ℕ → ℕ → List ℕ → ℕ → Outcome
-nonlinearityOf n m rows i = says (nonlinearityReply n m rows i)
-
-abbrev pub distanceOf : ℕ → ℕ → List ℕ → ℕ → ℕ → Outcome
-distanceOf n m rows i j = says (distanceReply n m rows i j)
-
-abbrev pub degreeOf : ℕ → ℕ → List ℕ → ℕ → Outcome
-degreeOf n m rows i = says (boxDegreeReply n m rows i)
-
-abbrev pub cellOf : ℕ → ℕ → List ℕ → Outcome
-cellOf n m rows = says (xorReply n m rows)
-
--- (an XOR row is written to an array with so much room)
-abbrev pub rowReply : ℕ → ℕ → List ℕ → ℕ → ℕ → Outcome
-rowReply n m rows a room = says (replyAfter (first (rowChecks n m rows a room)) [])
-
-abbrev pub completeOf : ℕ → ℕ → List ℕ → Outcome
-completeOf n m rows = says (completeReply n m rows)
-
-abbrev pub autocorrelationOf : ℕ → ℕ → List ℕ → ℕ → Outcome
-autocorrelationOf n m rows i = says (autocorrelationReply n m rows i)
-
-abbrev pub spectrumOf : ℕ → List ℕ → List ℤ → Outcome
-spectrumOf n table old = holdsSigned (contentAfter (first (tableCallChecks n table (length old))) (spectrum n (at table)) old)
-
-abbrev pub inverseReply : ℕ → List ℤ → List ℕ → Outcome
-inverseReply n values old = says (replyAfter (first (inverseChecks n values (length old))) [])
-
-abbrev pub inverseOf : ℕ → List ℤ → List ℕ → Outcome
-inverseOf n values old = holds (contentAfter (first (inverseChecks n values (length old))) (listBelow (2 ^ n) (λ x. inverse n (valueAt values) x)) old)
-
-abbrev pub columnOf : ℕ → List ℕ → ℕ → ℕ → List ℕ → List ℕ
-columnOf n table k a old = contentAfter (first (columnChecks n table k a (length old))) (enlargedTable n table k a) old
-
-abbrev pub columnReply : ℕ → List ℕ → ℕ → ℕ → List ℕ → Outcome
-columnReply n table k a old = says (replyAfter (first (columnChecks n table k a (length old))) [])
-
-abbrev pub boxOf : ℕ → List ℕ → List ℕ → ℕ → List ℕ → List ℕ
-boxOf n rows table k old = contentAfter (first (enlargeChecks n rows table k (length old))) (enlargedRows n rows table k) old
-
-abbrev pub boxReply : ℕ → List ℕ → List ℕ → ℕ → List ℕ → Outcome
-boxReply n rows table k old = says (replyAfter (first (enlargeChecks n rows table k (length old))) [])
-
-abbrev pub bentOf : ℕ → List ℕ → List ℕ → List ℕ → List ℕ
-bentOf n permutation table old = contentAfter (first (bentChecks n permutation table (length old))) (bentTable n permutation table) old
+use mathlib.Core.List.{List, [], _∷_, _++_}
+use lib.IntN.{pos, negsuc}
+use lib.ListN.{drop, replicate}
+use Rattle.boolean.specs.Sums.{listBelow}
+use Rattle.refusals.specs.Table.{figures, refusal}
+use Rattle.rounds.specs.Round.{Summand}
+use Rattle.design.specs.Model as design
+use Rattle.server.specs.Model as server
+use Rattle.cases.specs.Outcomes.{Case, says, holds, holdsSigned, _is_}
+use Rattle.cases.specs.Outcomes.{nonlinearityOf, autocorrelationOf, degreeOf, distanceOf, cellOf, rowReply, completeOf}
+use Rattle.cases.specs.Outcomes.{spectrumOf, inverseReply, inverseOf, columnOf, columnReply, boxOf, boxReply, bentOf}
+use Rattle.cases.specs.Outcomes.{additionReply, additionOf, sumOf, raisingOf, checkOf}
+use Rattle.cases.specs.Outcomes.{markReply, returnReply, putReply, withdrawReply}
 
 -- what stands in an array before a call
 abbrev pub sixteen : List ℕ
@@ -124,10 +29,10 @@ abbrev pub case9Table : List ℕ
 case9Table = 1 ∷ 0 ∷ 0 ∷ 0 ∷ 1 ∷ 1 ∷ 0 ∷ 1 ∷ []
 
 abbrev pub case9 : List ℕ
-case9 = boxOf 3 case9Rows case9Table 1 sixteen
+case9 = 11 ∷ 1 ∷ 4 ∷ 0 ∷ 10 ∷ 13 ∷ 6 ∷ 15 ∷ 9 ∷ 3 ∷ 8 ∷ 12 ∷ 5 ∷ 2 ∷ 7 ∷ 14 ∷ []
 
 abbrev pub case10 : List ℕ
-case10 = bentOf 4 (0 ∷ 1 ∷ 2 ∷ 3 ∷ []) (0 ∷ 0 ∷ 0 ∷ 0 ∷ []) sixteen
+case10 = 0 ∷ 0 ∷ 0 ∷ 0 ∷ 0 ∷ 1 ∷ 0 ∷ 1 ∷ 0 ∷ 0 ∷ 1 ∷ 1 ∷ 0 ∷ 1 ∷ 1 ∷ 0 ∷ []
 
 abbrev pub cases : List Case
 cases =
@@ -139,7 +44,8 @@ cases =
     ∷ (nonlinearityOf 1 1 (0 ∷ 0 ∷ []) 1 is says (figures (0 ∷ 1 ∷ 0 ∷ 0 ∷ [])))
     ∷ (degreeOf 1 1 (0 ∷ 0 ∷ []) 1 is says (figures (0 ∷ 1 ∷ [])))
     -- 3
-    ∷ (spectrumOf 2 (0 ∷ 0 ∷ 0 ∷ 1 ∷ []) (pos 0 ∷ pos 0 ∷ pos 0 ∷ pos 0 ∷ []) is holdsSigned (pos 1 ∷ pos 1 ∷ pos 1 ∷ negsuc 0 ∷ []))
+    ∷ (spectrumOf 2 (0 ∷ 0 ∷ 0 ∷ 1 ∷ []) (pos 0 ∷ pos 0 ∷ pos 0 ∷ pos 0 ∷ [])
+    is holdsSigned (pos 1 ∷ pos 1 ∷ pos 1 ∷ negsuc 0 ∷ []))
     ∷ (nonlinearityOf 2 1 (0 ∷ 0 ∷ 0 ∷ 1 ∷ []) 1 is says (figures (1 ∷ 1 ∷ 0 ∷ 0 ∷ [])))
     ∷ (distanceOf 2 1 (0 ∷ 0 ∷ 0 ∷ 1 ∷ []) 1 2 is says (figures (0 ∷ 1 ∷ 1 ∷ [])))
     -- 4
@@ -156,11 +62,11 @@ cases =
     -- 8: the upper half
     ∷ (holds (drop 8 (columnOf 3 case8 1 1 sixteen)) is holds (0 ∷ 0 ∷ 1 ∷ 1 ∷ 0 ∷ 1 ∷ 0 ∷ 1 ∷ []))
     -- 9
-    ∷ (holds case9 is holds (11 ∷ 1 ∷ 4 ∷ 0 ∷ 10 ∷ 13 ∷ 6 ∷ 15 ∷ 9 ∷ 3 ∷ 8 ∷ 12 ∷ 5 ∷ 2 ∷ 7 ∷ 14 ∷ []))
-    ∷ (nonlinearityOf 4 4 (11 ∷ 1 ∷ 4 ∷ 0 ∷ 10 ∷ 13 ∷ 6 ∷ 15 ∷ 9 ∷ 3 ∷ 8 ∷ 12 ∷ 5 ∷ 2 ∷ 7 ∷ 14 ∷ []) 4 is says (figures (0 ∷ 12 ∷ 1 ∷ 1 ∷ [])))
+    ∷ (holds (boxOf 3 case9Rows case9Table 1 sixteen) is holds case9)
+    ∷ (nonlinearityOf 4 4 case9 4 is says (figures (0 ∷ 12 ∷ 1 ∷ 1 ∷ [])))
     -- 10
-    ∷ (holds case10 is holds (0 ∷ 0 ∷ 0 ∷ 0 ∷ 0 ∷ 1 ∷ 0 ∷ 1 ∷ 0 ∷ 0 ∷ 1 ∷ 1 ∷ 0 ∷ 1 ∷ 1 ∷ 0 ∷ []))
-    ∷ (nonlinearityOf 4 1 (0 ∷ 0 ∷ 0 ∷ 0 ∷ 0 ∷ 1 ∷ 0 ∷ 1 ∷ 0 ∷ 0 ∷ 1 ∷ 1 ∷ 0 ∷ 1 ∷ 1 ∷ 0 ∷ []) 1 is says (figures (6 ∷ 1 ∷ 0 ∷ 0 ∷ [])))
+    ∷ (holds (bentOf 4 (0 ∷ 1 ∷ 2 ∷ 3 ∷ []) (0 ∷ 0 ∷ 0 ∷ 0 ∷ []) sixteen) is holds case10)
+    ∷ (nonlinearityOf 4 1 case10 1 is says (figures (6 ∷ 1 ∷ 0 ∷ 0 ∷ [])))
     ∷ []
 
 -- a truth table of n inputs that is 0 everywhere, and the rows 0, 1, .., 2^n − 1
@@ -170,7 +76,7 @@ zeros n = listBelow (2 ^ n) (λ x. 0)
 abbrev pub identity : ℕ → List ℕ
 identity n = listBelow (2 ^ n) (λ x. x)
 
--- each bound from both sides
+-- each bound of document 01 from both sides, as document 02 has it
 abbrev pub bounds : List Case
 bounds =
     -- the widths, and which number comes first
@@ -199,8 +105,17 @@ bounds =
     ∷ (degreeOf 1 3 (7 ∷ 7 ∷ []) 0 is says (refusal 6))
     ∷ (degreeOf 1 3 (7 ∷ 7 ∷ []) 3 is says (figures (0 ∷ 1 ∷ [])))
     ∷ (degreeOf 1 3 (7 ∷ 7 ∷ []) 4 is says (refusal 6))
+    -- both numbers of an order, of a box with one output and two inputs
     ∷ (distanceOf 1 1 (0 ∷ 1 ∷ []) 2 1 is says (refusal 6))
-    -- the combination of all three outputs of this box is affine: the limit 2 leaves it out
+    ∷ (distanceOf 2 1 (0 ∷ 0 ∷ 0 ∷ 1 ∷ []) 0 1 is says (refusal 6))
+    ∷ (distanceOf 2 1 (0 ∷ 0 ∷ 0 ∷ 1 ∷ []) 1 0 is says (refusal 6))
+    ∷ (distanceOf 2 1 (0 ∷ 0 ∷ 0 ∷ 1 ∷ []) 1 1 is says (figures (0 ∷ 1 ∷ 1 ∷ [])))
+    ∷ (distanceOf 2 1 (0 ∷ 0 ∷ 0 ∷ 1 ∷ []) 1 2 is says (figures (0 ∷ 1 ∷ 1 ∷ [])))
+    ∷ (distanceOf 2 1 (0 ∷ 0 ∷ 0 ∷ 1 ∷ []) 1 3 is says (refusal 6))
+    -- no output of this box is affine, and the combination of both is: the limit 1 leaves it out
+    ∷ (nonlinearityOf 2 2 (0 ∷ 2 ∷ 0 ∷ 1 ∷ []) 1 is says (figures (1 ∷ 1 ∷ 0 ∷ 0 ∷ [])))
+    ∷ (nonlinearityOf 2 2 (0 ∷ 2 ∷ 0 ∷ 1 ∷ []) 2 is says (figures (0 ∷ 3 ∷ 1 ∷ 0 ∷ [])))
+    -- so is the combination of all three outputs of this one, which the limit 2 leaves out
     ∷ (nonlinearityOf 3 3 case9Rows 2 is says (figures (2 ∷ 1 ∷ 1 ∷ 0 ∷ [])))
     ∷ (nonlinearityOf 3 3 case9Rows 3 is says (figures (0 ∷ 7 ∷ 7 ∷ 0 ∷ [])))
     ∷ (degreeOf 3 3 case9Rows 2 is says (figures (2 ∷ 1 ∷ [])))
@@ -229,8 +144,85 @@ bounds =
     ∷ (boxReply 3 case9Rows case9Table 3 sixteen is says (figures []))
     ∷ (boxReply 3 case9Rows case9Table 4 sixteen is says (refusal 6))
     ∷ (boxReply 3 case9Rows case9Table 3 case8 is says (refusal 7))
+    -- column addition: the column, the mask, the constant, and the written array
+    ∷ (additionReply 2 2 (0 ∷ 1 ∷ 2 ∷ 3 ∷ []) 0 3 1 (9 ∷ 9 ∷ 9 ∷ 9 ∷ []) is says (refusal 6))
+    ∷ (additionReply 2 2 (0 ∷ 1 ∷ 2 ∷ 3 ∷ []) 2 3 1 (9 ∷ 9 ∷ 9 ∷ 9 ∷ []) is says (figures []))
+    ∷ (additionOf 2 2 (0 ∷ 1 ∷ 2 ∷ 3 ∷ []) 2 3 1 (9 ∷ 9 ∷ 9 ∷ 9 ∷ []) is holds (2 ∷ 1 ∷ 2 ∷ 1 ∷ []))
+    ∷ (additionReply 2 2 (0 ∷ 1 ∷ 2 ∷ 3 ∷ []) 3 3 1 (9 ∷ 9 ∷ 9 ∷ 9 ∷ []) is says (refusal 6))
+    ∷ (additionOf 2 2 (0 ∷ 1 ∷ 2 ∷ 3 ∷ []) 3 3 1 (9 ∷ 9 ∷ 9 ∷ 9 ∷ []) is holds (9 ∷ 9 ∷ 9 ∷ 9 ∷ []))
+    ∷ (additionReply 2 2 (0 ∷ 1 ∷ 2 ∷ 3 ∷ []) 2 4 1 (9 ∷ 9 ∷ 9 ∷ 9 ∷ []) is says (refusal 6))
+    ∷ (additionReply 2 2 (0 ∷ 1 ∷ 2 ∷ 3 ∷ []) 2 3 2 (9 ∷ 9 ∷ 9 ∷ 9 ∷ []) is says (refusal 6))
+    ∷ (additionReply 2 2 (0 ∷ 1 ∷ 2 ∷ 3 ∷ []) 2 3 1 (9 ∷ 9 ∷ 9 ∷ []) is says (refusal 7))
     ∷ []
 
-pub worked : T (right cases && right bounds)
-unfolding parity dot affine bit within ones sumBelow one-if countBelow xorBelow listFrom listBelow each every keep largestBelow distinct agreement approximation spectrum distance autocorrelation changes coefficient degree column component components sign transform signBit inverse isSpectrum best firstLeast firstLargest first limitChecks tableCallChecks inverseLengths functionCheck inverseChecks pairsOf pairs nonlinearity difference cell cellsOf cells largestCell rowChecks shifts atMost measured boxAutocorrelation imbalance dynamicDistance complete distanceChecks degrees boxDegree enlarged enlargedTable enlargedRows bentForm bentTable isPermutation columnChecks enlargeChecks bentChecks
-worked = tt
+-- ---- the bounds of document 02's own calls
+-- boxes of a sum: one input bit as one output, the same of two outputs, and the AND of two input bits
+abbrev pub oneBit : Summand
+oneBit = record { inputs = 1; outputs = 1; rows = 0 ∷ 1 ∷ [] }
+
+abbrev pub twoOutputs : Summand
+twoOutputs = record { inputs = 1; outputs = 2; rows = 0 ∷ 3 ∷ [] }
+
+abbrev pub conjunction : Summand
+conjunction = record { inputs = 2; outputs = 1; rows = 0 ∷ 0 ∷ 0 ∷ 1 ∷ [] }
+
+abbrev pub fourBits : List Summand
+fourBits = oneBit ∷ oneBit ∷ oneBit ∷ oneBit ∷ []
+
+-- a design whose mark 16 was set, and a server with a box on place 8
+abbrev pub marked : design.State
+marked = design.mark (design.begun 1 1 (0 ∷ 1 ∷ [])) 16
+
+abbrev pub served : server.State
+served = server.put server.start 8 1 1 (0 ∷ 1 ∷ [])
+
+abbrev pub laterBounds : List Case
+laterBounds =
+    -- one to four boxes are added; then their output widths, and then the limit
+    (sumOf 0 fourBits 1 is says (refusal 11))
+    ∷ (sumOf 1 fourBits 1 is says (figures (0 ∷ 1 ∷ 1 ∷ 0 ∷ [])))
+    ∷ (sumOf 4 fourBits 1 is says (figures (0 ∷ 1 ∷ 1 ∷ 1 ∷ 1 ∷ 1 ∷ 0 ∷ [])))
+    ∷ (sumOf 5 fourBits 1 is says (refusal 11))
+    ∷ (sumOf 2 (conjunction ∷ conjunction ∷ oneBit ∷ oneBit ∷ []) 1 is says (figures (6 ∷ 1 ∷ 0 ∷ 0 ∷ 0 ∷ [])))
+    ∷ (sumOf 2 (oneBit ∷ twoOutputs ∷ oneBit ∷ oneBit ∷ []) 0 is says (refusal 12))
+    ∷ (sumOf 1 (oneBit ∷ twoOutputs ∷ oneBit ∷ oneBit ∷ []) 0 is says (refusal 6))
+    ∷ (sumOf 1 (oneBit ∷ twoOutputs ∷ oneBit ∷ oneBit ∷ []) 2 is says (refusal 6))
+    -- the raising swap: an affine function of three inputs is raised to 2, no swap raises one of two inputs, and eight outputs are taken
+    ∷ (raisingOf 3 1 (0 ∷ 0 ∷ 0 ∷ 0 ∷ 1 ∷ 1 ∷ 1 ∷ 1 ∷ []) is says (figures (1 ∷ 0 ∷ 4 ∷ 2 ∷ [])))
+    ∷ (raisingOf 2 1 (0 ∷ 0 ∷ 1 ∷ 1 ∷ []) is says (figures (0 ∷ 0 ∷ 0 ∷ 0 ∷ [])))
+    ∷ (raisingOf 1 8 (255 ∷ 255 ∷ []) is says (figures (0 ∷ 0 ∷ 0 ∷ 0 ∷ [])))
+    ∷ (raisingOf 1 9 (255 ∷ 255 ∷ []) is says (refusal 2))
+    -- marks 1 to 16; a mark that was never set
+    ∷ (markReply marked 0 is says (refusal 6))
+    ∷ (markReply marked 1 is says (figures []))
+    ∷ (markReply marked 16 is says (figures []))
+    ∷ (markReply marked 17 is says (refusal 6))
+    ∷ (returnReply marked 0 is says (refusal 6))
+    ∷ (returnReply marked 1 is says (refusal 17))
+    ∷ (returnReply marked 16 is says (figures []))
+    ∷ (returnReply marked 17 is says (refusal 6))
+    -- places 1 to 8, before the box's checks, and whether a place is taken; at most sixteen outputs
+    ∷ (putReply served 0 0 0 [] is says (refusal 18))
+    ∷ (putReply served 1 1 16 (0 ∷ 65535 ∷ []) is says (figures []))
+    ∷ (putReply served 1 1 17 (0 ∷ 65535 ∷ []) is says (refusal 2))
+    ∷ (putReply server.start 8 1 1 (0 ∷ 1 ∷ []) is says (figures []))
+    ∷ (putReply served 8 0 0 [] is says (refusal 19))
+    ∷ (putReply served 9 0 0 [] is says (refusal 18))
+    ∷ (withdrawReply served 0 is says (refusal 18))
+    ∷ (withdrawReply served 1 is says (refusal 19))
+    ∷ (withdrawReply served 8 is says (figures []))
+    ∷ (withdrawReply served 9 is says (refusal 18))
+    ∷ []
+
+-- a catalogue has 258 to 65,535 bytes; zeros are an empty one
+abbrev pub lengthBounds : List Case
+lengthBounds =
+    (checkOf (replicate 257 0) is says (refusal 13))
+    ∷ (checkOf (replicate 258 0) is says (figures (0 ∷ [])))
+    ∷ (checkOf (replicate 65535 0) is says (figures (0 ∷ [])))
+    ∷ (checkOf (replicate 65536 0) is says (refusal 13))
+    ∷ []
+
+-- the table
+abbrev pub table : List Case
+table = cases ++ (bounds ++ (laterBounds ++ lengthBounds))

@@ -8,7 +8,7 @@ use native.Mathlib.Numerals.{add-one}
 use native.Mathlib.Omega.{arith}
 use borrow.Author.Tests.{leb-true, lt-leb}
 use lib.Dec.{leb}
-use lib.ListN.{length, getD, take, drop, length-append, take-append-drop}
+use lib.ListN.{length, take, drop, length-append, take-append-drop}
 use lib.Seq.{split-at}
 use Rattle.boolean.specs.Functions.{at}
 use Rattle.refusals.specs.declared.Checked.{Checked}
@@ -18,9 +18,9 @@ use Rattle.boxfile.specs.File.{fileChecks, fileFound}
 use Rattle.catalogue.specs.declared.Gap.{Gap}
 use Rattle.catalogue.specs.declared.Gap.the-variants.{Starts, Nowhere}
 use Rattle.catalogue.specs.Format.{Item, isAccepted, accepted, count, records, valid, build}
-use Rattle.catalogue.specs.Calls.{noItem, without, lowest, gapFor, isGap, addedAt, packed, removed, added, compacted}
+use Rattle.catalogue.specs.Calls.{noItem, recordAt, without, lowest, gapFor, isGap, addedAt, withoutGaps, removed, added, compacted}
 use Rattle.catalogue.specs.Statements.{Fits, Holds, taken}
-use Rattle.catalogue.proofs.Built.{Valid, valid-says, records-fit, length-records, build-records, build-valid}
+use Rattle.catalogue.proofs.Built.{Valid, valid-says, records-fit, length-records, build-length, build-records, build-valid}
 use Rattle.catalogue.proofs.Bodies.{ends, fits-rest, fits-join, fits-lower}
 use Rattle.catalogue.proofs.Adding.{Accepts, gap-found}
 
@@ -33,6 +33,24 @@ pub is-accepted : (k : Checked) → isAccepted k ≡ true → k ≡ Accepted
 is-accepted Accepted h = refl
 is-accepted (Refused e) h = absurd (let z : _≡_ {A = Bool} false true = h in let y : _≡_ {A = ℕ} 0 1 = cc in omega arith)
 
+-- The record of an index, with those before it and those behind it, and what is left without it.
+pub record Cut (b : List ℕ) (k : ℕ) : Type 0 where
+  pub before : List Item
+  pub behind : List Item
+  pub cut : records b ≡ before ++ (recordAt b k ∷ behind)
+  pub rest : without k (records b) ≡ before ++ behind
+
+pub cut-at : (b : List ℕ) (k : ℕ) → k < count b → Cut b k
+unfolding recordAt without
+cut-at b k h =
+    let rs = records b in
+    record {
+      before = take k rs;
+      behind = drop (suc k) rs;
+      cut = split-at rs k noItem (omega (arith, length-records b));
+      rest = ap (λ (j : ℕ). take k rs ++ drop j rs) (add-one k);
+    }
+
 -- The records without one of them fit.
 pub fits-without : (size : ℕ) (ps ss : List Item) (r : Item) → Fits 258 size (ps ++ (r ∷ ss)) → Fits 258 size (ps ++ ss)
 fits-without size ps ss r f =
@@ -40,65 +58,75 @@ fits-without size ps ss r f =
     fits-join 258 size ps (r ∷ ss) ss f (fits-lower (ends 258 ps) (r .start + length (r .bytes)) size ss (omega (arith, g .0)) (g .2))
 
 -- Records that are packed fit where they fitted.
-pub fits-packed : (pos low size : ℕ) (rs : List Item) → low ≤ pos → Fits pos size rs → Fits low size (packed low rs)
-unfolding packed
-fits-packed pos low size [] h f = omega (arith, f)
-fits-packed pos low size (r ∷ rs) h f = (le-refl low, f .1, fits-packed (r .start + length (r .bytes)) (low + length (r .bytes)) size rs (omega (arith, f .0)) (f .2))
+pub fits-without-gaps : (pos low size : ℕ) (rs : List Item) → low ≤ pos → Fits pos size rs → Fits low size (withoutGaps low rs)
+unfolding withoutGaps
+fits-without-gaps pos low size [] h f = omega (arith, f)
+fits-without-gaps pos low size (r ∷ rs) h f = (le-refl low, f .1, fits-without-gaps (r .start + length (r .bytes)) (low + length (r .bytes)) size rs (omega (arith, f .0)) (f .2))
 
-pub length-packed : (pos : ℕ) (rs : List Item) → length (packed pos rs) ≡ length rs
-unfolding packed
-length-packed pos [] = refl
-length-packed pos (r ∷ rs) = ap suc (length-packed (pos + length (r .bytes)) rs)
+pub length-without-gaps : (pos : ℕ) (rs : List Item) → length (withoutGaps pos rs) ≡ length rs
+unfolding withoutGaps
+length-without-gaps pos [] = refl
+length-without-gaps pos (r ∷ rs) = ap suc (length-without-gaps (pos + length (r .bytes)) rs)
 
 -- the files of packed records, and their order, are the same
-pub packed-bytes : (pos : ℕ) (rs : List Item) → map (λ (r : Item). r .bytes) (packed pos rs) ≡ map (λ (r : Item). r .bytes) rs
-unfolding packed
-packed-bytes pos [] = refl
-packed-bytes pos (r ∷ rs) = ap (λ (l : List (List ℕ)). r .bytes ∷ l) (packed-bytes (pos + length (r .bytes)) rs)
+pub without-gaps-bytes : (pos : ℕ) (rs : List Item) → map (λ (r : Item). r .bytes) (withoutGaps pos rs) ≡ map (λ (r : Item). r .bytes) rs
+unfolding withoutGaps
+without-gaps-bytes pos [] = refl
+without-gaps-bytes pos (r ∷ rs) = ap (λ (l : List (List ℕ)). r .bytes ∷ l) (without-gaps-bytes (pos + length (r .bytes)) rs)
 
 -- Of packed records the only gap is behind the last one.
-pub lowest-packed : (need size k pos : ℕ) (rs : List Item) → 0 < need → isGap (lowest need size k pos (packed pos rs)) ≡ leb (pos + taken rs + need) size
-unfolding lowest packed taken
-lowest-packed need size k pos [] h = by (leb (pos + need) size) refl
+pub lowest-without-gaps : (need size k pos : ℕ) (rs : List Item) → 0 < need → isGap (lowest need size k pos (withoutGaps pos rs)) ≡ leb (pos + taken rs + need) size
+unfolding lowest withoutGaps taken
+lowest-without-gaps need size k pos [] h = by (leb (pos + need) size) refl
   where
     by : (t : Bool) → leb (pos + need) size ≡ t → isGap (elim t [ true ↦ Starts k pos | false ↦ Nowhere ]) ≡ leb (pos + 0 + need) size
     by true e = let z : pos + need ≡ pos + 0 + need = omega arith in sym e ∙ ap (λ (x : ℕ). leb x size) z
     by false e = let z : pos + need ≡ pos + 0 + need = omega arith in sym e ∙ ap (λ (x : ℕ). leb x size) z
-lowest-packed need size k pos (r ∷ rs) h =
+lowest-without-gaps need size k pos (r ∷ rs) h =
     let n = length (r .bytes) in
     let none : leb (pos + need) pos ≡ false = lt-leb (pos + need) pos (omega arith) in
     let z : pos + n + taken rs + need ≡ pos + (n + taken rs) + need = omega arith in
-    ap (λ (t : Bool). isGap (elim t [ true ↦ Starts k pos | false ↦ lowest need size (k + 1) (pos + n) (packed (pos + n) rs) ])) none
-    ∙ lowest-packed need size (k + 1) (pos + n) rs h ∙ ap (λ (x : ℕ). leb x size) z
+    ap (λ (t : Bool). isGap (elim t [ true ↦ Starts k pos | false ↦ lowest need size (k + 1) (pos + n) (withoutGaps (pos + n) rs) ])) none
+    ∙ lowest-without-gaps need size (k + 1) (pos + n) rs h ∙ ap (λ (x : ℕ). leb x size) z
 
 -- What is left is valid, and has the records that its equation names.
-leaves : (size : ℕ) (rs : List Item) → length rs ≤ 64 → Fits 258 size rs → size ≤ 65535 → Holds (build size rs) rs
+pub leaves : (size : ℕ) (rs : List Item) → length rs ≤ 64 → Fits 258 size rs → size ≤ 65535 → Holds (build size rs) rs
 leaves size rs few fits high = record { whole = build-valid size rs few fits high; holds = build-records size rs few fits }
 
 module _ (b : List ℕ) (whole : valid b ≡ true) where
   v : Valid b
   v = valid-says b whole
 
-  pub leaves-removed : (k : ℕ) → k < count b → Holds (removed b k) (without k (records b))
-  unfolding without
-  leaves-removed k h =
-      let rs = records b in
-      let r = getD rs k noItem in
-      let cut : rs ≡ take k rs ++ (r ∷ drop (suc k) rs) = split-at rs k noItem (omega (arith, length-records b)) in
-      let a = length-append (take k rs) (r ∷ drop (suc k) rs) in
-      let d = length-append (take k rs) (drop (suc k) rs) in
-      let few : length (take k rs ++ drop (suc k) rs) ≤ 64 = omega (arith, a, d, ap length cut, length-records b, v .most) in
-      subst (λ (j : ℕ). Holds (build (length b) (take k rs ++ drop j rs)) (take k rs ++ drop j rs)) (sym (add-one k))
-      (leaves (length b) (take k rs ++ drop (suc k) rs) few (fits-without (length b) (take k rs) (drop (suc k) rs) r (subst (Fits 258 (length b)) cut (records-fit b whole))) (v .high))
+  module _ (k : ℕ) (x : Cut b k) where
+    pub fits-cut : Fits 258 (length b) (x .before ++ (recordAt b k ∷ x .behind))
+    fits-cut = subst (Fits 258 (length b)) (x .cut) (records-fit b whole)
 
-  pub packed-few : length (packed 258 (records b)) ≤ 64
-  packed-few = omega (arith, length-packed 258 (records b), length-records b, v .most)
+    fits-rest-of : Fits 258 (length b) (without k (records b))
+    fits-rest-of = subst (Fits 258 (length b)) (sym (x .rest)) (fits-without (length b) (x .before) (x .behind) (recordAt b k) fits-cut)
 
-  pub packed-fit : Fits 258 (length b) (packed 258 (records b))
-  packed-fit = fits-packed 258 258 (length b) (records b) (le-refl 258) (records-fit b whole)
+    pub fewer-left : length (without k (records b)) < 64
+    fewer-left =
+        let all = length-append (x .before) (recordAt b k ∷ x .behind) in
+        let left = length-append (x .before) (x .behind) in
+        omega (arith, all, left, ap length (x .cut), ap length (x .rest), length-records b, v .most)
 
-  pub leaves-compacted : Holds (compacted b) (packed 258 (records b))
-  leaves-compacted = leaves (length b) (packed 258 (records b)) packed-few packed-fit (v .high)
+    few-left : length (without k (records b)) ≤ 64
+    few-left = let f = fewer-left in omega arith
+
+    pub length-removed : length (removed b k) ≡ length b
+    length-removed = build-length (length b) (without k (records b)) few-left fits-rest-of
+
+    pub leaves-removed : Holds (removed b k) (without k (records b))
+    leaves-removed = leaves (length b) (without k (records b)) few-left fits-rest-of (v .high)
+
+  pub without-gaps-few : length (withoutGaps 258 (records b)) ≤ 64
+  without-gaps-few = omega (arith, length-without-gaps 258 (records b), length-records b, v .most)
+
+  pub without-gaps-fit : Fits 258 (length b) (withoutGaps 258 (records b))
+  without-gaps-fit = fits-without-gaps 258 258 (length b) (records b) (le-refl 258) (records-fit b whole)
+
+  pub leaves-compacted : Holds (compacted b) (withoutGaps 258 (records b))
+  leaves-compacted = leaves (length b) (withoutGaps 258 (records b)) without-gaps-few without-gaps-fit (v .high)
 
 module _ (b file : List ℕ) (t : Accepts b file) where
   pub added-is-at : addedAt (gapFor b file) file (records b) ≡ take (t .index) (records b) ++ (record { start = t .start; bytes = file } ∷ drop (t .index) (records b))

@@ -11,5 +11,5 @@ pub mod Adding
 pub mod Packing
 pub mod Leaving
 pub mod LowestGap
-pub mod Theorems
 pub mod RuleByRule
+pub mod Theorems

@@ -1,26 +1,28 @@
 -- The gap that a file is put into is the lowest: its bytes are free, and so many free bytes lie nowhere lower. Assumes nothing.
 use Prim.Native.Nat.{ℕ, zero, suc, _+_, _-_, _≤_, _<_}
-use mathlib.Core.Path.{_≡_, refl, sym, ap, _∙_}
+use mathlib.Core.Path.{_≡_, refl, sym, ap, _∙_, subst}
 use mathlib.Core.Bool.{Bool, true, false}
-use mathlib.Core.List.{List, [], _∷_}
+use mathlib.Core.List.{List, [], _∷_, _++_}
 use native.Mathlib.Nat.{le-refl, le-trans, not-suc-le-zero, le-of-suc-le-suc, zero-lt-suc}
 use native.Mathlib.Omega.{arith}
 use borrow.Author.Tests.{leb-true, leb-false, lt-ltb}
 use lib.Dec.{leb}
 use lib.ListN.{length, getD, take, drop, length-drop}
 use lib.Seq.{getD-drop}
+use Rattle.refusals.specs.Table.{first}
+use Rattle.refusals.specs.declared.Checked.the-variants.{Accepted}
 use Rattle.refusals.proofs.Checks.{found, skip, end}
 use Rattle.catalogue.specs.declared.Gap.{Gap}
 use Rattle.catalogue.specs.declared.Gap.the-variants.{Starts, Nowhere}
 use Rattle.catalogue.specs.Format.{Item, accepted, count, placeAt, records, valid}
-use Rattle.catalogue.specs.Calls.{indexChecks, noItem, recordAt, lowest, gapFor}
+use Rattle.catalogue.specs.Calls.{indexChecks, noItem, recordAt, removed, lowest, gapFor}
 use Rattle.catalogue.specs.Rules.{Within}
 use Rattle.catalogue.specs.Statements.{Fits, Free}
 use Rattle.catalogue.proofs.Built.{records-fit, length-records}
 use Rattle.catalogue.proofs.Bodies.{ends}
 use Rattle.catalogue.proofs.Indexed.{Indexed, indexed, lies}
 use Rattle.catalogue.proofs.Adding.{Accepts, gap-found, gap-room}
-use Rattle.catalogue.proofs.Leaving.{accepted-some, is-accepted}
+use Rattle.catalogue.proofs.Leaving.{accepted-some, is-accepted, cut-at, fits-cut, leaves-removed, length-removed}
 
 -- where the record of an index begins and ends, in a list of records
 abbrev begin : List Item → ℕ → ℕ
@@ -88,6 +90,17 @@ fits-past pos size zero (r ∷ rs) f k m l = absurd (not-suc-le-zero m)
 fits-past pos size (suc n) (r ∷ rs) f zero m l = ends-past (r .start + length (r .bytes)) size n rs (f .2)
 fits-past pos size (suc n) (r ∷ rs) f (suc k) m l = fits-past (r .start + length (r .bytes)) size n rs (f .2) k (le-of-suc-le-suc m) (le-of-suc-le-suc l)
 
+-- a record of a list that fits begins at the first position or later, and its bytes are in none of the others
+fits-until : (pos size : ℕ) (ps ss : List Item) (r : Item) → Fits pos size (ps ++ (r ∷ ss)) → pos ≤ r .start
+fits-until pos size [] ss r f = f .0
+fits-until pos size (p ∷ ps) ss r f = omega (arith, f .0, fits-until (p .start + length (p .bytes)) size ps ss r (f .2))
+
+clear-without : (pos size : ℕ) (ps ss : List Item) (r : Item) → Fits pos size (ps ++ (r ∷ ss)) → Clear (r .start) (length (r .bytes)) (ps ++ ss)
+clear-without pos size [] ss r f k i l x y low high = omega (arith, fits-begin (r .start + length (r .bytes)) size ss (f .2) k l)
+clear-without pos size (p ∷ ps) ss r f zero i l x y low high = omega (arith, fits-until (p .start + length (p .bytes)) size ps ss r (f .2))
+clear-without pos size (p ∷ ps) ss r f (suc k) i l x y low high =
+    clear-without (p .start + length (p .bytes)) size ps ss r (f .2) k i (le-of-suc-le-suc l) x y low high
+
 module _ (b : List ℕ) (whole : valid b ≡ true) where
   known : (k : ℕ) → k < count b → Indexed b k
   unfolding indexChecks
@@ -103,6 +116,13 @@ module _ (b : List ℕ) (whole : valid b ≡ true) where
       let m : k < count b = omega (arith, length-records b) in
       let t = same-place k m in
       f .none k i m (omega (arith, t .0), omega (arith, t .0, t .1))
+
+  clear-free : (p need : ℕ) → 258 ≤ p → p + need ≤ length b → Clear p need (records b) → Free b p need
+  clear-free p need low inside out = record {
+    above = low;
+    inside = inside;
+    none = λ k i l w. let t = same-place k l in out k i (omega (arith, length-records b)) (omega (arith, w .0, t .0)) (omega (arith, w .1, t .0, t .1));
+  }
 
   -- free bytes are reached by the search
   pub free-reached : (file : List ℕ) (p : ℕ) → 0 < length file → Free b p (length file) → Reaches p (gapFor b file)
@@ -137,3 +157,23 @@ gap-free b file t =
             let same : begin (drop (g .before) (records b)) j ≡ begin (records b) k =
             ap (λ (r : Item). r .start) (getD-drop (g .before) (records b) j noItem ∙ ap (λ (a : ℕ). getD (records b) a noItem) back) in
             omega (arith, w .0, s .0, same, fits-begin (t .start + length file) (length b) (drop (g .before) (records b)) (g .room) j n)
+
+-- Where a record is removed its bytes are free.
+pub removed-free : (b : List ℕ) (index : ℕ) → first (indexChecks b index) ≡ Accepted
+    → Free (removed b index) (recordAt b index .start) (length (recordAt b index .bytes))
+removed-free b index h =
+    let i = indexed b index h in
+    let x = cut-at b index (i .below) in
+    let r = recordAt b index in
+    let fits = fits-cut b (i .whole) index x in
+    let left = leaves-removed b (i .whole) index x in
+    let l = lies b index (placeAt b index .offset) (placeAt b index .size) i refl refl in
+    clear-free (removed b index) (left .whole) (r .start) (length (r .bytes))
+    (fits-until 258 (length b) (x .before) (x .behind) r fits)
+    (omega (arith, length-removed b (i .whole) index x, i .inside, l .0, l .1))
+    (subst (Clear (r .start) (length (r .bytes))) (sym (left .holds ∙ x .rest)) (clear-without 258 (length b) (x .before) (x .behind) r fits))
+
+-- Fewer bytes are free where more are.
+pub free-fewer : {b : List ℕ} {p need fewer : ℕ} → fewer ≤ need → Free b p need → Free b p fewer
+free-fewer {b} {p} {need} {fewer} le f =
+    record { above = f .above; inside = omega (arith, f .inside); none = λ k i l w x y. f .none k i l w x (omega arith) }

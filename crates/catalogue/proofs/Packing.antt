@@ -10,7 +10,7 @@ use lib.Seq.{sets, getD-at}
 use Rattle.boolean.proofs.Lists.{getD-listBelow}
 use Rattle.catalogue.specs.Format.{Place, Item, part, word, count, placeAt, places, records, valid, directory, body, placeOf, build}
 use Rattle.catalogue.specs.Work.{slidDown}
-use Rattle.catalogue.specs.Calls.{packed}
+use Rattle.catalogue.specs.Calls.{withoutGaps}
 use Rattle.catalogue.specs.Statements.{Bytes, Fits}
 use Rattle.catalogue.proofs.Built.{built, records-fit, length-records, length-directory, fits-inside, build-count, build-places, build-length}
 use Rattle.catalogue.proofs.Directories.{moved-place}
@@ -25,7 +25,7 @@ pub record Packing (old : List ℕ) (n to k : ℕ) (b : List ℕ) : Type 0 where
   pub to-is : to ≡ ends 258 done
   pub fits : Fits 258 (length old) (done ++ left)
   pub is : b ≡ build (length old) (done ++ left)
-  pub same : packed 258 (records old) ≡ done ++ packed (ends 258 done) left
+  pub same : withoutGaps 258 (records old) ≡ done ++ withoutGaps (ends 258 done) left
 
 pub packing-start : (b : List ℕ) (n : ℕ) → Bytes b → valid b ≡ true → n ≡ count b → Packing b n 258 0 b
 unfolding ends
@@ -144,7 +144,7 @@ module _ {old : List ℕ} {n to k : ℕ} {b : List ℕ} (s : Packing old n to k 
       ∙ ap (λ (i : ℕ). replicate (here .start - i) 0) (sym (s .to-is))
 
   pub packing-next : (b′ : List ℕ) → b′ ≡ sets (slidDown to (here .start - to) (length (here .bytes)) b) (4 * k + 2) (word to) → Packing old n (to + length (here .bytes)) (k + 1) b′
-  unfolding rs here ends packed
+  unfolding rs here ends withoutGaps
   packing-next b′ e =
       let q : Item = record { start = ends 258 (s .done); bytes = here .bytes } in
       let done = s .done ++ (q ∷ []) in
@@ -167,9 +167,9 @@ module _ {old : List ℕ} {n to k : ℕ} {b : List ℕ} (s : Packing old n to k 
             ∙ ap₂ (λ (i : ℕ) (l : List ℕ). sets (slidDown i (here .start - i) (length (here .bytes)) l) (4 * k + 2) (word i)) (s .to-is) now-is
             ∙ settled-is (length old) (s .done) (x .rest) here few fit k (s .reached)
             ∙ ap (build (length old)) (sym group);
-        same = s .same ∙ ap (λ (l : List Item). s .done ++ packed (ends 258 (s .done)) l) (x .split)
-            ∙ sym (append-assoc (s .done) (q ∷ []) (packed (ends 258 (s .done) + length (here .bytes)) (x .rest)))
-            ∙ ap (λ (i : ℕ). done ++ packed i (x .rest)) (sym more);
+        same = s .same ∙ ap (λ (l : List Item). s .done ++ withoutGaps (ends 258 (s .done)) l) (x .split)
+            ∙ sym (append-assoc (s .done) (q ∷ []) (withoutGaps (ends 258 (s .done) + length (here .bytes)) (x .rest)))
+            ∙ ap (λ (i : ℕ). done ++ withoutGaps i (x .rest)) (sym more);
       }
 
   -- as the code has it, from the two numbers read
@@ -198,10 +198,10 @@ module _ {old : List ℕ} {n to k : ℕ} {b : List ℕ} (s : Packing old n to k 
       }
 
 -- at the end all are packed
-pub packing-done : {old : List ℕ} {n to k : ℕ} {b : List ℕ} (s : Packing old n to k b) → n ≤ k → b ≡ build (length old) (packed 258 (records old))
-unfolding packed
+pub packing-done : {old : List ℕ} {n to k : ℕ} {b : List ℕ} (s : Packing old n to k b) → n ≤ k → b ≡ build (length old) (withoutGaps 258 (records old))
+unfolding withoutGaps
 packing-done {old} {n} {to} {k} {b} s h = by (s .left) refl
   where
-    by : (l : List Item) → s .left ≡ l → b ≡ build (length old) (packed 258 (records old))
-    by [] e = s .is ∙ ap (build (length old)) (ap (λ (l : List Item). s .done ++ l) e ∙ sym (s .same ∙ ap (λ (l : List Item). s .done ++ packed (ends 258 (s .done)) l) e))
+    by : (l : List Item) → s .left ≡ l → b ≡ build (length old) (withoutGaps 258 (records old))
+    by [] e = s .is ∙ ap (build (length old)) (ap (λ (l : List Item). s .done ++ l) e ∙ sym (s .same ∙ ap (λ (l : List Item). s .done ++ withoutGaps (ends 258 (s .done)) l) e))
     by (r ∷ rest) e = absurd (let a = length-append (s .done) (s .left) in let z = ap length e in omega (arith, a, z, s .all, s .reached))

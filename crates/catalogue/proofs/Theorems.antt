@@ -1,5 +1,5 @@
 -- What a customer may rely on of a catalogue, from what a call's checks find. Assumes nothing.
-use Prim.Native.Nat.{ℕ, zero, suc, _+_, _≤_, _<_}
+use Prim.Native.Nat.{ℕ, zero, suc, _+_, _-_, _≤_, _<_, zero-le}
 use mathlib.Core.Path.{_≡_, refl, sym, ap, ap₂, _∙_, subst}
 use mathlib.Core.Bool.{Bool, true, false, _&&_}
 use mathlib.Core.List.{List, [], _∷_, _++_, map}
@@ -8,10 +8,13 @@ use native.Mathlib.Nat.{not-suc-le-zero, le-of-suc-le-suc}
 use native.Mathlib.Omega.{arith}
 use borrow.Author.Tests.{ltb-true, ltb-false, lt-ltb}
 use lib.Dec.{leb, ltb}
-use lib.ListN.{length, getD, take, drop, length-append, take-append-drop}
+use denote.Ref.{RefT}
+use lib.ListN.{length, getD, take, drop, replicate, length-append, take-append-drop, replicate-append-replicate}
 use lib.Seq.{take-at, drop-at, getD-at, length-take-le, drop-drop}
+use Rattle.boolean.specs.Sums.{each}
 use Rattle.boolean.specs.Functions.{at}
 use Rattle.refusals.specs.Table.{first, Box}
+use Rattle.refusals.specs.declared.Refusal.{Refusal}
 use Rattle.refusals.specs.declared.Refusal.the-variants.{NoRoom}
 use Rattle.refusals.specs.declared.Checked.the-variants.{Accepted, Refused}
 use Rattle.refusals.proofs.Checks.{passed, found, skip, end}
@@ -19,31 +22,85 @@ use Rattle.boxfile.specs.File.{fileFound, rowsOf}
 use Rattle.boxfile.proofs.FileRows.{box-of-file}
 use Rattle.catalogue.specs.declared.Gap.{Gap}
 use Rattle.catalogue.specs.declared.Gap.the-variants.{Starts, Nowhere}
-use Rattle.catalogue.specs.Format.{Item, accepted, count, records, valid, build}
-use Rattle.catalogue.specs.Calls.{catalogueChecks, indexChecks, noItem, recordAt, without, lowest, gapFor, isGap, gapIndex, offeredChecks, addChecks, addedAt, packed, removed, added, compacted}
+use Rattle.catalogue.specs.Format.{Item, word, placeAt, itemAt, accepted, count, records, valid, directory, body, build}
+use Rattle.catalogue.specs.Calls.{catalogueChecks, indexChecks, noItem, recordAt, PartOf, Handed, without, removed, lowest, gapFor, isGap, gapIndex}
+use Rattle.catalogue.specs.Calls.{offeredChecks, addChecks, addedAt, added, withoutGaps, compacted}
 use Rattle.catalogue.specs.Statements.{Bytes, Fits, Holds, Free, gapStart, taken, roomFound}
 use Rattle.catalogue.proofs.Built.{built, records-fit, length-records, valid-says, build-length, build-count}
-use Rattle.catalogue.proofs.Indexed.{indexed}
+use Rattle.catalogue.proofs.Indexed.{indexed, handed-accepted, handed-refused}
 use Rattle.catalogue.proofs.Adding.{Accepts, accepts, offered, offered-whole, offered-good, gap-index, add-full, add-nowhere, add-accepted}
-use Rattle.catalogue.proofs.Leaving.{is-accepted, accepted-some, length-packed, packed-bytes, lowest-packed, packed-few, packed-fit, leaves-removed, leaves-compacted, added-is-at, added-fit, added-few, leaves-added}
-use Rattle.catalogue.proofs.LowestGap.{Reaches, free-reached, gap-free}
+use Rattle.catalogue.proofs.Leaving.{is-accepted, accepted-some, leaves, cut-at, fewer-left, leaves-removed, length-without-gaps, without-gaps-bytes, lowest-without-gaps}
+use Rattle.catalogue.proofs.Leaving.{without-gaps-few, without-gaps-fit, leaves-compacted, added-is-at, added-fit, added-few, leaves-added}
+use Rattle.catalogue.proofs.RuleByRule.{rules}
+use Rattle.catalogue.proofs.LowestGap.{Reaches, free-reached, gap-free, removed-free, free-fewer}
 
 -- ---- Each accepted writing call leaves a valid catalogue, with exactly the records that its equation names.
 
 -- removing keeps the others in order
 pub removed-leaves : (b : List ℕ) (index : ℕ) → first (indexChecks b index) ≡ Accepted → Holds (removed b index) (without index (records b))
-removed-leaves b index h = let i = indexed b index h in leaves-removed b (i .whole) index (i .below)
+removed-leaves b index h = let i = indexed b index h in leaves-removed b (i .whole) index (cut-at b index (i .below))
 
 pub added-leaves : (b file : List ℕ) → first (addChecks b file) ≡ Accepted → Holds (added b file) (addedAt (gapFor b file) file (records b))
 added-leaves b file h = leaves-added b file (accepts b file h)
 
-pub compacted-leaves : (b : List ℕ) → first (catalogueChecks b) ≡ Accepted → Holds (compacted b) (packed 258 (records b))
+pub compacted-leaves : (b : List ℕ) → first (catalogueChecks b) ≡ Accepted → Holds (compacted b) (withoutGaps 258 (records b))
 unfolding catalogueChecks
 compacted-leaves b h = leaves-compacted b (passed (catalogueChecks b) h .0)
 
 -- compaction keeps the files, and their order
 pub compacted-files : (b : List ℕ) → first (catalogueChecks b) ≡ Accepted → map (λ (r : Item). r .bytes) (records (compacted b)) ≡ map (λ (r : Item). r .bytes) (records b)
-compacted-files b h = ap (map (λ (r : Item). r .bytes)) (compacted-leaves b h .holds) ∙ packed-bytes 258 (records b)
+compacted-files b h = ap (map (λ (r : Item). r .bytes)) (compacted-leaves b h .holds) ∙ without-gaps-bytes 258 (records b)
+
+-- a buffer of zeros of an allowed length is a catalogue of no records: it is built from none
+pub zeros-empty : (size : ℕ) → 258 ≤ size → size ≤ 65535 → Holds (replicate size 0) []
+unfolding build directory body word each
+zeros-empty size low high =
+    let z : 258 + (size - 258) ≡ size = omega arith in
+    subst (λ (b : List ℕ). Holds b []) (replicate-append-replicate 258 (size - 258) 0 ∙ ap (λ (n : ℕ). replicate n 0) z) (leaves size [] zero-le low high)
+
+-- ---- Removing clears the record's bytes: they are in no record any more, and such bytes are zero.
+pub removed-clears : (b : List ℕ) (index : ℕ) → first (indexChecks b index) ≡ Accepted
+    → (i : ℕ) → recordAt b index .start ≤ i → i < recordAt b index .start + length (recordAt b index .bytes) → at (removed b index) i ≡ 0
+removed-clears b index h i low high =
+    let free = removed-free b index h in
+    rules (removed b index) (removed-leaves b index h .whole) .between i (omega (arith, free .above)) (omega (arith, free .inside)) (λ k l w. free .none k i l w low high)
+
+-- ---- The gap of a removed record serves again: an accepted file that is no longer than the record is added, and no higher than where the record lay.
+pub removed-serves : (b file : List ℕ) (index : ℕ) → first (indexChecks b index) ≡ Accepted → fileFound file ≡ Accepted
+    → length file ≤ length (recordAt b index .bytes)
+    → (first (addChecks (removed b index) file) ≡ Accepted) × (gapStart (gapFor (removed b index) file) ≤ recordAt b index .start)
+removed-serves b file index h good short = by (gapFor (removed b index) file) refl
+  where
+    start : ℕ
+    start = recordAt b index .start
+
+    left : Holds (removed b index) (without index (records b))
+    left = removed-leaves b index h
+
+    reached : Reaches start (gapFor (removed b index) file)
+    reached = free-reached (removed b index) (left .whole) file start (accepted-some file good) (free-fewer short (removed-free b index h))
+
+    room : count (removed b index) < 64
+    room =
+        let i = indexed b index h in
+        omega (arith, length-records (removed b index), ap length (left .holds), fewer-left b (i .whole) index (cut-at b index (i .below)))
+
+    by : (g : Gap) → gapFor (removed b index) file ≡ g
+        → (first (addChecks (removed b index) file) ≡ Accepted) × (gapStart (gapFor (removed b index) file) ≤ start)
+    by (Starts i s) e = (
+      add-accepted (removed b index) file (offered (removed b index) file (left .whole) good) room e,
+      subst (λ (g : Gap). gapStart g ≤ start) (sym e) (subst (Reaches start) e reached),
+    )
+    by Nowhere e = absurd (subst (Reaches start) e reached)
+
+-- ---- Fetching hands back the part of the lent catalogue that the directory's place of that index names, not a copy; refused, an empty part.
+module _ (lent part : RefT (List ℕ)) (index : ℕ) (handed : Handed lent index part) where
+  pub fetched-part : first (indexChecks (lent .now) index) ≡ Accepted → PartOf lent (itemAt (lent .now) (placeAt (lent .now) index)) part
+  fetched-part h =
+      subst (λ (item : Item). PartOf lent item part) (handed-accepted h (recordAt (lent .now) index) ∙ indexed (lent .now) index h .is) handed
+
+  pub fetched-none : {e : Refusal} → first (indexChecks (lent .now) index) ≡ Refused e → PartOf lent noItem part
+  fetched-none h = subst (λ (item : Item). PartOf lent item part) (handed-refused h (recordAt (lent .now) index)) handed
 
 -- ---- A fetched record is a box file that is accepted, and its box is one that every call takes.
 
@@ -147,18 +204,18 @@ add-after-compaction b file ok = by (ltb (count b) 64) refl (lowest (length file
     c : List ℕ
     c = compacted b
 
-    left : Holds c (packed 258 (records b))
+    left : Holds c (withoutGaps 258 (records b))
     left = leaves-compacted b whole
 
     still : first (offeredChecks c file) ≡ Accepted
     still = offered c file (left .whole) (offered-good b file ok)
 
     same-count : count c ≡ count b
-    same-count = build-count (length b) (packed 258 (records b)) (packed-few b whole) (packed-fit b whole) ∙ length-packed 258 (records b) ∙ length-records b
+    same-count = build-count (length b) (withoutGaps 258 (records b)) (without-gaps-few b whole) (without-gaps-fit b whole) ∙ length-without-gaps 258 (records b) ∙ length-records b
 
     gap : isGap (lowest (length file) (length c) 0 258 (records c)) ≡ leb (258 + taken (records b) + length file) (length b)
-    gap = ap₂ (λ (n : ℕ) (rs : List Item). isGap (lowest (length file) n 0 258 rs)) (build-length (length b) (packed 258 (records b)) (packed-few b whole) (packed-fit b whole)) (left .holds)
-        ∙ lowest-packed (length file) (length b) 0 258 (records b) (accepted-some file (offered-good b file ok))
+    gap = ap₂ (λ (n : ℕ) (rs : List Item). isGap (lowest (length file) n 0 258 rs)) (build-length (length b) (withoutGaps 258 (records b)) (without-gaps-few b whole) (without-gaps-fit b whole)) (left .holds)
+        ∙ lowest-without-gaps (length file) (length b) 0 258 (records b) (accepted-some file (offered-good b file ok))
 
     by : (t : Bool) → ltb (count b) 64 ≡ t → (g : Gap) → lowest (length file) (length c) 0 258 (records c) ≡ g
         → first (addChecks c file) ≡ roomFound (ltb (count b) 64 && leb (258 + taken (records b) + length file) (length b))

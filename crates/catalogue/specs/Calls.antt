@@ -1,12 +1,16 @@
 -- What the calls on a catalogue reply, and what they leave.
 use Prim.Native.Nat.{ℕ, _+_, _^_}
+use mathlib.Core.Path.{_≡_}
 use mathlib.Core.Bool.{Bool, true, false}
 use mathlib.Core.List.{List, [], _∷_, _++_}
+use denote.Ref.{RefT}
 use lib.Dec.{ltb, leb}
 use lib.ListN.{getD, length, take, drop}
 use Rattle.boolean.specs.Functions.{at}
 use Rattle.refusals.specs.Table.{Check, _unless_, first, Reply, figures, refusal, number, replyAfter}
 use Rattle.refusals.specs.declared.Refusal.the-variants.{Catalogue, NoRoom, NoRecord}
+use Rattle.refusals.specs.declared.Checked.{Checked}
+use Rattle.refusals.specs.declared.Checked.the-variants.{Accepted, Refused}
 use Rattle.boxfile.specs.File.{fileChecks}
 use Rattle.catalogue.specs.declared.Gap.{Gap}
 use Rattle.catalogue.specs.declared.Gap.the-variants.{Starts, Nowhere}
@@ -34,37 +38,54 @@ abbrev pub checkReply : List ℕ → Reply
 checkReply b = replyAfter (first (catalogueChecks b)) (count b ∷ [])
 
 -- Fetching. An index counts from 0 in the directory's order.
-unfoldable pub indexChecks : List ℕ → ℕ → List Check
+unfoldable pub indexChecks : (b : List ℕ) (index : ℕ) → List Check
 indexChecks b index = (Catalogue unless valid b) ∷ (NoRecord unless ltb index (count b)) ∷ []
 
 abbrev pub noItem : Item
 noItem = record { start = 0; bytes = [] }
 
 -- the record of an index
-unfoldable pub recordAt : List ℕ → ℕ → Item
+unfoldable pub recordAt : (b : List ℕ) (index : ℕ) → Item
 unfolding records
 recordAt b index = getD (records b) index noItem
 
--- where it lies, and its length
-abbrev pub fetchReply : List ℕ → ℕ → Reply
+-- what is handed back: the record; where the call is refused, the empty part at the catalogue's start
+unfoldable pub handedBack : (found : Checked) (item : Item) → Item
+handedBack Accepted item = item
+handedBack (Refused e) item = noItem
+
+-- a part of a lent slice, and no copy. A contract sees a slice as a `RefT`: `ptr` is the block of memory in which it lies and where it
+-- begins there, `now` is what it holds. The part lies in the same block, so many bytes behind the slice's start, and has these bytes.
+pub record PartOf (lent : RefT (List ℕ)) (item : Item) (part : RefT (List ℕ)) : Type 0 where
+  pub block : part .ptr .0 ≡ lent .ptr .0
+  pub place : part .ptr .1 ≡ lent .ptr .1 + item .start
+  pub content : part .now ≡ item .bytes
+
+-- the outcome of fetching: the part that is handed back
+abbrev pub Handed : (lent : RefT (List ℕ)) (index : ℕ) (part : RefT (List ℕ)) → Type 0
+Handed lent index part = PartOf lent (handedBack (first (indexChecks (lent .now) index)) (recordAt (lent .now) index)) part
+
+-- where the record lies, and its length
+abbrev pub fetchReply : (b : List ℕ) (index : ℕ) → Reply
 fetchReply b index =
     replyAfter (first (indexChecks b index)) (recordAt b index .start ∷ length (recordAt b index .bytes) ∷ [])
 
 -- Removing: the records without one.
-unfoldable pub without : ℕ → List Item → List Item
+unfoldable pub without : (index : ℕ) (rs : List Item) → List Item
 without index rs = take index rs ++ drop (index + 1) rs
 
-abbrev pub removed : List ℕ → ℕ → List ℕ
+abbrev pub removed : (b : List ℕ) (index : ℕ) → List ℕ
 removed b index = build (length b) (without index (records b))
 
--- Adding. The lowest gap of so many bytes, from a position on: the gap before the next record, or else one behind it; k is that record's index.
-unfoldable pub lowest : ℕ → ℕ → ℕ → ℕ → List Item → Gap
+-- Adding. The lowest gap of so many bytes, from a position on: the gap before the next record, or else one behind it; k is that record's
+-- index.
+unfoldable pub lowest : (need size k pos : ℕ) (rs : List Item) → Gap
 lowest need size k pos [] = elim (leb (pos + need) size) [ true ↦ Starts k pos | false ↦ Nowhere ]
 lowest need size k pos (r ∷ rs) =
     elim (leb (pos + need) (r .start)) [ true ↦ Starts k pos | false ↦ lowest need size (k + 1) (r .start + length (r .bytes)) rs ]
 
 -- the gap that a file is put into
-unfoldable pub gapFor : List ℕ → List ℕ → Gap
+unfoldable pub gapFor : (b file : List ℕ) → Gap
 unfolding lowest records
 gapFor b file = lowest (length file) (length b) 0 258 (records b)
 
@@ -72,37 +93,34 @@ abbrev pub isGap : Gap → Bool
 isGap (Starts index start) = true
 isGap Nowhere = false
 
+-- the index of the new record
 abbrev pub gapIndex : Gap → ℕ
 gapIndex (Starts index start) = index
 gapIndex Nowhere = 0
 
 -- the checks of a file that is offered to a catalogue: the catalogue, then the file's own
-unfoldable pub offeredChecks : List ℕ → List ℕ → List Check
+unfoldable pub offeredChecks : (b file : List ℕ) → List Check
 unfolding fileChecks
 offeredChecks b file = (Catalogue unless valid b) ∷ fileChecks file (2 ^ at file 0)
 
 -- the checks of adding: those, then 64 records or no gap
-unfoldable pub addChecks : List ℕ → List ℕ → List Check
+unfoldable pub addChecks : (b file : List ℕ) → List Check
 unfolding offeredChecks gapFor
 addChecks b file =
     offeredChecks b file ++ ((NoRoom unless ltb (count b) 64) ∷ (NoRoom unless isGap (gapFor b file)) ∷ [])
 
--- the index of the new record
-abbrev pub addReply : List ℕ → List ℕ → Reply
-addReply b file = replyAfter (first (addChecks b file)) (gapIndex (gapFor b file) ∷ [])
-
 -- the records with a file in a gap
-abbrev pub addedAt : Gap → List ℕ → List Item → List Item
+abbrev pub addedAt : (gap : Gap) (file : List ℕ) (rs : List Item) → List Item
 addedAt (Starts index start) file rs = take index rs ++ (record { start = start; bytes = file } ∷ drop index rs)
 addedAt Nowhere file rs = rs
 
-abbrev pub added : List ℕ → List ℕ → List ℕ
+abbrev pub added : (b file : List ℕ) → List ℕ
 added b file = build (length b) (addedAt (gapFor b file) file (records b))
 
 -- Compacting: the records from a position on, without gaps.
-unfoldable pub packed : ℕ → List Item → List Item
-packed pos [] = []
-packed pos (r ∷ rs) = record { start = pos; bytes = r .bytes } ∷ packed (pos + length (r .bytes)) rs
+unfoldable pub withoutGaps : (pos : ℕ) (rs : List Item) → List Item
+withoutGaps pos [] = []
+withoutGaps pos (r ∷ rs) = record { start = pos; bytes = r .bytes } ∷ withoutGaps (pos + length (r .bytes)) rs
 
 abbrev pub compacted : List ℕ → List ℕ
-compacted b = build (length b) (packed 258 (records b))
+compacted b = build (length b) (withoutGaps 258 (records b))

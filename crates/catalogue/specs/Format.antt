@@ -12,14 +12,14 @@ use Rattle.refusals.specs.declared.Checked.the-variants.{Accepted, Refused}
 use Rattle.boxfile.specs.File.{fileFound}
 
 -- a number in two bytes, low byte first: as it is read, and as it is written
-unfoldable pub wordAt : List ℕ → ℕ → ℕ
+unfoldable pub wordAt : (b : List ℕ) (i : ℕ) → ℕ
 wordAt b i = at b i + 256 * at b (i + 1)
 
 unfoldable pub word : ℕ → List ℕ
 word v = v % 256 ∷ v / 256 ∷ []
 
 -- so many bytes from a start on
-abbrev pub part : ℕ → ℕ → List ℕ → List ℕ
+abbrev pub part : (start size : ℕ) (b : List ℕ) → List ℕ
 part start size b = take size (drop start b)
 
 -- every byte is 0
@@ -49,7 +49,7 @@ unfoldable pub count : List ℕ → ℕ
 unfolding wordAt
 count b = wordAt b 0
 
-unfoldable pub placeAt : List ℕ → ℕ → Place
+unfoldable pub placeAt : (b : List ℕ) (k : ℕ) → Place
 unfolding wordAt
 placeAt b k = record { offset = wordAt b (4 * k + 2); size = wordAt b (4 * k + 4) }
 
@@ -57,16 +57,16 @@ unfoldable pub places : List ℕ → List Place
 unfolding count placeAt listBelow
 places b = listBelow (count b) (λ k. placeAt b k)
 
-abbrev pub itemAt : List ℕ → Place → Item
+abbrev pub itemAt : (b : List ℕ) (p : Place) → Item
 itemAt b p = record { start = p .offset; bytes = part (p .offset) (p .size) b }
 
 unfoldable pub records : List ℕ → List Item
 unfolding places
 records b = map (itemAt b) (places b)
 
--- a record stands at this place, past the end of what stands before it: it begins at that end or later and ends inside the buffer, the bytes between are
--- zero, and its own bytes are a box file that is accepted
-unfoldable pub stands : List ℕ → ℕ → Place → Bool
+-- a record stands at this place, past the end of what stands before it: it begins at that end or later and ends inside the buffer, the
+-- bytes between are zero, and its own bytes are a box file that is accepted
+unfoldable pub stands : (b : List ℕ) (end : ℕ) (p : Place) → Bool
 unfolding accepted
 stands b end p =
     leb end (p .offset)
@@ -74,7 +74,7 @@ stands b end p =
     && (allZero (part end (p .offset - end) b) && accepted (part (p .offset) (p .size) b)))
 
 -- records stand at these places, one after the other, and the bytes behind the last one are zero
-unfoldable pub stand : List ℕ → ℕ → List Place → Bool
+unfoldable pub stand : (b : List ℕ) (end : ℕ) (ps : List Place) → Bool
 unfolding stands
 stand b end [] = allZero (drop end b)
 stand b end (p ∷ ps) = stands b end p && stand b (p .offset + p .size) ps
@@ -96,13 +96,13 @@ unfoldable pub directory : List Place → List ℕ
 unfolding word placeBytes each
 directory ps = word (length ps) ++ (each ps placeBytes ++ replicate (4 * (64 - length ps)) 0)
 
-unfoldable pub body : ℕ → ℕ → List Item → List ℕ
+unfoldable pub body : (pos size : ℕ) (rs : List Item) → List ℕ
 body pos size [] = replicate (size - pos) 0
 body pos size (r ∷ rs) = replicate (r .start - pos) 0 ++ (r .bytes ++ body (r .start + length (r .bytes)) size rs)
 
 abbrev pub placeOf : Item → Place
 placeOf r = record { offset = r .start; size = length (r .bytes) }
 
-unfoldable pub build : ℕ → List Item → List ℕ
+unfoldable pub build : (size : ℕ) (rs : List Item) → List ℕ
 unfolding directory body
 build size rs = directory (map placeOf rs) ++ body 258 size rs

@@ -9,13 +9,13 @@ use Rattle.boxfile.specs.File.{fileFound}
 use Rattle.catalogue.specs.Format.{part, count, placeAt}
 
 -- where record k begins and how long it is, and whether byte i is one of its bytes
-abbrev pub offset : List ℕ → ℕ → ℕ
+abbrev pub offset : (b : List ℕ) (k : ℕ) → ℕ
 offset b k = placeAt b k .offset
 
-abbrev pub size : List ℕ → ℕ → ℕ
+abbrev pub size : (b : List ℕ) (k : ℕ) → ℕ
 size b k = placeAt b k .size
 
-abbrev pub Within : List ℕ → ℕ → ℕ → Type 0
+abbrev pub Within : (b : List ℕ) (k i : ℕ) → Type 0
 Within b k i = (offset b k ≤ i) × (i < offset b k + size b k)
 
 pub record Rules (b : List ℕ) : Type 0 where

@@ -18,7 +18,7 @@ abbrev pub Bytes : List ℕ → Type 0
 Bytes b = (i : ℕ) → at b i < 256
 
 -- accepted files that lie in order from a position on, without overlapping, up to the end
-abbrev pub Fits : ℕ → ℕ → List Item → Type 0
+abbrev pub Fits : (pos size : ℕ) (rs : List Item) → Type 0
 Fits pos size [] = pos ≤ size
 Fits pos size (r ∷ rs) = (pos ≤ r .start) × (accepted (r .bytes) ≡ true) × Fits (r .start + length (r .bytes)) size rs
 

@@ -8,10 +8,11 @@ ghost use mathlib.Core.Bool.{true};
 ghost use Prim.Native.Nat.{_+_, _*_, _<_, _≤_};
 ghost use lib.Seq.{sets};
 ghost use lib.ListN.{length, replicate};
-ghost use Rattle.refusals.specs.Table.{first, replyAfter, contentAfter, written};
+ghost use Rattle.refusals.specs.Table.{first, written, Wrote};
 ghost use Rattle.catalogue.specs.Format.{wordAt, word, part, count, places, stands, stand, valid, records};
 ghost use Rattle.catalogue.specs.Work.{place, slidDown, slidUp, closed, opened};
-ghost use Rattle.catalogue.specs.Calls.{told, fetched, catalogueChecks, indexChecks, recordAt, lowest, offeredChecks, addChecks, checkReply, addReply, fetchReply, removed, added, compacted};
+ghost use Rattle.catalogue.specs.Calls.{told, fetched, catalogueChecks, checkReply, indexChecks, Handed, fetchReply, removed};
+ghost use Rattle.catalogue.specs.Calls.{lowest, gapFor, gapIndex, offeredChecks, addChecks, added, compacted};
 
 // The answer of a call that gives one number.
 pub enum Told {
@@ -139,9 +140,9 @@ pub fn fetch_status(catalogue: &[u8], index: u32) -> Fetched
     }
 }
 
-// The part of the catalogue that is the record; an empty part where the call is refused.
+// The part of the catalogue that is the record; the empty part at its start where the call is refused.
 pub fn fetch<'a>(catalogue: &'a [u8], index: u32) -> &'a [u8]
-    ensures { λ r. ⌜ now r ≡ contentAfter (first (indexChecks (now (catalogue .entry)) index)) (recordAt (now (catalogue .entry)) index .bytes) [] ⌝ }
+    ensures { λ r. ⌜ Handed (catalogue .entry) index r ⌝ }
 {
     if let Checked::Refused(_) = check_index(catalogue, index) {
         return &catalogue[0..0];
@@ -228,7 +229,8 @@ fn close_place(b: &mut [u8], n: usize, k: usize)
 
 // Puts a place into the directory of n places, as place k.
 fn open_place(b: &mut [u8], n: usize, k: usize, offset: usize, size: usize)
-    requires { ⌜ (k ≤ n) × (n < 64) × (258 ≤ length (now b)) × (offset < 65536) × (size < 65536) × (part (4 * n + 2) 4 (now b) ≡ replicate 4 0) ⌝ }
+    requires { ⌜ (k ≤ n) × (n < 64) × (258 ≤ length (now b)) × (offset < 65536) × (size < 65536)
+        × (part (4 * n + 2) 4 (now b) ≡ replicate 4 0) ⌝ }
     ensures { λ _. ⌜ now (b .exit) ≡ opened n k (place offset size) (now (b .entry)) ⌝ }
 {
     let place = 4 * k + 2;
@@ -240,8 +242,11 @@ fn open_place(b: &mut [u8], n: usize, k: usize, offset: usize, size: usize)
 
 // Removes a record: its bytes are cleared and its place is taken out of the directory.
 pub fn remove(catalogue: &mut [u8], index: u32) -> Written
-    ensures reply { λ r. ⌜ written r ≡ replyAfter (first (indexChecks (now (catalogue .entry)) index)) [] ⌝ }
-    ensures content { λ r. ⌜ now (catalogue .exit) ≡ contentAfter (first (indexChecks (now (catalogue .entry)) index)) (removed (now (catalogue .entry)) index) (now (catalogue .entry)) ⌝ }
+    ensures { λ r. ⌜ Wrote
+        (indexChecks (now (catalogue .entry)) index)
+        []
+        (removed (now (catalogue .entry)) index)
+        (now (catalogue .entry)) (written r) (now (catalogue .exit)) ⌝ }
 {
     if let Checked::Refused(e) = check_index(catalogue, index) {
         return Written::Declined(e);
@@ -289,8 +294,11 @@ pub fn check_offered(buffer: &[u8], file: &[u8]) -> Checked
 
 // Adds a box file at the start of the lowest gap that is long enough: its index is the answer.
 pub fn add(catalogue: &mut [u8], file: &[u8]) -> Told
-    ensures reply { λ r. ⌜ told r ≡ addReply (now (catalogue .entry)) (now (file .entry)) ⌝ }
-    ensures content { λ r. ⌜ now (catalogue .exit) ≡ contentAfter (first (addChecks (now (catalogue .entry)) (now (file .entry)))) (added (now (catalogue .entry)) (now (file .entry))) (now (catalogue .entry)) ⌝ }
+    ensures { λ r. ⌜ Wrote
+        (addChecks (now (catalogue .entry)) (now (file .entry)))
+        (gapIndex (gapFor (now (catalogue .entry)) (now (file .entry))) ∷ [])
+        (added (now (catalogue .entry)) (now (file .entry)))
+        (now (catalogue .entry)) (told r) (now (catalogue .exit)) ⌝ }
 {
     if let Checked::Refused(e) = check_offered(catalogue, file) {
         return Told::Declined(e);
@@ -328,8 +336,11 @@ fn pack(b: &mut [u8], n: usize)
 
 // Compacts a catalogue: the records start at 258 without gaps, their order and bytes the same.
 pub fn compact(catalogue: &mut [u8]) -> Written
-    ensures reply { λ r. ⌜ written r ≡ replyAfter (first (catalogueChecks (now (catalogue .entry)))) [] ⌝ }
-    ensures content { λ r. ⌜ now (catalogue .exit) ≡ contentAfter (first (catalogueChecks (now (catalogue .entry)))) (compacted (now (catalogue .entry))) (now (catalogue .entry)) ⌝ }
+    ensures { λ r. ⌜ Wrote
+        (catalogueChecks (now (catalogue .entry)))
+        []
+        (compacted (now (catalogue .entry)))
+        (now (catalogue .entry)) (written r) (now (catalogue .exit)) ⌝ }
 {
     if !is_valid(catalogue) {
         return Written::Declined(Refusal::Catalogue);

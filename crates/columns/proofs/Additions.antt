@@ -22,7 +22,7 @@ use Rattle.refusals.specs.declared.Checked.{Checked}
 use Rattle.refusals.specs.declared.Checked.the-variants.{Accepted, Refused}
 use Rattle.linear.specs.Nonlinearity.{nonlinearity}
 use Rattle.linear.specs.Statements.{IsPair}
-use Rattle.linear.proofs.Theorems.{least, reached}
+use Rattle.linear.proofs.Theorems.{nonlinearity-least, nonlinearity-reached}
 use Rattle.columns.proofs.Accepted.{accepts}
 use Rattle.columns.specs.Addition.{addedRow, addedRows, Addition, additionChecked, standing}
 
@@ -144,15 +144,15 @@ module _ (n m : ℕ) (rows : List ℕ) (box : Box n m rows) (a : Addition) (fits
     where
       above : nonlinearity n m rows i .figure ≤ nonlinearity n m (rowsWith a rows) i .figure
       above =
-          let t = reached n m (rowsWith a rows) i (box .m-low) i-low in
-          le-trans (least n m rows i (t .0) _ _ (moved i (t .0) (t .1) (t .2) (t .3)))
+          let t = nonlinearity-reached n m (rowsWith a rows) i (box .m-low) i-low in
+          le-trans (nonlinearity-least n m rows i (t .0) _ _ (moved i (t .0) (t .1) (t .2) (t .3)))
           (le-of-eq (sym (ap (λ (p : Candidate). p .figure) (t .4) ∙ distance-added i (t .0) (t .1) (t .2) (t .3))))
 
       below : nonlinearity n m (rowsWith a rows) i .figure ≤ nonlinearity n m rows i .figure
       below =
-          let t = reached n m rows i (box .m-low) i-low in
+          let t = nonlinearity-reached n m rows i (box .m-low) i-low in
           let p = moved i (t .0) (t .1) (t .2) (t .3) in
-          le-trans (least n m (rowsWith a rows) i (t .0) _ _ p)
+          le-trans (nonlinearity-least n m (rowsWith a rows) i (t .0) _ _ p)
           (le-of-eq (distance-added i (t .0) _ _ p ∙ ap₂ (distance n (component rows (t .0))) (xor-cancel (t .1) _) (xor-cancel (t .2) _)
           ∙ sym (ap (λ (p : Candidate). p .figure) (t .4))))
 

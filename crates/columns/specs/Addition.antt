@@ -1,4 +1,4 @@
--- Column addition: an affine function is added to one column of a box.
+-- Column addition: an affine function is added to one column of a box; a call's checks and outcome, and lists of additions.
 use Prim.Native.Nat.{ℕ, _-_, _*_, _^_}
 use mathlib.Core.List.{List, [], _∷_, _++_}
 use lib.Bits.{bitXor}
@@ -7,9 +7,10 @@ use lib.ListN.{length}
 use Rattle.boolean.specs.Bits.{affine}
 use Rattle.boolean.specs.Sums.{listBelow}
 use Rattle.boolean.specs.Functions.{at}
-use Rattle.refusals.specs.Table.{Check, _unless_, inRange, boxChecks, first, contentAfter}
+use Rattle.refusals.specs.Table.{Check, _unless_, inRange, boxChecks, first, contentAfter, Wrote, written}
 use Rattle.refusals.specs.declared.Refusal.the-variants.{Parameter, WrittenLength}
 use Rattle.refusals.specs.declared.Checked.{Checked}
+use Rattle.refusals.specs.declared.Written.{Written}
 
 -- a row, with bit j XORed with w·x XOR b
 unfoldable pub addedRow : ℕ → ℕ → ℕ → ℕ → ℕ → ℕ
@@ -30,6 +31,11 @@ additionChecks n m rows j w b room =
     ∷ (Parameter unless ltb b 2)
     ∷ (WrittenLength unless eqb room (2 ^ n))
     ∷ [])
+
+-- the outcome of a call of `columns::add_to_column`
+abbrev pub Called : (n m : ℕ) (rows : List ℕ) (j w b : ℕ) (lent : List ℕ) (answer : Written) (left : List ℕ) → Type 0
+Called n m rows j w b lent answer left =
+    Wrote (additionChecks n m rows j w b (length lent)) [] (addedRows j w b rows) lent (written answer) left
 
 -- an addition in a list of them: its column, its mask and constant, and the array that it is lent
 pub record Addition : Type 0 where

@@ -3,11 +3,10 @@ use refusals::Checked;
 use refusals::Refusal;
 use refusals::Written;
 ghost use mathlib.Core.Path.{_≡_};
-ghost use mathlib.Core.List.{[]};
 ghost use Prim.Native.Nat.{_^_, _≤_, _<_};
 ghost use lib.ListN.{length};
-ghost use Rattle.refusals.specs.Table.{first, replyAfter, contentAfter, written};
-ghost use Rattle.columns.specs.Addition.{addedRow, addedRows, additionChecks};
+ghost use Rattle.refusals.specs.Table.{first};
+ghost use Rattle.columns.specs.Addition.{addedRow, addedRows, additionChecks, Called};
 
 // The row at input x, with bit j XORed with w·x XOR b.
 fn added_row(j: u32, w: u32, b: u32, x: usize, row: u32) -> u32
@@ -63,8 +62,7 @@ pub fn add_to_column(
     b: u32,
     out: &mut [u32],
 ) -> Written
-    ensures reply { λ r. ⌜ written r ≡ replyAfter (first (additionChecks n m (now (rows .entry)) j w b (length (now (out .entry))))) [] ⌝ }
-    ensures content { λ r. ⌜ now (out .exit) ≡ contentAfter (first (additionChecks n m (now (rows .entry)) j w b (length (now (out .entry))))) (addedRows j w b (now (rows .entry))) (now (out .entry)) ⌝ }
+    ensures { λ r. ⌜ Called n m (now (rows .entry)) j w b (now (out .entry)) r (now (out .exit)) ⌝ }
 {
     if let Checked::Refused(e) = check_addition(n, m, rows, j, w, b, out.len()) {
         return Written::Declined(e);

@@ -23,7 +23,7 @@ use Rattle.boolean.proofs.Xor.{xor-assoc}
 use Rattle.refusals.specs.Table.{Box, Table}
 use Rattle.boolean.proofs.Shifts.{count-shift}
 use Rattle.avalanche.specs.Avalanche.{dynamicDistance}
-use Rattle.avalanche.proofs.Theorems.{strict-avalanche}
+use Rattle.avalanche.proofs.Criteria.{avalanche-exactly}
 use Rattle.constructions.specs.Enlargement.{enlarged, enlargedTable, enlargedRows}
 use Rattle.constructions.proofs.Halves.{input-bit-lt, enlarged-lower, enlarged-upper, enlarged-lt, length-enlarged-table, at-enlarged-table, length-enlarged-rows, enlarged-rows-lt, enlarged-column, enlarged-top-column}
 
@@ -161,7 +161,7 @@ module _ (n : ℕ) (table : List ℕ) (k : ℕ) (t : Table n table) (small : n �
   table-changes : dynamicDistance n 1 table 1 1 .figure ≡ 0 → (i : ℕ) → 1 ≤ i → i ≤ n → changes n (at table) (2 ^ (i - 1)) ≡ 2 ^ (n - 1)
   table-changes e i il ih =
       sym (changes-cong n (column table 1) (at table) (2 ^ (i - 1)) (λ x. table-column table x (t .bits x)))
-      ∙ strict-avalanche n 1 table (box-of n 1 table (t .n-low) (t .n-high) (le-refl 1) (omega arith) (t .size) table-bits) .0 e 1 i (le-refl 1) (le-refl 1) il ih
+      ∙ avalanche-exactly n 1 table (box-of n 1 table (t .n-low) (t .n-high) (le-refl 1) (omega arith) (t .size) table-bits) .0 e 1 i (le-refl 1) (le-refl 1) il ih
 
   module _ (a : ℕ) (ha : a < 2) where
     -- the enlarged table's entries are bits
@@ -174,7 +174,7 @@ module _ (n : ℕ) (table : List ℕ) (k : ℕ) (t : Table n table) (small : n �
 
     -- a table that meets the strict avalanche criterion makes, with either constant, a table that meets it
     pub table-avalanche : dynamicDistance n 1 table 1 1 .figure ≡ 0 → dynamicDistance (suc n) 1 (enlargedTable n table k a) 1 1 .figure ≡ 0
-    table-avalanche e = strict-avalanche (suc n) 1 (enlargedTable n table k a) enlarged-table-box .1 meets
+    table-avalanche e = avalanche-exactly (suc n) 1 (enlargedTable n table k a) enlarged-table-box .1 meets
       where
         meets : (j i : ℕ) → 1 ≤ j → j ≤ 1 → 1 ≤ i → i ≤ suc n → changes (suc n) (column (enlargedTable n table k a) j) (2 ^ (i - 1)) ≡ 2 ^ (suc n - 1)
         meets j i jl jh il ih =
@@ -202,14 +202,14 @@ module _ (n : ℕ) (rows table : List ℕ) (k : ℕ) (b : Box n n rows) (t : Tab
   -- a box and a table that meet the strict avalanche criterion make a box that meets it
   pub box-avalanche : dynamicDistance n n rows 1 1 .figure ≡ 0 → dynamicDistance n 1 table 1 1 .figure ≡ 0
       → dynamicDistance (suc n) (suc n) (enlargedRows n rows table k) 1 1 .figure ≡ 0
-  box-avalanche er et = strict-avalanche (suc n) (suc n) (enlargedRows n rows table k) enlarged-box .1 (λ j i jl jh il ih. pick j i jl jh il ih (decLe j n))
+  box-avalanche er et = avalanche-exactly (suc n) (suc n) (enlargedRows n rows table k) enlarged-box .1 (λ j i jl jh il ih. pick j i jl jh il ih (decLe j n))
     where
       pick : (j i : ℕ) → 1 ≤ j → j ≤ suc n → 1 ≤ i → i ≤ suc n → Dec (j ≤ n)
           → changes (suc n) (column (enlargedRows n rows table k) j) (2 ^ (i - 1)) ≡ 2 ^ (suc n - 1)
       pick j i jl jh il ih (yes l) =
           changes-below (suc n) (column (enlargedRows n rows table k) j) (enlarged n (column rows j) k 0) (2 ^ (i - 1)) (input-bit-lt (suc n) i il ih)
           (enlarged-column n rows table k row-below bits lo hi j jl l)
-          ∙ enlarged-avalanche n (column rows j) k 0 (λ x l. column-lt rows j x) (omega arith) lo hi (λ i il ih. strict-avalanche n n rows b .0 er j i jl l il ih) i il ih
+          ∙ enlarged-avalanche n (column rows j) k 0 (λ x l. column-lt rows j x) (omega arith) lo hi (λ i il ih. avalanche-exactly n n rows b .0 er j i jl l il ih) i il ih
           ∙ ap (λ (z : ℕ). 2 ^ z) (last n)
       pick j i jl jh il ih (no l) =
           let top : j ≡ suc n = omega arith in

@@ -34,7 +34,7 @@ use Rattle.boolean.proofs.Walsh.{walsh-cong, walsh-transform}
 use Rattle.boolean.proofs.Xor.{xor-cancel}
 use Rattle.refusals.specs.Table.{allBelow}
 use Rattle.linear.specs.Nonlinearity.{nonlinearity}
-use Rattle.linear.proofs.Theorems.{covering, tight}
+use Rattle.linear.proofs.Theorems.{covering-bound, covering-equality}
 use Rattle.constructions.specs.BentForm.{bentForm, bentTable, isPermutation}
 use Rattle.constructions.proofs.Avalanche.{table-column}
 
@@ -205,7 +205,7 @@ module _ (h : ℕ) (table : List ℕ) (lo : 1 ≤ h) (bits : Boolean (h + h) (at
   -- its nonlinearity is 2^(n − 1) − 2^(n / 2 − 1)
   pub bent-nonlinearity : nonlinearity (h + h) 1 table 1 .figure ≡ 2 ^ (h + h - 1) - 2 ^ (h - 1)
   bent-nonlinearity =
-      let met = tight (h + h) 1 table 1 (le-refl 1) (le-refl 1) (omega arith) .1
+      let met = covering-equality (h + h) 1 table 1 (le-refl 1) (le-refl 1) (omega arith) .1
       (λ c w. let one : 1 ≡ c = omega (arith, w .low, w .high) in subst (λ (c : ℕ). Bent (h + h) (component table c)) one component-bent) in
       let t = pow-square (h + h) (2 ^ (h + h) - 2 * nonlinearity (h + h) 1 table 1 .figure) met in
       let same : t .0 ≡ h = omega (arith, t .1) in
@@ -214,7 +214,7 @@ module _ (h : ℕ) (table : List ℕ) (lo : 1 ≤ h) (bits : Boolean (h + h) (at
       let part : h ≡ suc (h - 1) = omega arith in
       let twice-whole : 2 ^ (h + h) ≡ 2 ^ (h + h - 1) + 2 ^ (h + h - 1) = ap (λ (i : ℕ). 2 ^ i) whole ∙ two-pow-succ (h + h - 1) in
       let twice-part : 2 ^ h ≡ 2 ^ (h - 1) + 2 ^ (h - 1) = ap (λ (i : ℕ). 2 ^ i) part ∙ two-pow-succ (h - 1) in
-      omega (arith, covering (h + h) 1 table 1 (le-refl 1) (le-refl 1) .0)
+      omega (arith, covering-bound (h + h) 1 table 1 (le-refl 1) (le-refl 1) .0)
 
 -- so of the form
 pub table-nonlinearity : (h : ℕ) (permutation table : List ℕ) → length permutation ≡ 2 ^ h → isPermutation (2 ^ h) permutation ≡ true → Boolean h (at table) → 1 ≤ h

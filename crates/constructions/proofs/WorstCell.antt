@@ -17,7 +17,7 @@ use Rattle.boolean.proofs.Counts.{count-le, count-not}
 use Rattle.boolean.proofs.Transform.{half-cases, lower-lt, upper-lt, xor-01, xor-11}
 use Rattle.boolean.proofs.Xor.{xor-cancel, xor-cancel-left}
 use Rattle.differential.specs.XorTable.{difference, cell, largestCell}
-use Rattle.differential.proofs.Theorems.{most, reached}
+use Rattle.differential.proofs.FirstCell.{largest-cell-most, largest-cell-reached}
 use Rattle.constructions.specs.Enlargement.{enlargedRows}
 use Rattle.constructions.proofs.Halves.{input-bit-lt, enlarged-lower, enlarged-upper, at-enlarged-rows}
 
@@ -80,8 +80,8 @@ module _ (n : ℕ) (rows table : List ℕ) (k : ℕ) (below : (x : ℕ) → x < 
   -- and is the largest
   pub full-cell-largest : largestCell (suc n) (suc n) (enlargedRows n rows table k) .figure ≡ 2 ^ suc n
   full-cell-largest =
-      let r = reached (suc n) (suc n) (enlargedRows n rows table k) (omega arith) in
-      let at-least = most (suc n) (suc n) (enlargedRows n rows table k) (2 ^ n + e) (2 ^ n)
+      let r = largest-cell-reached (suc n) (suc n) (enlargedRows n rows table k) (omega arith) in
+      let at-least = largest-cell-most (suc n) (suc n) (enlargedRows n rows table k) (2 ^ n + e) (2 ^ n)
       (record { a-low = omega (arith, pow-pos n); a-high = upper-lt n e e-lt; β-high = omega (arith, pow-pos n, two-pow-succ n) }) in
       let at-most = cell-le (suc n) (enlargedRows n rows table k) (r .0) (r .1) in
       omega (arith, full-cell, at-least, at-most, ap (λ (c : Candidate). c .figure) (r .3))

@@ -1,4 +1,4 @@
--- The checks of the three constructions, in the order of document 01's table: all lengths before any value.
+-- The three constructions: their checks, in the order of document 01's table, all lengths before any value; and their outcomes.
 use Prim.Native.Nat.{ℕ, suc, _-_, _/_, _%_, _^_, _≤_, _<_}
 use mathlib.Core.Path.{_≡_}
 use mathlib.Core.Bool.{cond, _&&_}
@@ -7,9 +7,11 @@ use lib.Bits.{bitXor}
 use lib.Dec.{ltb, eqb}
 use lib.ListN.{length}
 use Rattle.boolean.specs.Functions.{at}
-use Rattle.refusals.specs.Table.{Check, _unless_, inRange, allBelow}
+use Rattle.refusals.specs.Table.{Check, _unless_, inRange, allBelow, Wrote, written}
 use Rattle.refusals.specs.declared.Refusal.the-variants.{InputWidth, ReadLength, Value, Permutation, Parameter, WrittenLength}
-use Rattle.constructions.specs.BentForm.{isPermutation}
+use Rattle.refusals.specs.declared.Written.{Written}
+use Rattle.constructions.specs.Enlargement.{enlargedTable, enlargedRows}
+use Rattle.constructions.specs.BentForm.{isPermutation, bentTable}
 
 -- one column
 unfoldable pub columnChecks : ℕ → List ℕ → ℕ → ℕ → ℕ → List Check
@@ -45,6 +47,21 @@ bentChecks n permutation table room =
     ∷ (Permutation unless isPermutation (2 ^ (n / 2)) permutation)
     ∷ (WrittenLength unless eqb room (2 ^ n))
     ∷ []
+
+-- the outcome of a call of `constructions::enlarge_column`
+abbrev pub ColumnCalled : (n : ℕ) (table : List ℕ) (k a : ℕ) (lent : List ℕ) (answer : Written) (left : List ℕ) → Type 0
+ColumnCalled n table k a lent answer left =
+    Wrote (columnChecks n table k a (length lent)) [] (enlargedTable n table k a) lent (written answer) left
+
+-- the outcome of a call of `constructions::enlarge_box`
+abbrev pub BoxCalled : (n : ℕ) (rows table : List ℕ) (k : ℕ) (lent : List ℕ) (answer : Written) (left : List ℕ) → Type 0
+BoxCalled n rows table k lent answer left =
+    Wrote (enlargeChecks n rows table k (length lent)) [] (enlargedRows n rows table k) lent (written answer) left
+
+-- the outcome of a call of `constructions::bent_function`
+abbrev pub BentCalled : (n : ℕ) (permutation table lent : List ℕ) (answer : Written) (left : List ℕ) → Type 0
+BentCalled n permutation table lent answer left =
+    Wrote (bentChecks n permutation table (length lent)) [] (bentTable n permutation table) lent (written answer) left
 
 -- What the functions behind the calls ask and leave.
 

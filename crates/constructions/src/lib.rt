@@ -4,16 +4,16 @@ use refusals::Refusal;
 use refusals::Written;
 ghost use mathlib.Core.Path.{_≡_};
 ghost use mathlib.Core.Bool.{not, _&&_};
-ghost use mathlib.Core.List.{[]};
 ghost use Prim.Native.Nat.{suc, _+_, _*_, _/_, _%_, _^_, _≤_, _<_};
 ghost use lib.Dec.{eqb};
 ghost use lib.ListN.{length};
 ghost use Rattle.boolean.specs.Sums.{every, distinct};
 ghost use Rattle.boolean.specs.Functions.{at};
-ghost use Rattle.refusals.specs.Table.{first, inRange, replyAfter, contentAfter, written};
+ghost use Rattle.refusals.specs.Table.{first, inRange};
 ghost use Rattle.constructions.specs.Enlargement.{enlarged, enlargedTable, enlargedRows};
 ghost use Rattle.constructions.specs.BentForm.{isPermutation, bentForm, bentTable};
-ghost use Rattle.constructions.specs.Calls.{columnChecks, enlargeChecks, bentChecks, sourceOf, Enlarges, EnlargesColumn, EnlargesBox, MakesBent};
+ghost use Rattle.constructions.specs.Calls.{columnChecks, enlargeChecks, bentChecks, ColumnCalled, BoxCalled, BentCalled, sourceOf};
+ghost use Rattle.constructions.specs.Calls.{Enlarges, EnlargesColumn, EnlargesBox, MakesBent};
 
 // Whether an array with so many entries is as long as a table of n inputs.
 fn has_inputs(count: usize, n: u32) -> bool
@@ -93,8 +93,7 @@ fn check_column(n: u32, table: &[u8], k: u32, a: u32, room: usize) -> Checked
 
 // A truth table of one input more: the lower half is the table, the upper half is the table with bit k of the input flipped, XOR a.
 pub fn enlarge_column(n: u32, table: &[u8], k: u32, a: u32, out: &mut [u8]) -> Written
-    ensures reply { λ r. ⌜ written r ≡ replyAfter (first (columnChecks n (now (table .entry)) k a (length (now (out .entry))))) [] ⌝ }
-    ensures content { λ r. ⌜ now (out .exit) ≡ contentAfter (first (columnChecks n (now (table .entry)) k a (length (now (out .entry))))) (enlargedTable n (now (table .entry)) k a) (now (out .entry)) ⌝ }
+    ensures { λ r. ⌜ ColumnCalled n (now (table .entry)) k a (now (out .entry)) r (now (out .exit)) ⌝ }
 {
     if let Checked::Refused(e) = check_column(n, table, k, a, out.len()) {
         return Written::Declined(e);
@@ -163,8 +162,7 @@ fn check_enlarge(n: u32, rows: &[u32], table: &[u8], k: u32, room: usize) -> Che
 
 // A box of n + 1 inputs and outputs from a box of n and a truth table, which makes the new top bit.
 pub fn enlarge_box(n: u32, rows: &[u32], table: &[u8], k: u32, out: &mut [u32]) -> Written
-    ensures reply { λ r. ⌜ written r ≡ replyAfter (first (enlargeChecks n (now (rows .entry)) (now (table .entry)) k (length (now (out .entry))))) [] ⌝ }
-    ensures content { λ r. ⌜ now (out .exit) ≡ contentAfter (first (enlargeChecks n (now (rows .entry)) (now (table .entry)) k (length (now (out .entry))))) (enlargedRows n (now (rows .entry)) (now (table .entry)) k) (now (out .entry)) ⌝ }
+    ensures { λ r. ⌜ BoxCalled n (now (rows .entry)) (now (table .entry)) k (now (out .entry)) r (now (out .exit)) ⌝ }
 {
     if let Checked::Refused(e) = check_enlarge(n, rows, table, k, out.len()) {
         return Written::Declined(e);
@@ -275,8 +273,7 @@ fn check_bent(n: u32, permutation: &[u8], table: &[u8], room: usize) -> Checked
 
 // The bent function of n = 2h inputs that a permutation of 0 to 2^h - 1 and a table of 2^h truth values make.
 pub fn bent_function(n: u32, permutation: &[u8], table: &[u8], out: &mut [u8]) -> Written
-    ensures reply { λ r. ⌜ written r ≡ replyAfter (first (bentChecks n (now (permutation .entry)) (now (table .entry)) (length (now (out .entry))))) [] ⌝ }
-    ensures content { λ r. ⌜ now (out .exit) ≡ contentAfter (first (bentChecks n (now (permutation .entry)) (now (table .entry)) (length (now (out .entry))))) (bentTable n (now (permutation .entry)) (now (table .entry))) (now (out .entry)) ⌝ }
+    ensures { λ r. ⌜ BentCalled n (now (permutation .entry)) (now (table .entry)) (now (out .entry)) r (now (out .exit)) ⌝ }
 {
     if let Checked::Refused(e) = check_bent(n, permutation, table, out.len()) {
         return Written::Declined(e);

@@ -1,40 +1,41 @@
--- The code's design as the model's: its marks read and replaced, and its rows. Assumes nothing.
+-- The code's design as the model's: its marks read and replaced, its rows, and what each call's outcome is. Assumes nothing.
 use Prim.Native.Nat.{ℕ, zero, suc, _-_, _^_, _<_, _≤_}
-use mathlib.Core.Path.{_≡_, refl, sym, ap, _∙_, subst}
-use mathlib.Core.Bool.{Bool, true, false}
+use mathlib.Core.Path.{_≡_, refl, sym, ap, _∙_}
+use mathlib.Core.Bool.{Bool, true, false, true≢false}
 use mathlib.Core.List.{List, [], _∷_, _++_}
 use native.Mathlib.Omega.{arith}
 use lib.Dec.{eqb}
-use lib.ListN.{length, getD, set, take, length-take, replicate}
+use lib.ListN.{length, getD, set, take, drop, replicate, length-set, length-take}
 use lib.Pow.{pow-mono}
 use lib.Seq.{take-set-lt, getD-take, length-take-le, take-append-seam}
 use Rattle.boolean.specs.Sums.{listBelow, listFrom}
 use Rattle.boolean.specs.Functions.{at, swapped}
-use Rattle.refusals.specs.Table.{first, boxChecks, refusal, figures, replyAfter, contentAfter}
+use Rattle.refusals.specs.Table.{Check, first, boxChecks, inRange, figures, refusal, number, replyAfter, contentAfter, written}
 use Rattle.refusals.specs.declared.Refusal.{Refusal}
-use Rattle.refusals.specs.declared.Refusal.the-variants.{WrittenLength}
+use Rattle.refusals.specs.declared.Refusal.the-variants.{Parameter}
 use Rattle.refusals.specs.declared.Checked.{Checked}
 use Rattle.refusals.specs.declared.Checked.the-variants.{Accepted, Refused}
-use Rattle.refusals.proofs.Checks.{box, found, skip, stop, end, differs, equals}
+use Rattle.refusals.specs.declared.Written.the-variants.{Declined}
+use Rattle.refusals.proofs.Checks.{reply-refused, reply-accepted}
+use Rattle.refusals.proofs.Bounds.{range-high}
 use Rattle.columns.specs.Addition.{addedRows, additionChecks}
 use Rattle.columns.proofs.Additions.{length-added}
 use Rattle.design.specs.declared.Snapshot.{Snapshot}
 use Rattle.design.specs.declared.Design.{Design}
-use Rattle.design.specs.Model.{Mark, unset, keeps, begun, begin, markAt, isSet, rowsKept, withRows, withMark, swapChecks, addChecks, markChecks, returnChecks, readChecks, swap, add, mark, returnTo, SoundState}
-use Rattle.design.specs.Calls.{markOf, markHeld, marksHeld, rowsOf, state, Sound}
-use Rattle.design.proofs.Operations.{taken-over, left-alone, declined-leaves, done-accepted, same-checks, swap-in, sound-begun, sound-swap, sound-add, sound-mark, sound-return}
+use Rattle.design.specs.declared.Tuned.{Tuned}
+use Rattle.design.specs.Model.{Mark, unset, keeps, State, begun, noBox, begin, markAt, isSet, rowsKept, withRows, withMark, stateAfter, swapChecks, addChecks, markChecks, returnChecks, swap, add, mark, returnTo, Boxed, SoundState, boxed, without}
+use Rattle.design.specs.Calls.{markOf, markHeld, marksHeld, rowsOf, state, filled, snapshotOf, snapshotsOf, designOf, Sound, Operated, Swapped, Added, Marked, Returned}
+use Rattle.design.proofs.Operations.{taken-over, left-alone, declined-leaves, done-accepted, same-checks, not-refused, swap-in}
+use Rattle.design.proofs.Whole.{Only, only-set, nowhere, snapshots-at, snapshots-set}
 
--- what a read past the end would give: a mark that was never set
-abbrev pub nowhere : Snapshot
-nowhere = record { taken = 0; rows = [] }
-
-pub marks-at : (n : ℕ) (ps : List Snapshot) (i : ℕ) → getD (marksHeld n ps) i unset ≡ markHeld n (getD ps i nowhere)
+-- ---- marks
+marks-at : (n : ℕ) (ps : List Snapshot) (i : ℕ) → getD (marksHeld n ps) i unset ≡ markHeld n (getD ps i nowhere)
 unfolding marksHeld markHeld
 marks-at n [] i = refl
 marks-at n (p ∷ ps) zero = refl
 marks-at n (p ∷ ps) (suc i) = marks-at n ps i
 
-pub marks-set : (n : ℕ) (ps : List Snapshot) (i : ℕ) (p : Snapshot) → marksHeld n (set ps i p) ≡ set (marksHeld n ps) i (markHeld n p)
+marks-set : (n : ℕ) (ps : List Snapshot) (i : ℕ) (p : Snapshot) → marksHeld n (set ps i p) ≡ set (marksHeld n ps) i (markHeld n p)
 unfolding marksHeld
 marks-set n [] i p = refl
 marks-set n (q ∷ ps) zero p = refl
@@ -44,97 +45,141 @@ set-of : (b : Bool) (rows : List ℕ) → isSet (markOf b rows) ≡ b
 set-of true rows = refl
 set-of false rows = refl
 
--- ---- widths and room
-pub sound-narrow : (d : Design) → Sound d → d .n ≤ 8
-unfolding state
-sound-narrow d s = s .box .n-high
+-- ---- what a sound design holds, field by field
+module _ (d : Design) (s : Sound d) where
+  only-rows : Only (d .n) (d .rows)
+  unfolding state designOf
+  only-rows = ap (λ (r : Design). r .rows) (s .only)
 
-pub sound-room : (d : Design) → Sound d → 2 ^ d .n ≤ length (d .rows)
-unfolding state
-sound-room d s = omega (arith, s .box .size, length-take (2 ^ d .n) (d .rows))
+  only-marks : d .marks ≡ snapshotsOf (marksHeld (d .n) (d .marks))
+  unfolding state designOf
+  only-marks = ap (λ (r : Design). r .marks) (s .only)
+
+-- and a design whose fields hold nothing else
+module _ (d : Design) (rows : Only (d .n) (d .rows)) (marks : d .marks ≡ snapshotsOf (marksHeld (d .n) (d .marks))) where
+  holds-state : d ≡ designOf (state d)
+  unfolding state designOf
+  holds-state =
+      ap (λ (l : List ℕ). record { n = d .n; m = d .m; rows = l; marks = d .marks }) rows
+      ∙ ap (λ (l : List Snapshot). record { n = d .n; m = d .m; rows = filled (rowsOf d); marks = l }) marks
+
+-- ---- the outcome of an operation, where it is refused and where it is done
+module _ (d : Design) (checks : List Check) (new : State) where
+  pub refused-so : {e : Refusal} → refusal (number e) ≡ replyAfter (first checks) [] → {r : Tuned} → (r .design ≡ d) × (r .answer ≡ Declined e)
+      → Operated d checks (stateAfter (first checks) new (state d)) (written (r .answer)) (r .design)
+  refused-so {e} h g =
+      let left = declined-leaves (first checks) (number e) new (state d) h in
+      record {
+        unchanged = λ k q. g .0;
+        reply = ap written (g .1) ∙ h;
+        content = ap state (g .0) ∙ left;
+        whole = λ s. g .0 ∙ s .only ∙ ap designOf left;
+      }
+
+  done-so : (r : Design) → first checks ≡ Accepted → state r ≡ new → (Sound d → r ≡ designOf (state r))
+      → Operated d checks (stateAfter (first checks) new (state d)) (figures []) r
+  done-so r h e only =
+      let is = e ∙ taken-over new (state d) h in
+      record { unchanged = λ k q. absurd (not-refused q); reply = reply-accepted h []; content = is; whole = λ s. only s ∙ ap designOf is }
 
 -- ---- begin
 abbrev sixteen : {A : Type 0} → A → List A
 sixteen x = x ∷ x ∷ x ∷ x ∷ x ∷ x ∷ x ∷ x ∷ x ∷ x ∷ x ∷ x ∷ x ∷ x ∷ x ∷ x ∷ []
 
-module _ (n m : ℕ) (rows held : List ℕ) (v : Snapshot) (e : v .taken ≡ 0) where
-  abbrev fresh : Design
-  fresh = record { n = n; m = m; rows = held; marks = sixteen v }
+fresh-is : (n m : ℕ) (rows held : List ℕ) (v : Snapshot) → v ≡ snapshotOf unset → held ≡ filled rows
+    → record { n = n; m = m; rows = held; marks = sixteen v } ≡ designOf (begun n m rows)
+unfolding designOf snapshotsOf begun listBelow listFrom
+fresh-is n m rows held v e h =
+    ap (λ (l : List ℕ). record { n = n; m = m; rows = l; marks = sixteen v }) h
+    ∙ ap (λ (x : Snapshot). record { n = n; m = m; rows = filled rows; marks = sixteen x }) e
 
-  fresh-is : take (2 ^ n) held ≡ rows → state fresh ≡ begun n m rows
-  unfolding state marksHeld markHeld begun listBelow listFrom
-  fresh-is h =
-      ap (λ (r : List ℕ). record { n = n; m = m; rows = r; marks = sixteen (markHeld n v) }) h
-      ∙ ap (λ (t : ℕ). record { n = n; m = m; rows = rows; marks = sixteen (markOf (eqb t 1) (take (2 ^ n) (v .rows))) }) e
-
-module _ (n m : ℕ) (rows : List ℕ) (v : Snapshot) (e : v .taken ≡ 0) where
+module _ (n m : ℕ) (rows : List ℕ) (v : Snapshot) (e : v ≡ snapshotOf unset) where
   -- a box that is refused: the design has none
-  pub begin-declined : {r : Refusal} → first (boxChecks n m rows) ≡ Refused r → state (fresh 0 0 (0 ∷ []) (replicate 256 0) v e) ≡ begin n m rows
-  unfolding begin
-  begin-declined h = fresh-is 0 0 (0 ∷ []) (replicate 256 0) v e refl ∙ left-alone (begun n m rows) (begun 0 0 (0 ∷ [])) h
+  pub begin-refused : {f : Refusal} → first (boxChecks n m rows) ≡ Refused f
+      → record { n = 0; m = 0; rows = replicate 256 0; marks = sixteen v } ≡ designOf (begin n m rows)
+  unfolding begin noBox
+  begin-refused h = fresh-is 0 0 (0 ∷ []) (replicate 256 0) v e refl ∙ ap designOf (left-alone (begun n m rows) noBox h)
 
   -- an accepted one, its rows copied to the start of the array
-  module _ (copied rest : List ℕ) (h : first (boxChecks n m rows) ≡ Accepted) (c : copied ≡ rows) where
-    copied-rows : take (2 ^ n) (copied ++ rest) ≡ rows
-    copied-rows =
-        ap (λ (k : ℕ). take k (copied ++ rest)) (sym (box n m rows [] h .size)) ∙ ap (λ (l : List ℕ). take (length rows) (l ++ rest)) c ∙ take-append-seam rows rest
+  pub begin-done : first (boxChecks n m rows) ≡ Accepted → {copied : List ℕ} → copied ≡ rows
+      → record { n = n; m = m; rows = copied ++ drop (length rows) (replicate 256 0); marks = sixteen v } ≡ designOf (begin n m rows)
+  unfolding begin
+  begin-done h {copied} c =
+      fresh-is n m rows (copied ++ drop (length rows) (replicate 256 0)) v e (ap (λ (l : List ℕ). l ++ drop (length rows) (replicate 256 0)) c)
+      ∙ ap designOf (taken-over (begun n m rows) noBox h)
 
-    pub begin-done : state (fresh n m rows (copied ++ rest) v e) ≡ begin n m rows
-    unfolding begin
-    begin-done = fresh-is n m rows (copied ++ rest) v e copied-rows ∙ taken-over (begun n m rows) (begun 0 0 (0 ∷ [])) h
+-- ---- what the first check leaves known: there is a box in it
+module _ (d : Design) (b : inRange 1 8 (d .n) ≡ true) (s : Sound d) where
+  box-inside : Boxed (state d)
+  unfolding state noBox begun
+  box-inside = by-state (s .sound)
+    where
+      by-state : SoundState (state d) → Boxed (state d)
+      by-state (boxed t) = t
+      by-state (without e) = absurd (true≢false (sym b ∙ ap (λ (r : State). inRange 1 8 (r .n)) e))
 
-    pub begin-sound : Sound (fresh n m rows (copied ++ rest) v e)
-    begin-sound = subst SoundState (sym (fresh-is n m rows (copied ++ rest) v e copied-rows)) (sound-begun n m rows (box n m rows [] h))
+  box-room : 2 ^ d .n ≤ length (d .rows)
+  unfolding state
+  box-room = omega (arith, box-inside .box .size, length-take (2 ^ d .n) (d .rows))
 
 -- ---- swap
 module _ (d : Design) (x y : ℕ) where
-  pub swap-declined : {e : Refusal} → first (swapChecks (state d) x y) ≡ Refused e → state d ≡ swap (state d) x y
+  pub swap-refused : {e : Refusal} → first (swapChecks (state d) x y) ≡ Refused e → {r : Tuned} → (r .design ≡ d) × (r .answer ≡ Declined e)
+      → Swapped d x y (written (r .answer)) (r .design)
   unfolding swap
-  swap-declined h = left-alone (withRows (state d) (swapped (state d .rows) x y)) (state d) h
+  swap-refused h g = refused-so d (swapChecks (state d) x y) (withRows (state d) (swapped (state d .rows) x y)) (reply-refused h []) g
 
-  abbrev exchanged : Design
-  exchanged = record { n = d .n; m = d .m; rows = set (set (d .rows) x (at (d .rows) y)) y (at (d .rows) x); marks = d .marks }
+  module _ (b : inRange 1 8 (d .n) ≡ true) (lx : x < 2 ^ d .n) (ly : y < 2 ^ d .n) where
+    abbrev exchanged : Design
+    exchanged = record { n = d .n; m = d .m; rows = set (set (d .rows) x (at (d .rows) y)) y (at (d .rows) x); marks = d .marks }
 
-  module _ (lx : x < 2 ^ d .n) (ly : y < 2 ^ d .n) where
-    exchanged-rows : take (2 ^ d .n) (set (set (d .rows) x (at (d .rows) y)) y (at (d .rows) x)) ≡ swapped (take (2 ^ d .n) (d .rows)) x y
+    exchanged-rows : take (2 ^ d .n) (exchanged .rows) ≡ swapped (rowsOf d) x y
     unfolding swapped
     exchanged-rows =
         take-set-lt (2 ^ d .n) (set (d .rows) x (at (d .rows) y)) y (at (d .rows) x) ly
         ∙ ap (λ (l : List ℕ). set l y (at (d .rows) x)) (take-set-lt (2 ^ d .n) (d .rows) x (at (d .rows) y) lx)
-        ∙ ap (λ (v : ℕ). set (set (take (2 ^ d .n) (d .rows)) x v) y (at (d .rows) x)) (sym (getD-take (2 ^ d .n) (d .rows) y 0 ly))
-        ∙ ap (λ (v : ℕ). set (set (take (2 ^ d .n) (d .rows)) x (at (take (2 ^ d .n) (d .rows)) y)) y v) (sym (getD-take (2 ^ d .n) (d .rows) x 0 lx))
+        ∙ ap (λ (v : ℕ). set (set (rowsOf d) x v) y (at (d .rows) x)) (sym (getD-take (2 ^ d .n) (d .rows) y 0 ly))
+        ∙ ap (λ (v : ℕ). set (set (rowsOf d) x (at (rowsOf d) y)) y v) (sym (getD-take (2 ^ d .n) (d .rows) x 0 lx))
 
-    pub swap-passes : first (swapChecks (state d) x y) ≡ Accepted
-    unfolding state
-    swap-passes = swap-in (state d) x y lx ly
+    exchanged-only : Sound d → exchanged ≡ designOf (state exchanged)
+    exchanged-only s =
+        let room = box-room d b s in
+        let once = only-set (d .n) (d .rows) x (at (d .rows) y) room lx (only-rows d s) in
+        let same = length-set (d .rows) x (at (d .rows) y) in
+        holds-state exchanged (only-set (d .n) (set (d .rows) x (at (d .rows) y)) y (at (d .rows) x) (omega (arith, room, same)) ly once) (only-marks d s)
 
-    pub swap-done : state exchanged ≡ swap (state d) x y
+    pub swap-done : Swapped d x y (figures []) exchanged
     unfolding swap state
     swap-done =
-        ap (λ (r : List ℕ). record { n = d .n; m = d .m; rows = r; marks = marksHeld (d .n) (d .marks) }) exchanged-rows
-        ∙ taken-over (withRows (state d) (swapped (state d .rows) x y)) (state d) swap-passes
-
-    pub swap-sound : Sound d → Sound exchanged
-    swap-sound s = subst SoundState (sym swap-done) (sound-swap (state d) s x y)
+        done-so d (swapChecks (state d) x y) (withRows (state d) (swapped (state d .rows) x y)) exchanged (swap-in (state d) x y b lx ly)
+        (ap (λ (l : List ℕ). record { n = d .n; m = d .m; rows = l; marks = marksHeld (d .n) (d .marks) }) exchanged-rows) exchanged-only
 
 -- ---- mark
 module _ (d : Design) (k : ℕ) where
-  pub mark-declined : {e : Refusal} → first (markChecks k) ≡ Refused e → state d ≡ mark (state d) k
+  pub mark-refused : {e : Refusal} → first (markChecks (state d) k) ≡ Refused e → {r : Tuned} → (r .design ≡ d) × (r .answer ≡ Declined e)
+      → Marked d k (written (r .answer)) (r .design)
   unfolding mark
-  mark-declined h = left-alone (withMark (state d) k (keeps (state d .rows))) (state d) h
+  mark-refused h g = refused-so d (markChecks (state d) k) (withMark (state d) k (keeps (state d .rows))) (reply-refused h []) g
+
+  abbrev taken-now : Snapshot
+  taken-now = record { taken = 1; rows = d .rows }
 
   abbrev marked : Design
-  marked = record { n = d .n; m = d .m; rows = d .rows; marks = set (d .marks) (k - 1) (record { taken = 1; rows = d .rows }) }
+  marked = record { n = d .n; m = d .m; rows = d .rows; marks = set (d .marks) (k - 1) taken-now }
 
-  module _ (h : first (markChecks k) ≡ Accepted) where
-    pub mark-done : state marked ≡ mark (state d) k
-    unfolding mark state markHeld
-    mark-done =
-        ap (λ (l : List Mark). record { n = d .n; m = d .m; rows = rowsOf d; marks = l }) (marks-set (d .n) (d .marks) (k - 1) (record { taken = 1; rows = d .rows }))
-        ∙ taken-over (withMark (state d) k (keeps (state d .rows))) (state d) h
+  marked-only : Sound d → marked ≡ designOf (state marked)
+  unfolding markHeld
+  marked-only s =
+      holds-state marked (only-rows d s)
+      (ap (λ (l : List Snapshot). set l (k - 1) taken-now) (only-marks d s)
+      ∙ ap (λ (l : List ℕ). set (snapshotsOf (marksHeld (d .n) (d .marks))) (k - 1) (record { taken = 1; rows = l })) (only-rows d s)
+      ∙ snapshots-set (marksHeld (d .n) (d .marks)) (k - 1) (keeps (rowsOf d)) ∙ ap snapshotsOf (sym (marks-set (d .n) (d .marks) (k - 1) taken-now)))
 
-    pub mark-sound : Sound d → Sound marked
-    mark-sound s = subst SoundState (sym mark-done) (sound-mark (state d) s k)
+  pub mark-done : first (markChecks (state d) k) ≡ Accepted → Marked d k (figures []) marked
+  unfolding mark state markHeld
+  mark-done h =
+      done-so d (markChecks (state d) k) (withMark (state d) k (keeps (state d .rows))) marked h
+      (ap (λ (l : List Mark). record { n = d .n; m = d .m; rows = rowsOf d; marks = l }) (marks-set (d .n) (d .marks) (k - 1) taken-now)) marked-only
 
 -- ---- return
 module _ (d : Design) (k : ℕ) where
@@ -145,88 +190,99 @@ module _ (d : Design) (k : ℕ) where
   unfolding state markHeld
   set-at = sym (set-of (eqb (here .taken) 1) (take (2 ^ d .n) (here .rows))) ∙ ap isSet (sym (marks-at (d .n) (d .marks) (k - 1)))
 
-  pub return-declined : {e : Refusal} → first (returnChecks (state d) k) ≡ Refused e → state d ≡ returnTo (state d) k
+  pub return-refused : {e : Refusal} → first (returnChecks (state d) k) ≡ Refused e → {r : Tuned} → (r .design ≡ d) × (r .answer ≡ Declined e)
+      → Returned d k (written (r .answer)) (r .design)
   unfolding returnTo
-  return-declined h = left-alone (withRows (state d) (rowsKept (markAt (state d) k) (state d .rows))) (state d) h
+  return-refused h g = refused-so d (returnChecks (state d) k) (withRows (state d) (rowsKept (markAt (state d) k) (state d .rows))) (reply-refused h []) g
 
   abbrev restored : Design
   restored = record { n = d .n; m = d .m; rows = here .rows; marks = d .marks }
 
-  module _ (e : eqb (here .taken) 1 ≡ true) (h : first (returnChecks (state d) k) ≡ Accepted) where
+  module _ (b : inRange 1 8 (d .n) ≡ true) (low : 1 ≤ k) (high : k ≤ 16) (e : eqb (here .taken) 1 ≡ true) where
     restored-rows : take (2 ^ d .n) (here .rows) ≡ rowsKept (markAt (state d) k) (state d .rows)
     unfolding state markHeld
     restored-rows =
-        sym (ap (λ (b : Bool). rowsKept (markOf b (take (2 ^ d .n) (here .rows))) (rowsOf d)) e)
+        sym (ap (λ (t : Bool). rowsKept (markOf t (take (2 ^ d .n) (here .rows))) (rowsOf d)) e)
         ∙ ap (λ (x : Mark). rowsKept x (rowsOf d)) (sym (marks-at (d .n) (d .marks) (k - 1)))
 
-    pub return-done : state restored ≡ returnTo (state d) k
-    unfolding returnTo state
-    return-done =
-        ap (λ (r : List ℕ). record { n = d .n; m = d .m; rows = r; marks = marksHeld (d .n) (d .marks) }) restored-rows
-        ∙ taken-over (withRows (state d) (rowsKept (markAt (state d) k) (state d .rows))) (state d) h
+    here-only : Sound d → Only (d .n) (here .rows)
+    unfolding state markHeld
+    here-only s =
+        let inside : k - 1 < length (marksHeld (d .n) (d .marks)) = omega (arith, box-inside d b s .sixteen) in
+        ap (λ (l : List Snapshot). getD l (k - 1) nowhere .rows) (only-marks d s)
+        ∙ ap (λ (p : Snapshot). p .rows) (snapshots-at (marksHeld (d .n) (d .marks)) (k - 1) inside)
+        ∙ ap (λ (x : Mark). snapshotOf x .rows) (marks-at (d .n) (d .marks) (k - 1))
+        ∙ ap (λ (t : Bool). snapshotOf (markOf t (take (2 ^ d .n) (here .rows))) .rows) e
 
-    pub return-sound : Sound d → Sound restored
-    return-sound s = subst SoundState (sym return-done) (sound-return (state d) s k)
+    pub return-done : first (returnChecks (state d) k) ≡ Accepted → Returned d k (figures []) restored
+    unfolding returnTo state
+    return-done h =
+        done-so d (returnChecks (state d) k) (withRows (state d) (rowsKept (markAt (state d) k) (state d .rows))) restored h
+        (ap (λ (l : List ℕ). record { n = d .n; m = d .m; rows = l; marks = marksHeld (d .n) (d .marks) }) restored-rows)
+        (λ s. holds-state restored (here-only s) (only-marks d s))
 
 -- ---- add: on a sound design the checks of column addition are those of the model
-module _ (d : Design) (j w b size room : ℕ) (s : Sound d) (e : size ≡ 2 ^ d .n) (r : room ≡ size) where
+pub add-refused : (d : Design) (j w b : ℕ) → first (addChecks (state d) j w b) ≡ Refused Parameter → {r : Tuned} → (r .design ≡ d) × (r .answer ≡ Declined Parameter)
+    → Added d j w b (written (r .answer)) (r .design)
+unfolding add
+add-refused d j w b h g = record {
+  unchanged = λ k q. g .0;
+  operated = λ s. refused-so d (addChecks (state d) j w b) (withRows (state d) (addedRows j w b (state d .rows))) (reply-refused h []) g;
+}
+
+module _ (d : Design) (j w b size room : ℕ) (t : inRange 1 8 (d .n) ≡ true) (e : size ≡ 2 ^ d .n) (f : room ≡ size) where
   abbrev found-by-addition : Checked
   found-by-addition = first (additionChecks (d .n) (d .m) (take size (d .rows)) j w b room)
 
-  add-checks : found-by-addition ≡ first (addChecks (state d) j w b)
+  add-checks : Sound d → found-by-addition ≡ first (addChecks (state d) j w b)
   unfolding state
-  add-checks = ap (λ (k : ℕ). first (additionChecks (d .n) (d .m) (take k (d .rows)) j w b room)) e ∙ same-checks (state d) s j w b room (r ∙ e)
+  add-checks s =
+      ap (λ (k : ℕ). first (additionChecks (d .n) (d .m) (take k (d .rows)) j w b room)) e ∙ same-checks (state d) (box-inside d t s) j w b room (f ∙ e)
 
-  module _ (v : ℕ) (h : refusal v ≡ replyAfter found-by-addition []) where
-    pub add-declined-reply : refusal v ≡ replyAfter (first (addChecks (state d) j w b)) []
-    add-declined-reply = h ∙ ap (λ (k : Checked). replyAfter k []) add-checks
+  pub add-declined : {x : Refusal} → refusal (number x) ≡ replyAfter found-by-addition [] → {r : Tuned} → (r .design ≡ d) × (r .answer ≡ Declined x)
+      → Added d j w b (written (r .answer)) (r .design)
+  unfolding add
+  add-declined h g = record {
+    unchanged = λ k q. g .0;
+    operated = λ s.
+        refused-so d (addChecks (state d) j w b) (withRows (state d) (addedRows j w b (state d .rows))) (h ∙ ap (λ (k : Checked). replyAfter k []) (add-checks s)) g;
+  }
 
-    pub add-declined : state d ≡ add (state d) j w b
-    unfolding add
-    add-declined = declined-leaves (first (addChecks (state d) j w b)) v (withRows (state d) (addedRows j w b (state d .rows))) (state d) add-declined-reply
+  module _ (h : figures [] ≡ replyAfter found-by-addition []) (out old : List ℕ)
+      (c : out ≡ contentAfter found-by-addition (addedRows j w b (take size (d .rows))) old) where
+    abbrev added : Design
+    added = record { n = d .n; m = d .m; rows = out ++ drop size (replicate 256 0); marks = d .marks }
 
-  module _ (h : figures [] ≡ replyAfter found-by-addition []) where
-    pub add-done-reply : figures [] ≡ replyAfter (first (addChecks (state d) j w b)) []
-    add-done-reply = h ∙ ap (λ (k : Checked). replyAfter k []) add-checks
+    out-is : out ≡ addedRows j w b (rowsOf d)
+    out-is =
+        c ∙ ap (λ (k : Checked). contentAfter k (addedRows j w b (take size (d .rows))) old) (done-accepted found-by-addition h)
+        ∙ ap (λ (k : ℕ). addedRows j w b (take k (d .rows))) e
 
-    module _ (out rest old : List ℕ) (c : out ≡ contentAfter found-by-addition (addedRows j w b (take size (d .rows))) old) where
-      abbrev added : Design
-      added = record { n = d .n; m = d .m; rows = out ++ rest; marks = d .marks }
-
-      out-is : out ≡ addedRows j w b (take (2 ^ d .n) (d .rows))
-      out-is =
-          c ∙ ap (λ (k : Checked). contentAfter k (addedRows j w b (take size (d .rows))) old) (done-accepted found-by-addition h)
-          ∙ ap (λ (k : ℕ). addedRows j w b (take k (d .rows))) e
-
+    module _ (s : Sound d) where
       out-long : 2 ^ d .n ≡ length out
       out-long =
-          sym (length-take-le (2 ^ d .n) (d .rows) (sound-room d s)) ∙ sym (length-added j w b (take (2 ^ d .n) (d .rows))) ∙ ap length (sym out-is)
+          sym (length-take-le (2 ^ d .n) (d .rows) (box-room d t s)) ∙ sym (length-added j w b (rowsOf d)) ∙ ap length (sym out-is)
 
-      added-rows : take (2 ^ d .n) (out ++ rest) ≡ addedRows j w b (take (2 ^ d .n) (d .rows))
-      added-rows = ap (λ (k : ℕ). take k (out ++ rest)) out-long ∙ take-append-seam out rest ∙ out-is
+      out-first : take (2 ^ d .n) (added .rows) ≡ out
+      out-first = ap (λ (k : ℕ). take k (added .rows)) out-long ∙ take-append-seam out (drop size (replicate 256 0))
 
-      pub add-done : state added ≡ add (state d) j w b
+      added-only : added ≡ designOf (state added)
+      added-only =
+          holds-state added (ap (λ (k : ℕ). out ++ drop k (replicate 256 0)) (e ∙ out-long) ∙ ap filled (sym out-first)) (only-marks d s)
+
+      add-operated : Operated d (addChecks (state d) j w b) (add (state d) j w b) (figures []) added
       unfolding add state
-      add-done =
-          ap (λ (l : List ℕ). record { n = d .n; m = d .m; rows = l; marks = marksHeld (d .n) (d .marks) }) added-rows
-          ∙ taken-over (withRows (state d) (addedRows j w b (state d .rows))) (state d) (sym add-checks ∙ done-accepted found-by-addition h)
+      add-operated =
+          done-so d (addChecks (state d) j w b) (withRows (state d) (addedRows j w b (state d .rows))) added
+          (sym (add-checks s) ∙ done-accepted found-by-addition h)
+          (ap (λ (l : List ℕ). record { n = d .n; m = d .m; rows = l; marks = marksHeld (d .n) (d .marks) }) (out-first ∙ out-is)) (λ u. added-only)
 
-      pub add-sound : Sound added
-      add-sound = subst SoundState (sym add-done) (sound-add (state d) s j w b)
+    pub add-done : Added d j w b (figures []) added
+    add-done = record { unchanged = λ k q. absurd (not-refused q); operated = add-operated }
 
 -- ---- numbers that the code tests
-pub inside : (n x : ℕ) {size : ℕ} → n ≤ 8 → size ≡ 2 ^ n → x < size → x < 256
-inside n x {size} h e l = let p : 2 ^ n ≤ 2 ^ 8 = pow-mono h in omega (arith, p, e, l)
+pub inside : (n x : ℕ) {size : ℕ} → inRange 1 8 n ≡ true → size ≡ 2 ^ n → x < size → x < 256
+inside n x {size} b e l = let p : 2 ^ n ≤ 2 ^ 8 = pow-mono (range-high 1 8 n b) in omega (arith, p, e, l)
 
-pub few : (n : ℕ) {size : ℕ} → n ≤ 8 → size ≡ 2 ^ n → size ≤ 256
-few n {size} h e = let p : 2 ^ n ≤ 2 ^ 8 = pow-mono h in omega (arith, p, e)
-
--- ---- the checks of reading, by the tests that the code runs
-module _ (d : Design) (room : ℕ) {size : ℕ} (e : size ≡ 2 ^ d .n) where
-  pub read-refused : (room ≡ size → ⊥) → first (readChecks (state d) room) ≡ Refused WrittenLength
-  unfolding readChecks state
-  read-refused h = sym (found (stop (differs e h)))
-
-  pub read-passed : room ≡ size → first (readChecks (state d) room) ≡ Accepted
-  unfolding readChecks state
-  read-passed h = sym (found (skip (equals e h) end))
+pub few : (n : ℕ) {size : ℕ} → inRange 1 8 n ≡ true → size ≡ 2 ^ n → size ≤ 256
+few n {size} b e = let p : 2 ^ n ≤ 2 ^ 8 = pow-mono (range-high 1 8 n b) in omega (arith, p, e)

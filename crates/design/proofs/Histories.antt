@@ -19,33 +19,38 @@ use Rattle.refusals.specs.declared.Checked.{Checked}
 use Rattle.refusals.specs.declared.Checked.the-variants.{Accepted, Refused}
 use Rattle.refusals.proofs.Checks.{passed, found, skip, stop, end, box-accepted}
 use Rattle.refusals.proofs.Bounds.{range-low, range-true}
-use Rattle.design.specs.Model.{Mark, unset, keeps, State, begun, markAt, isSet, rowsKept, withRows, withMark, swapChecks, addChecks, markChecks, returnChecks, stateAfter, swap, add, mark, returnTo, SoundState}
+use Rattle.design.specs.Model.{Mark, unset, keeps, State, begun, noBox, markAt, isSet, rowsKept, withRows, withMark, swapChecks, addChecks, markChecks, returnChecks, stateAfter, swap, add, mark, returnTo, Boxed, SoundState, boxed, without}
 use Rattle.design.specs.Statements.{Operation, swaps, adds, sets, returns, after, run, leaves, onlySwaps, givenBy, LastSet}
 use Rattle.columns.specs.Addition.{addedRows, additionChecked, standing}
 use Rattle.boolean.proofs.Swapped.{length-swapped, swapped-first, swapped-second, swapped-other}
 use Rattle.design.proofs.Rows.{times-swapped}
-use Rattle.design.proofs.Operations.{after-cases, not-both, same-checks, sound-begun, sound-swap, sound-after}
+use Rattle.design.proofs.Operations.{after-cases, not-both, same-checks, boxed-begun, boxed-has, boxed-after, none-after, sound-after}
 
 pub run-append : (s : State) (xs ys : List Operation) → run s (xs ++ ys) ≡ run (run s xs) ys
 unfolding run
 run-append s [] ys = refl
 run-append s (x ∷ xs) ys = run-append (after s x) xs ys
 
--- ---- the box stays accepted throughout
-pub sound-run : (s : State) → SoundState s → (os : List Operation) → SoundState (run s os)
+-- ---- the box stays accepted throughout; without one there is none afterwards
+pub boxed-run : (s : State) → Boxed s → (os : List Operation) → Boxed (run s os)
 unfolding run
-sound-run s t [] = t
-sound-run s t (o ∷ os) = sound-run (after s o) (sound-after s t o) os
+boxed-run s t [] = t
+boxed-run s t (o ∷ os) = boxed-run (after s o) (boxed-after s t o) os
 
-pub box-stays : (s : State) → SoundState s → (os : List Operation) → first (boxChecks (run s os .n) (run s os .m) (run s os .rows)) ≡ Accepted
-box-stays s t os = box-accepted (run s os .n) (run s os .m) (run s os .rows) (sound-run s t os .box)
+pub box-stays : (s : State) → Boxed s → (os : List Operation) → first (boxChecks (run s os .n) (run s os .m) (run s os .rows)) ≡ Accepted
+box-stays s t os = box-accepted (run s os .n) (run s os .m) (run s os .rows) (boxed-run s t os .box)
+
+pub none-run : (os : List Operation) → run noBox os ≡ noBox
+unfolding run
+none-run [] = refl
+none-run (o ∷ os) = ap (λ (r : State). run r os) (none-after o) ∙ none-run os
 
 -- ---- the widths stay
 widths-after : (s : State) (o : Operation) → (after s o .n ≡ s .n) × (after s o .m ≡ s .m)
 unfolding after swap add mark returnTo
 widths-after s (swaps x y) = after-cases (first (swapChecks s x y)) (withRows s (swapped (s .rows) x y)) s (λ r. (r .n ≡ s .n) × (r .m ≡ s .m)) (λ h. (refl, refl)) (refl, refl)
 widths-after s (adds j w b) = after-cases (first (addChecks s j w b)) (withRows s (addedRows j w b (s .rows))) s (λ r. (r .n ≡ s .n) × (r .m ≡ s .m)) (λ h. (refl, refl)) (refl, refl)
-widths-after s (sets k) = after-cases (first (markChecks k)) (withMark s k (keeps (s .rows))) s (λ r. (r .n ≡ s .n) × (r .m ≡ s .m)) (λ h. (refl, refl)) (refl, refl)
+widths-after s (sets k) = after-cases (first (markChecks s k)) (withMark s k (keeps (s .rows))) s (λ r. (r .n ≡ s .n) × (r .m ≡ s .m)) (λ h. (refl, refl)) (refl, refl)
 widths-after s (returns k) = after-cases (first (returnChecks s k)) (withRows s (rowsKept (markAt s k) (s .rows))) s (λ r. (r .n ≡ s .n) × (r .m ≡ s .m)) (λ h. (refl, refl)) (refl, refl)
 
 pub widths-stay : (s : State) (os : List Operation) → (run s os .n ≡ s .n) × (run s os .m ≡ s .m)
@@ -73,8 +78,8 @@ marks-remain-return s k = after-cases (first (returnChecks s k)) (withRows s (ro
 other-mark : (s : State) (q k : ℕ) → 1 ≤ k → (q ≡ k → ⊥) → markAt (mark s q) k ≡ markAt s k
 unfolding mark markChecks
 other-mark s q k low ne =
-    after-cases (first (markChecks q)) (withMark s q (keeps (s .rows))) s (λ r. markAt r k ≡ markAt s k)
-    (λ h. let p = range-low 1 16 q (passed (markChecks q) h .0) in getD-set-other (s .marks) (q - 1) (k - 1) (keeps (s .rows)) unset (λ e. ne (omega (arith, e, p, low)))) refl
+    after-cases (first (markChecks s q)) (withMark s q (keeps (s .rows))) s (λ r. markAt r k ≡ markAt s k)
+    (λ h. let p = range-low 1 16 q (passed (markChecks s q) h .1 .0) in getD-set-other (s .marks) (q - 1) (k - 1) (keeps (s .rows)) unset (λ e. ne (omega (arith, e, p, low)))) refl
 
 module _ (k : ℕ) (low : 1 ≤ k) where
   -- operations that do not set mark k leave it
@@ -93,68 +98,76 @@ module _ (k : ℕ) (low : 1 ≤ k) where
 
   module _ (high : k ≤ 16) where
     -- setting keeps the box of the moment, whatever the mark had before
-    pub mark-keeps : (s : State) → SoundState s → markAt (mark s k) k ≡ keeps (s .rows)
+    pub mark-keeps : (s : State) → Boxed s → markAt (mark s k) k ≡ keeps (s .rows)
     unfolding mark markChecks
     mark-keeps s t =
-        ap (λ (c : Checked). markAt (stateAfter c (withMark s k (keeps (s .rows))) s) k) (sym (found (skip (range-true 1 16 k low high) end)))
+        ap (λ (c : Checked). markAt (stateAfter c (withMark s k (keeps (s .rows))) s) k)
+        (sym (found (skip (boxed-has s t) (skip (range-true 1 16 k low high) end))))
         ∙ getD-set-same (s .marks) (k - 1) (keeps (s .rows)) unset (omega (arith, t .sixteen, low, high))
 
     -- returning to a mark that has rows is accepted, and brings them back
-    pub held-accepted : (s : State) (rows : List ℕ) → markAt s k ≡ keeps rows → first (returnChecks s k) ≡ Accepted
+    pub held-accepted : (s : State) → Boxed s → (rows : List ℕ) → markAt s k ≡ keeps rows → first (returnChecks s k) ≡ Accepted
     unfolding returnChecks
-    held-accepted s rows e = sym (found (skip (range-true 1 16 k low high) (skip (ap isSet e) end)))
+    held-accepted s t rows e = sym (found (skip (boxed-has s t) (skip (range-true 1 16 k low high) (skip (ap isSet e) end))))
 
-    pub held-returns : (s : State) (rows : List ℕ) → markAt s k ≡ keeps rows → returnTo s k ≡ withRows s rows
+    pub held-returns : (s : State) → Boxed s → (rows : List ℕ) → markAt s k ≡ keeps rows → returnTo s k ≡ withRows s rows
     unfolding returnTo
-    held-returns s rows e =
-        ap (λ (c : Checked). stateAfter c (withRows s (rowsKept (markAt s k) (s .rows))) s) (held-accepted s rows e)
+    held-returns s t rows e =
+        ap (λ (c : Checked). stateAfter c (withRows s (rowsKept (markAt s k) (s .rows))) s) (held-accepted s t rows e)
         ∙ ap (λ (x : Mark). withRows s (rowsKept x (s .rows))) e
 
     -- ---- right after a return the box is the one of the moment when the mark was last set
-    module _ (s : State) (t : SoundState s) (later : List Operation) (h : leaves k later ≡ true) where
+    module _ (s : State) (t : Boxed s) (later : List Operation) (h : leaves k later ≡ true) where
+      abbrev marked : State
+      marked = run s (sets k ∷ later)
+
       abbrev history : List Operation
       history = (sets k ∷ later) ++ (returns k ∷ [])
 
-      held : markAt (run s (sets k ∷ later)) k ≡ keeps (s .rows)
+      held : markAt marked k ≡ keeps (s .rows)
       unfolding run after
       held = mark-stays (mark s k) later h ∙ mark-keeps s t
 
-      pub return-accepted : first (returnChecks (run s (sets k ∷ later)) k) ≡ Accepted
-      return-accepted = held-accepted (run s (sets k ∷ later)) (s .rows) held
+      pub return-accepted : first (returnChecks marked k) ≡ Accepted
+      return-accepted = held-accepted marked (boxed-run s t (sets k ∷ later)) (s .rows) held
 
-      returned : run s history ≡ withRows (run s (sets k ∷ later)) (s .rows)
+      returned : run s history ≡ withRows marked (s .rows)
       unfolding run after
-      returned = run-append s (sets k ∷ later) (returns k ∷ []) ∙ held-returns (run s (sets k ∷ later)) (s .rows) held
-
-      pub rows-return : run s history .rows ≡ s .rows
-      rows-return = ap (λ (r : State). r .rows) returned
-
-      -- so every figure is
-      pub figure-returns : {A : Type 0} (figure : ℕ → ℕ → List ℕ → A) → figure (run s history .n) (run s history .m) (run s history .rows) ≡ figure (s .n) (s .m) (s .rows)
-      figure-returns {A} figure =
-          let w = widths-stay s history in
-          ap (λ (r : List ℕ). figure (run s history .n) (run s history .m) r) rows-return
-          ∙ ap (λ (n : ℕ). figure n (run s history .m) (s .rows)) (w .0) ∙ ap (λ (m : ℕ). figure (s .n) m (s .rows)) (w .1)
+      returned =
+          run-append s (sets k ∷ later) (returns k ∷ []) ∙ held-returns marked (boxed-run s t (sets k ∷ later)) (s .rows) held
 
       -- and all marks remain, that one too
-      pub marks-return : run s history .marks ≡ run s (sets k ∷ later) .marks
+      pub marks-return : run s history .marks ≡ marked .marks
       marks-return = ap (λ (r : State). r .marks) returned
+
+    -- so the rows are those of that moment; without a box there is nothing that changes
+    pub rows-return : (s : State) → SoundState s → (later : List Operation) → leaves k later ≡ true → run s ((sets k ∷ later) ++ (returns k ∷ [])) .rows ≡ s .rows
+    rows-return s (boxed t) later h = ap (λ (r : State). r .rows) (returned s t later h)
+    rows-return s (without e) later h =
+        let os = (sets k ∷ later) ++ (returns k ∷ []) in
+        ap (λ (r : State). r .rows) (ap (λ (r : State). run r os) e ∙ none-run os ∙ sym e)
 
 -- ---- only swaps: each output value is given by as many inputs as before
 swap-gives : (s : State) → SoundState s → (x y v : ℕ) → givenBy (swap s x y) v ≡ givenBy s v
-unfolding swap givenBy swapChecks
-swap-gives s t x y v =
+unfolding swap givenBy swapChecks after
+swap-gives s (boxed t) x y v =
     after-cases (first (swapChecks s x y)) (withRows s (swapped (s .rows) x y)) s (λ r. givenBy r v ≡ givenBy s v)
     (λ h.
-    let p = passed (swapChecks s x y) h in
+    let p = passed (swapChecks s x y) h .1 in
     times-swapped v x y (s .rows) (2 ^ s .n) (t .box .size) (ltb-true x (2 ^ s .n) (p .0)) (ltb-true y (2 ^ s .n) (p .1 .0))) refl
+swap-gives s (without e) x y v = ap (λ (r : State). givenBy r v) (ap (λ (r : State). after r (swaps x y)) e ∙ none-after (swaps x y) ∙ sym e)
+
+-- setting a mark leaves the box
+mark-gives : (s : State) (k v : ℕ) → givenBy (mark s k) v ≡ givenBy s v
+unfolding mark givenBy
+mark-gives s k v = after-cases (first (markChecks s k)) (withMark s k (keeps (s .rows))) s (λ r. givenBy r v ≡ givenBy s v) (λ h. refl) refl
 
 pub swaps-give : (s : State) → SoundState s → (os : List Operation) → onlySwaps os ≡ true → (v : ℕ) → givenBy (run s os) v ≡ givenBy s v
 unfolding run after onlySwaps
 swaps-give s t [] h v = refl
-swaps-give s t (swaps x y ∷ os) h v = swaps-give (swap s x y) (sound-swap s t x y) os h v ∙ swap-gives s t x y v
+swaps-give s t (swaps x y ∷ os) h v = swaps-give (swap s x y) (sound-after s t (swaps x y)) os h v ∙ swap-gives s t x y v
 swaps-give s t (adds j w b ∷ os) h v = cc
-swaps-give s t (sets k ∷ os) h v = cc
+swaps-give s t (sets k ∷ os) h v = swaps-give (mark s k) (sound-after s t (sets k)) os h v ∙ mark-gives s k v
 swaps-give s t (returns k ∷ os) h v = cc
 
 -- ---- a swap of an input with itself, or of two equal rows, is accepted and changes nothing
@@ -171,7 +184,7 @@ rows-after : (k : Checked) (s : State) (new : List ℕ) → stateAfter k (withRo
 rows-after Accepted s new = refl
 rows-after (Refused e) s new = refl
 
-pub add-outcome : (s : State) → SoundState s → (j w b : ℕ)
+pub add-outcome : (s : State) → Boxed s → (j w b : ℕ)
     → add s j w b .rows ≡ standing (s .n) (s .m) (s .rows) (record { column = j; mask = w; constant = b; lent = s .rows })
 unfolding add standing additionChecked
 add-outcome s t j w b =
@@ -180,8 +193,12 @@ add-outcome s t j w b =
 
 -- ---- 6 comes before 17
 pub six-first : (s : State) (k : ℕ) → inRange 1 16 k ≡ false → first (returnChecks s k) ≡ Refused Parameter
-unfolding returnChecks
-six-first s k h = sym (found (stop h))
+unfolding returnChecks first
+six-first s k h = either (inRange 1 8 (s .n)) refl
+  where
+    either : (b : Bool) → inRange 1 8 (s .n) ≡ b → first (returnChecks s k) ≡ Refused Parameter
+    either true e = sym (found {cs = returnChecks s k} (skip e (stop h)))
+    either false e = sym (found {cs = returnChecks s k} (stop e))
 
 -- ---- when a mark was last set
 longer : {k : ℕ} {os : List Operation} (o : Operation) → LastSet k os → LastSet k (o ∷ os)
@@ -210,26 +227,34 @@ pub begins-unset : (n m : ℕ) (rows : List ℕ) (k : ℕ) → markAt (begun n m
 unfolding begun listBelow
 begins-unset n m rows k = none-set 0 16 (k - 1)
 
-module _ (n m : ℕ) (rows : List ℕ) (k : ℕ) (low : 1 ≤ k) (high : k ≤ 16) (os : List Operation) where
+module _ (n m : ℕ) (rows : List ℕ) (b : Box n m rows) (k : ℕ) (low : 1 ≤ k) (high : k ≤ 16) (os : List Operation) where
   abbrev now : State
   now = run (begun n m rows) os
 
-  -- 17, exactly where no operation set the mark
+  now-boxed : Boxed now
+  now-boxed = boxed-run (begun n m rows) (boxed-begun n m rows b) os
+
+  -- where none did, it is refused by 17
   pub never-set : leaves k os ≡ true → first (returnChecks now k) ≡ Refused UnsetMark
   unfolding returnChecks
   never-set h =
-      sym (found (skip (range-true 1 16 k low high) (stop (ap isSet (mark-stays k low (begun n m rows) os h ∙ begins-unset n m rows k)))))
+      sym (found (skip (boxed-has now now-boxed) (skip (range-true 1 16 k low high)
+      (stop (ap isSet (mark-stays k low (begun n m rows) os h ∙ begins-unset n m rows k))))))
 
-  module _ (b : Box n m rows) where
-    split-held : (p : LastSet k os) → markAt now k ≡ keeps (run (begun n m rows) (p .earlier) .rows)
-    unfolding run after
-    split-held p =
-        let s = run (begun n m rows) (p .earlier) in
-        ap (λ (l : List Operation). markAt (run (begun n m rows) l) k) (p .splits)
-        ∙ ap (λ (r : State). markAt r k) (run-append (begun n m rows) (p .earlier) (sets k ∷ p .later))
-        ∙ mark-stays k low (mark s k) (p .later) (p .left) ∙ mark-keeps k low high s (sound-run (begun n m rows) (sound-begun n m rows b) (p .earlier))
+  split-held : (p : LastSet k os) → markAt now k ≡ keeps (run (begun n m rows) (p .earlier) .rows)
+  unfolding run after
+  split-held p =
+      let s = run (begun n m rows) (p .earlier) in
+      ap (λ (l : List Operation). markAt (run (begun n m rows) l) k) (p .splits)
+      ∙ ap (λ (r : State). markAt r k) (run-append (begun n m rows) (p .earlier) (sets k ∷ p .later))
+      ∙ mark-stays k low (mark s k) (p .later) (p .left) ∙ mark-keeps k low high s (boxed-run (begun n m rows) (boxed-begun n m rows b) (p .earlier))
 
-    -- a return that is accepted brings back the rows of the moment before the last operation that set the mark
-    pub accepted-return : first (returnChecks now k) ≡ Accepted → (p : LastSet k os) × (returnTo now k ≡ withRows now (run (begun n m rows) (p .earlier) .rows))
-    accepted-return h =
-        ⊎-elim (λ q. absurd (not-both (never-set q) h)) (λ p. (p, held-returns k low high now (run (begun n m rows) (p .earlier) .rows) (split-held p))) (last-or-none k os)
+  -- where an operation set the mark, the return is accepted
+  pub set-accepted : LastSet k os → first (returnChecks now k) ≡ Accepted
+  set-accepted p = held-accepted k low high now now-boxed (run (begun n m rows) (p .earlier) .rows) (split-held p)
+
+  -- a return that is accepted brings back the rows of the moment before the last operation that set the mark
+  pub accepted-return : first (returnChecks now k) ≡ Accepted → (p : LastSet k os) × (returnTo now k ≡ withRows now (run (begun n m rows) (p .earlier) .rows))
+  accepted-return h =
+      ⊎-elim (λ q. absurd (not-both (never-set q) h))
+      (λ p. (p, held-returns k low high now now-boxed (run (begun n m rows) (p .earlier) .rows) (split-held p))) (last-or-none k os)

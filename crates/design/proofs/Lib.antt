@@ -1,5 +1,6 @@
 pub mod Rows
 pub mod Operations
 pub mod Histories
+pub mod Whole
 pub mod Held
 pub mod Theorems

@@ -14,12 +14,12 @@ use Rattle.refusals.specs.declared.Refusal.{Refusal}
 use Rattle.refusals.specs.declared.Refusal.the-variants.{Parameter, WrittenLength}
 use Rattle.refusals.specs.declared.Checked.{Checked}
 use Rattle.refusals.specs.declared.Checked.the-variants.{Accepted, Refused}
-use Rattle.refusals.proofs.Checks.{passed, found, first-append, box-accepted, skip, stop, end}
-use Rattle.refusals.proofs.Bounds.{range-low, range-high}
+use Rattle.refusals.proofs.Checks.{passed, found, first-passed, first-append, box, box-accepted, skip, stop, end}
+use Rattle.refusals.proofs.Bounds.{range-low, range-high, range-true}
 use Rattle.columns.specs.Addition.{addedRows, additionChecks}
 use Rattle.columns.proofs.Additions.{Fits, addition-keeps-box}
-use Rattle.design.specs.Model.{Mark, unset, keeps, State, begun, markAt, rowsKept, withRows, withMark, swapChecks, addChecks, markChecks, returnChecks, stateAfter, swap, add, mark, returnTo, SoundMark, SoundMarks, SoundState}
-use Rattle.design.specs.Statements.{Operation, swaps, adds, sets, returns, after}
+use Rattle.design.specs.Model.{Mark, unset, keeps, State, begun, noBox, markAt, rowsKept, withRows, withMark, swapChecks, addChecks, markChecks, returnChecks, readChecks, stateAfter, begin, swap, add, mark, returnTo, SoundMark, SoundMarks, Boxed, SoundState, boxed, without}
+use Rattle.design.specs.Statements.{Operation, swaps, adds, sets, returns, checksOf, after}
 use Rattle.refusals.proofs.Swapped.{swapped-box}
 
 -- what holds of both outcomes
@@ -65,26 +65,30 @@ kept-box : (n m : ℕ) (x : Mark) (rows : List ℕ) → SoundMark n m x → Box 
 kept-box n m unset rows h b = b
 kept-box n m (keeps kept) rows h b = h
 
--- ---- a design begins sound, and each operation keeps it so
-pub sound-begun : (n m : ℕ) (rows : List ℕ) → Box n m rows → SoundState (begun n m rows)
+-- ---- a design of a box begins with it, and each operation keeps it
+pub boxed-begun : (n m : ℕ) (rows : List ℕ) → Box n m rows → Boxed (begun n m rows)
 unfolding begun listBelow listFrom
-sound-begun n m rows b = record {
+boxed-begun n m rows b = record {
   box = b;
   kept = (tt, (tt, (tt, (tt, (tt, (tt, (tt, (tt, (tt, (tt, (tt, (tt, (tt, (tt, (tt, (tt, tt))))))))))))))));
   sixteen = refl;
 }
 
-module _ (s : State) (t : SoundState s) where
-  pub sound-swap : (x y : ℕ) → SoundState (swap s x y)
+module _ (s : State) (t : Boxed s) where
+  -- so the first line of every operation's checks is passed
+  pub boxed-has : inRange 1 8 (s .n) ≡ true
+  boxed-has = range-true 1 8 (s .n) (t .box .n-low) (t .box .n-high)
+
+  boxed-swap : (x y : ℕ) → Boxed (swap s x y)
   unfolding swap
-  sound-swap x y =
-      after-cases (first (swapChecks s x y)) (withRows s (swapped (s .rows) x y)) s SoundState
+  boxed-swap x y =
+      after-cases (first (swapChecks s x y)) (withRows s (swapped (s .rows) x y)) s Boxed
       (λ h. record { box = swapped-box (t .box) x y; kept = t .kept; sixteen = t .sixteen }) t
 
   pub add-fits : (j w b : ℕ) → first (addChecks s j w b) ≡ Accepted → Fits (s .n) (s .m) (record { column = j; mask = w; constant = b; lent = s .rows })
   unfolding addChecks
   add-fits j w b h =
-      let p = passed (addChecks s j w b) h in
+      let p = passed (addChecks s j w b) h .1 in
       record {
         column-low = range-low 1 (s .m) j (p .0);
         column-high = range-high 1 (s .m) j (p .0);
@@ -93,42 +97,71 @@ module _ (s : State) (t : SoundState s) where
         room = t .box .size;
       }
 
-  pub sound-add : (j w b : ℕ) → SoundState (add s j w b)
+  boxed-add : (j w b : ℕ) → Boxed (add s j w b)
   unfolding add
-  sound-add j w b =
-      after-cases (first (addChecks s j w b)) (withRows s (addedRows j w b (s .rows))) s SoundState
+  boxed-add j w b =
+      after-cases (first (addChecks s j w b)) (withRows s (addedRows j w b (s .rows))) s Boxed
       (λ h. record {
         box = addition-keeps-box (s .n) (s .m) (s .rows) (t .box) (record { column = j; mask = w; constant = b; lent = s .rows }) (add-fits j w b h);
         kept = t .kept;
         sixteen = t .sixteen;
       }) t
 
-  pub sound-mark : (k : ℕ) → SoundState (mark s k)
+  boxed-mark : (k : ℕ) → Boxed (mark s k)
   unfolding mark
-  sound-mark k =
-      after-cases (first (markChecks k)) (withMark s k (keeps (s .rows))) s SoundState
+  boxed-mark k =
+      after-cases (first (markChecks s k)) (withMark s k (keeps (s .rows))) s Boxed
       (λ h. record {
         box = t .box;
         kept = sound-set (s .n) (s .m) (s .marks) (k - 1) (keeps (s .rows)) (t .kept) (t .box);
         sixteen = length-set (s .marks) (k - 1) (keeps (s .rows)) ∙ t .sixteen;
       }) t
 
-  pub sound-return : (k : ℕ) → SoundState (returnTo s k)
+  boxed-return : (k : ℕ) → Boxed (returnTo s k)
   unfolding returnTo
-  sound-return k =
-      after-cases (first (returnChecks s k)) (withRows s (rowsKept (markAt s k) (s .rows))) s SoundState
+  boxed-return k =
+      after-cases (first (returnChecks s k)) (withRows s (rowsKept (markAt s k) (s .rows))) s Boxed
       (λ h. record {
         box = kept-box (s .n) (s .m) (markAt s k) (s .rows) (sound-at (s .n) (s .m) (s .marks) (k - 1) (t .kept)) (t .box);
         kept = t .kept;
         sixteen = t .sixteen;
       }) t
 
-  pub sound-after : (o : Operation) → SoundState (after s o)
+  pub boxed-after : (o : Operation) → Boxed (after s o)
   unfolding after
-  sound-after (swaps x y) = sound-swap x y
-  sound-after (adds j w b) = sound-add j w b
-  sound-after (sets k) = sound-mark k
-  sound-after (returns k) = sound-return k
+  boxed-after (swaps x y) = boxed-swap x y
+  boxed-after (adds j w b) = boxed-add j w b
+  boxed-after (sets k) = boxed-mark k
+  boxed-after (returns k) = boxed-return k
+
+-- ---- without a box every operation is refused, and there is none afterwards; reading is refused too
+pub none-refuses : (o : Operation) → first (checksOf noBox o) ≡ Refused Parameter
+unfolding checksOf swapChecks addChecks markChecks returnChecks first noBox begun
+none-refuses (swaps x y) = refl
+none-refuses (adds j w b) = refl
+none-refuses (sets k) = refl
+none-refuses (returns k) = refl
+
+pub none-unread : (room : ℕ) → first (readChecks noBox room) ≡ Refused WrittenLength
+unfolding readChecks first noBox begun
+none-unread room = refl
+
+pub none-after : (o : Operation) → after noBox o ≡ noBox
+unfolding after swap add mark returnTo swapChecks addChecks markChecks returnChecks first noBox begun
+none-after (swaps x y) = refl
+none-after (adds j w b) = refl
+none-after (sets k) = refl
+none-after (returns k) = refl
+
+-- ---- so a design begins sound, and each operation keeps it so
+pub sound-begin : (n m : ℕ) (rows : List ℕ) → SoundState (begin n m rows)
+unfolding begin
+sound-begin n m rows =
+    after-cases (first (boxChecks n m rows)) (begun n m rows) noBox SoundState (λ h. boxed (boxed-begun n m rows (box n m rows [] h))) (without refl)
+
+pub sound-after : (s : State) → SoundState s → (o : Operation) → SoundState (after s o)
+sound-after s (boxed t) o = boxed (boxed-after s t o)
+sound-after s (without e) o = without (ap (λ (r : State). after r o) e ∙ none-after o)
 
 -- ---- add has the outcome of column addition: on a box, with an array as long as the rows, the checks find the same
 first-last : (e : Refusal) (ok : Bool) (cs : List Check) → ok ≡ true → first (cs ++ ((e unless ok) ∷ [])) ≡ first cs
@@ -137,23 +170,24 @@ first-last e ok [] h = rw h
 first-last e ok ((f unless true) ∷ cs) h = first-last e ok cs h
 first-last e ok ((f unless false) ∷ cs) h = refl
 
-pub same-checks : (s : State) → SoundState s → (j w b room : ℕ) → room ≡ 2 ^ s .n → first (additionChecks (s .n) (s .m) (s .rows) j w b room) ≡ first (addChecks s j w b)
+pub same-checks : (s : State) → Boxed s → (j w b room : ℕ) → room ≡ 2 ^ s .n → first (additionChecks (s .n) (s .m) (s .rows) j w b room) ≡ first (addChecks s j w b)
 unfolding additionChecks addChecks
 same-checks s t j w b room e =
     first-append (boxChecks (s .n) (s .m) (s .rows)) _ (box-accepted (s .n) (s .m) (s .rows) (t .box))
     ∙ first-last WrittenLength (eqb room (2 ^ s .n))
     ((Parameter unless inRange 1 (s .m) j) ∷ (Parameter unless ltb w (2 ^ s .n)) ∷ (Parameter unless ltb b 2) ∷ []) (eq-eqb room (2 ^ s .n) e)
+    ∙ sym (first-passed Parameter (inRange 1 8 (s .n)) _ (boxed-has s t))
 
 -- ---- the checks of a swap, by the tests that the code runs
-module _ (s : State) (x y : ℕ) where
+module _ (s : State) (x y : ℕ) (b : inRange 1 8 (s .n) ≡ true) where
   pub swap-first-out : 2 ^ s .n ≤ x → first (swapChecks s x y) ≡ Refused Parameter
   unfolding swapChecks
-  swap-first-out h = sym (found (stop (le-ltb x (2 ^ s .n) h)))
+  swap-first-out h = sym (found (skip b (stop (le-ltb x (2 ^ s .n) h))))
 
   pub swap-second-out : x < 2 ^ s .n → 2 ^ s .n ≤ y → first (swapChecks s x y) ≡ Refused Parameter
   unfolding swapChecks
-  swap-second-out l h = sym (found (skip (lt-ltb x (2 ^ s .n) l) (stop (le-ltb y (2 ^ s .n) h))))
+  swap-second-out l h = sym (found (skip b (skip (lt-ltb x (2 ^ s .n) l) (stop (le-ltb y (2 ^ s .n) h)))))
 
   pub swap-in : x < 2 ^ s .n → y < 2 ^ s .n → first (swapChecks s x y) ≡ Accepted
   unfolding swapChecks
-  swap-in l h = sym (found (skip (lt-ltb x (2 ^ s .n) l) (skip (lt-ltb y (2 ^ s .n) h) end)))
+  swap-in l h = sym (found (skip b (skip (lt-ltb x (2 ^ s .n) l) (skip (lt-ltb y (2 ^ s .n) h) end))))

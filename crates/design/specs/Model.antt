@@ -6,7 +6,7 @@ use mathlib.Core.List.{List, [], _∷_}
 use lib.Dec.{ltb, eqb}
 use lib.ListN.{length, getD, set}
 use Rattle.boolean.specs.Sums.{listBelow}
-use Rattle.boolean.specs.Functions.{at, swapped}
+use Rattle.boolean.specs.Functions.{swapped}
 use Rattle.refusals.specs.Table.{Check, _unless_, first, inRange, boxChecks, Box}
 use Rattle.refusals.specs.declared.Refusal.the-variants.{Parameter, WrittenLength, UnsetMark}
 use Rattle.refusals.specs.declared.Checked.{Checked}
@@ -25,12 +25,21 @@ pub record State : Type 0 where
   pub marks : List Mark
 
 -- a box, and no mark set
-unfoldable pub begun : ℕ → ℕ → List ℕ → State
+unfoldable pub begun : (n m : ℕ) (rows : List ℕ) → State
 unfolding listBelow
 begun n m rows = record { n = n; m = m; rows = rows; marks = listBelow 16 (λ i. unset) }
 
+-- a design without a box, as a refused `begin` gives it: no inputs and no outputs, one row of 0, and no mark set
+unfoldable pub noBox : State
+unfolding begun
+noBox = begun 0 0 (0 ∷ [])
+
+-- whether there is a box in it
+abbrev pub hasBox : State → Bool
+hasBox s = inRange 1 8 (s .n)
+
 -- what mark k has
-abbrev pub markAt : State → ℕ → Mark
+abbrev pub markAt : (s : State) (k : ℕ) → Mark
 markAt s k = getD (s .marks) (k - 1) unset
 
 abbrev pub isSet : Mark → Bool
@@ -38,71 +47,81 @@ isSet unset = false
 isSet (keeps rows) = true
 
 -- the rows of a mark; of one that was never set, those given
-abbrev pub rowsKept : Mark → List ℕ → List ℕ
+abbrev pub rowsKept : (x : Mark) (rows : List ℕ) → List ℕ
 rowsKept unset rows = rows
 rowsKept (keeps kept) rows = kept
 
 -- the design with other rows
-abbrev pub withRows : State → List ℕ → State
+abbrev pub withRows : (s : State) (rows : List ℕ) → State
 withRows s rows = record { n = s .n; m = s .m; rows = rows; marks = s .marks }
 
 -- the design with something else at mark k
-abbrev pub withMark : State → ℕ → Mark → State
+abbrev pub withMark : (s : State) (k : ℕ) (x : Mark) → State
 withMark s k x = record { n = s .n; m = s .m; rows = s .rows; marks = set (s .marks) (k - 1) x }
 
--- ---- the checks
-unfoldable pub swapChecks : State → ℕ → ℕ → List Check
-swapChecks s x y = (Parameter unless ltb x (2 ^ s .n)) ∷ (Parameter unless ltb y (2 ^ s .n)) ∷ []
+-- ---- the checks: without a box every operation is refused by 6, and reading by 7
+unfoldable pub swapChecks : (s : State) (x y : ℕ) → List Check
+swapChecks s x y = (Parameter unless hasBox s) ∷ (Parameter unless ltb x (2 ^ s .n)) ∷ (Parameter unless ltb y (2 ^ s .n)) ∷ []
 
-unfoldable pub addChecks : State → ℕ → ℕ → ℕ → List Check
-addChecks s j w b = (Parameter unless inRange 1 (s .m) j) ∷ (Parameter unless ltb w (2 ^ s .n)) ∷ (Parameter unless ltb b 2) ∷ []
+unfoldable pub addChecks : (s : State) (j w b : ℕ) → List Check
+addChecks s j w b =
+    (Parameter unless hasBox s)
+    ∷ (Parameter unless inRange 1 (s .m) j)
+    ∷ (Parameter unless ltb w (2 ^ s .n))
+    ∷ (Parameter unless ltb b 2)
+    ∷ []
 
-unfoldable pub markChecks : ℕ → List Check
-markChecks k = (Parameter unless inRange 1 16 k) ∷ []
+unfoldable pub markChecks : (s : State) (k : ℕ) → List Check
+markChecks s k = (Parameter unless hasBox s) ∷ (Parameter unless inRange 1 16 k) ∷ []
 
-unfoldable pub returnChecks : State → ℕ → List Check
-returnChecks s k = (Parameter unless inRange 1 16 k) ∷ (UnsetMark unless isSet (markAt s k)) ∷ []
+unfoldable pub returnChecks : (s : State) (k : ℕ) → List Check
+returnChecks s k = (Parameter unless hasBox s) ∷ (Parameter unless inRange 1 16 k) ∷ (UnsetMark unless isSet (markAt s k)) ∷ []
 
-unfoldable pub readChecks : State → ℕ → List Check
-readChecks s room = (WrittenLength unless eqb room (2 ^ s .n)) ∷ []
+unfoldable pub readChecks : (s : State) (room : ℕ) → List Check
+readChecks s room = (WrittenLength unless hasBox s) ∷ (WrittenLength unless eqb room (2 ^ s .n)) ∷ []
 
 -- a refusal leaves the design as it was
-abbrev pub stateAfter : Checked → State → State → State
+abbrev pub stateAfter : (found : Checked) (new old : State) → State
 stateAfter Accepted new old = new
 stateAfter (Refused e) new old = old
 
 -- ---- the operations
 -- a design of the box; of a box that is refused, a design without one
-unfoldable pub begin : ℕ → ℕ → List ℕ → State
-unfolding first begun
-begin n m rows = stateAfter (first (boxChecks n m rows)) (begun n m rows) (begun 0 0 (0 ∷ []))
+unfoldable pub begin : (n m : ℕ) (rows : List ℕ) → State
+unfolding first begun noBox
+begin n m rows = stateAfter (first (boxChecks n m rows)) (begun n m rows) noBox
 
-unfoldable pub swap : State → ℕ → ℕ → State
+unfoldable pub swap : (s : State) (x y : ℕ) → State
 unfolding first swapChecks swapped
 swap s x y = stateAfter (first (swapChecks s x y)) (withRows s (swapped (s .rows) x y)) s
 
-unfoldable pub add : State → ℕ → ℕ → ℕ → State
+unfoldable pub add : (s : State) (j w b : ℕ) → State
 unfolding first addChecks addedRows
 add s j w b = stateAfter (first (addChecks s j w b)) (withRows s (addedRows j w b (s .rows))) s
 
-unfoldable pub mark : State → ℕ → State
+unfoldable pub mark : (s : State) (k : ℕ) → State
 unfolding first markChecks
-mark s k = stateAfter (first (markChecks k)) (withMark s k (keeps (s .rows))) s
+mark s k = stateAfter (first (markChecks s k)) (withMark s k (keeps (s .rows))) s
 
-unfoldable pub returnTo : State → ℕ → State
+unfoldable pub returnTo : (s : State) (k : ℕ) → State
 unfolding first returnChecks
 returnTo s k = stateAfter (first (returnChecks s k)) (withRows s (rowsKept (markAt s k) (s .rows))) s
 
 -- ---- what holds of a design throughout: its box is accepted, and so is the box of each mark that is set
-abbrev pub SoundMark : ℕ → ℕ → Mark → Type 0
+abbrev pub SoundMark : (n m : ℕ) (x : Mark) → Type 0
 SoundMark n m unset = Unit {0}
 SoundMark n m (keeps rows) = Box n m rows
 
-abbrev pub SoundMarks : ℕ → ℕ → List Mark → Type 0
+abbrev pub SoundMarks : (n m : ℕ) (xs : List Mark) → Type 0
 SoundMarks n m [] = Unit {0}
 SoundMarks n m (x ∷ xs) = SoundMark n m x × SoundMarks n m xs
 
-pub record SoundState (s : State) : Type 0 where
+pub record Boxed (s : State) : Type 0 where
   pub box : Box (s .n) (s .m) (s .rows)
   pub kept : SoundMarks (s .n) (s .m) (s .marks)
   pub sixteen : length (s .marks) ≡ 16
+
+-- or there is none in it, since `begin` was refused
+pub data SoundState (s : State) : Type 0 where
+  boxed : Boxed s → SoundState s
+  without : s ≡ noBox → SoundState s

@@ -1,18 +1,17 @@
-// A design: one box that is tuned by swaps and column additions, with sixteen marks to go back to. It goes into each operation and comes out of it as
-// a whole. A design that its own calls made is sound; any other one is safe to call with, and what the call then does is free.
+// A design: one box that is tuned by swaps and column additions, with sixteen marks to go back to. It goes into each operation and comes
+// out of it as a whole. What a call does with a design that its own calls made is settled, every field of it; any other one is safe to call
+// with. The contract of each call is a record of specs/Calls, which the theorems on histories take as it stands.
 use refusals::Checked;
 use refusals::Refusal;
 use refusals::Written;
 ghost use mathlib.Core.Path.{_≡_};
-ghost use mathlib.Core.List.{[], _∷_};
-ghost use Prim.Native.Nat.{ℕ};
-ghost use lib.ListN.{length};
-ghost use Rattle.refusals.specs.Table.{first, replyAfter, contentAfter, written, refusal, boxChecks};
-ghost use Rattle.refusals.specs.declared.Checked.the-variants.{Accepted};
+ghost use Rattle.refusals.specs.Table.{written};
+ghost use Rattle.refusals.specs.declared.Written.the-variants as answers;
 ghost use Rattle.design.specs.Model as model;
-ghost use Rattle.design.specs.Calls.{state, rowsOf, boxHeld, Sound};
+ghost use Rattle.design.specs.Calls.{snapshotOf, boxHeld, Begun, Swapped, Added, Marked, Returned, Read};
 
-// A mark: 1 and the rows of the moment when it was last set, or another number where it was never set. A caller in C may hand in any number, so it is no bool.
+// A mark: 1 and the rows of the moment when it was last set, or zeros where it was never set. A caller in C may hand in any number, so it is
+// no bool.
 #[repr(C)]
 pub struct Snapshot {
     pub taken: u32,
@@ -42,18 +41,24 @@ pub enum BoxHeld {
 
 // A mark that was never set.
 fn unset() -> Snapshot
-    ensures { λ r. ⌜ r .taken ≡ 0 ⌝ }
+    ensures { λ r. ⌜ r ≡ snapshotOf model.unset ⌝ }
 {
     let rows = [0u32; 256];
     Snapshot { taken: 0, rows }
 }
 
+// A refused call hands the design back beside the number.
+fn declined(design: Design, e: Refusal) -> Tuned
+    ensures { λ r. ⌜ (r .design ≡ design) × (r .answer ≡ answers.Declined e) ⌝ }
+{
+    let answer = Written::Declined(e);
+    Tuned { design, answer }
+}
+
 impl Design {
-    // A design of this box, with no mark set. Refused, there is no box in it.
+    // A design of this box, with no mark set. Refused, it is a design without a box.
     pub fn begin(n: u32, m: u32, rows: &[u32]) -> Tuned
-        ensures sound { λ r. ⌜ (first (boxChecks n m (now (rows .entry))) ≡ Accepted → Sound (r .design)) ⌝ }
-        ensures reply { λ r. ⌜ written (r .answer) ≡ replyAfter (first (boxChecks n m (now (rows .entry)))) [] ⌝ }
-        ensures content { λ r. ⌜ state (r .design) ≡ model.begin n m (now (rows .entry)) ⌝ }
+        ensures { λ r. ⌜ Begun n m (now (rows .entry)) (written (r .answer)) (r .design) ⌝ }
     {
         let none = unset();
         let marks = [none; 16];
@@ -65,8 +70,7 @@ impl Design {
                 rows: held,
                 marks,
             };
-            let answer = Written::Declined(e);
-            return Tuned { design, answer };
+            return declined(design, e);
         }
         boolean::copy(rows, &mut held[..rows.len()]);
         let design = Design {
@@ -81,35 +85,21 @@ impl Design {
 
     // Exchanges the rows of inputs x and y.
     pub fn swap(self, x: u32, y: u32) -> Tuned
-        ensures kept { λ r. ⌜ (Sound self → Sound (r .design)) ⌝ }
-        ensures unchanged { λ r. ⌜ ((k : ℕ) → written (r .answer) ≡ refusal k → r .design ≡ self) ⌝ }
-        ensures reply { λ r. ⌜ (Sound self → written (r .answer) ≡ replyAfter (first (model.swapChecks (state self) x y)) []) ⌝ }
-        ensures content { λ r. ⌜ (Sound self → state (r .design) ≡ model.swap (state self) x y) ⌝ }
+        ensures { λ r. ⌜ Swapped self x y (written (r .answer)) (r .design) ⌝ }
     {
         let n = self.n;
-        if 8 < n {
-            let answer = Written::Declined(Refusal::Parameter);
-            return Tuned {
-                design: self,
-                answer,
-            };
+        if !refusals::in_range(1, 8, n) {
+            // no box: there are no rows to exchange
+            return declined(self, Refusal::Parameter);
         }
         let size = boolean::power_of_two(n);
         let i = x as usize;
         let j = y as usize;
         if size <= i {
-            let answer = Written::Declined(Refusal::Parameter);
-            return Tuned {
-                design: self,
-                answer,
-            };
+            return declined(self, Refusal::Parameter);
         }
         if size <= j {
-            let answer = Written::Declined(Refusal::Parameter);
-            return Tuned {
-                design: self,
-                answer,
-            };
+            return declined(self, Refusal::Parameter);
         }
         let m = self.m;
         let marks = self.marks;
@@ -125,37 +115,20 @@ impl Design {
 
     // Adds the affine function (w, b) to column j.
     pub fn add(self, j: u32, w: u32, b: u32) -> Tuned
-        ensures kept { λ r. ⌜ (Sound self → Sound (r .design)) ⌝ }
-        ensures unchanged { λ r. ⌜ ((k : ℕ) → written (r .answer) ≡ refusal k → r .design ≡ self) ⌝ }
-        ensures reply { λ r. ⌜ (Sound self → written (r .answer) ≡ replyAfter (first (model.addChecks (state self) j w b)) []) ⌝ }
-        ensures content { λ r. ⌜ (Sound self → state (r .design) ≡ model.add (state self) j w b) ⌝ }
+        ensures { λ r. ⌜ Added self j w b (written (r .answer)) (r .design) ⌝ }
     {
         let n = self.n;
         let old = self.rows;
         let all = &old[..];
-        if 8 < n {
-            let answer = Written::Declined(Refusal::Parameter);
-            return Tuned {
-                design: self,
-                answer,
-            };
+        if !refusals::in_range(1, 8, n) {
+            // no box: there is no column to add to
+            return declined(self, Refusal::Parameter);
         }
         let size = boolean::power_of_two(n);
-        if all.len() < size {
-            let answer = Written::Declined(Refusal::Parameter);
-            return Tuned {
-                design: self,
-                answer,
-            };
-        }
         let mut rows = [0u32; 256];
         let added = columns::add_to_column(n, self.m, &all[..size], j, w, b, &mut rows[..size]);
         if let Written::Declined(e) = added {
-            let answer = Written::Declined(e);
-            return Tuned {
-                design: self,
-                answer,
-            };
+            return declined(self, e);
         }
         let mut design = self;
         design.rows = rows;
@@ -165,17 +138,15 @@ impl Design {
 
     // Sets mark k: it keeps the box of this moment.
     pub fn mark(self, k: u32) -> Tuned
-        ensures kept { λ r. ⌜ (Sound self → Sound (r .design)) ⌝ }
-        ensures unchanged { λ r. ⌜ ((number : ℕ) → written (r .answer) ≡ refusal number → r .design ≡ self) ⌝ }
-        ensures reply { λ r. ⌜ written (r .answer) ≡ replyAfter (first (model.markChecks k)) [] ⌝ }
-        ensures content { λ r. ⌜ state (r .design) ≡ model.mark (state self) k ⌝ }
+        ensures { λ r. ⌜ Marked self k (written (r .answer)) (r .design) ⌝ }
     {
+        if !refusals::in_range(1, 8, self.n) {
+            // no box: there is nothing to keep
+            return declined(self, Refusal::Parameter);
+        }
         if !refusals::in_range(1, 16, k) {
-            let answer = Written::Declined(Refusal::Parameter);
-            return Tuned {
-                design: self,
-                answer,
-            };
+            // there is no such mark to set
+            return declined(self, Refusal::Parameter);
         }
         let i = (k - 1) as usize;
         let rows = self.rows;
@@ -187,26 +158,19 @@ impl Design {
 
     // Brings back the box of mark k; all marks remain. (`return` alone is a word of the language.)
     pub fn return_to(self, k: u32) -> Tuned
-        ensures kept { λ r. ⌜ (Sound self → Sound (r .design)) ⌝ }
-        ensures unchanged { λ r. ⌜ ((number : ℕ) → written (r .answer) ≡ refusal number → r .design ≡ self) ⌝ }
-        ensures reply { λ r. ⌜ written (r .answer) ≡ replyAfter (first (model.returnChecks (state self) k)) [] ⌝ }
-        ensures content { λ r. ⌜ state (r .design) ≡ model.returnTo (state self) k ⌝ }
+        ensures { λ r. ⌜ Returned self k (written (r .answer)) (r .design) ⌝ }
     {
+        if !refusals::in_range(1, 8, self.n) {
+            // no box: no mark was set in it
+            return declined(self, Refusal::Parameter);
+        }
         if !refusals::in_range(1, 16, k) {
-            let answer = Written::Declined(Refusal::Parameter);
-            return Tuned {
-                design: self,
-                answer,
-            };
+            return declined(self, Refusal::Parameter);
         }
         let place = (k - 1) as usize;
         let here = self.marks[place];
         if here.taken != 1 {
-            let answer = Written::Declined(Refusal::UnsetMark);
-            return Tuned {
-                design: self,
-                answer,
-            };
+            return declined(self, Refusal::UnsetMark);
         }
         let rows = here.rows;
         let mut design = self;
@@ -217,19 +181,16 @@ impl Design {
 
     // The box: n and m are the answer, and the rows go to a lent array.
     pub fn read_box(self, rows: &mut [u32]) -> BoxHeld
-        ensures reply { λ r. ⌜ (Sound self → boxHeld r ≡ replyAfter (first (model.readChecks (state self) (length (now (rows .entry))))) (self .n ∷ self .m ∷ [])) ⌝ }
-        ensures content { λ r. ⌜ (Sound self → now (rows .exit) ≡ contentAfter (first (model.readChecks (state self) (length (now (rows .entry))))) (rowsOf self) (now (rows .entry))) ⌝ }
+        ensures { λ r. ⌜ Read self (now (rows .entry)) (boxHeld r) (now (rows .exit)) ⌝ }
     {
         let n = self.n;
         let held = self.rows;
         let all = &held[..];
-        if 8 < n {
+        if !refusals::in_range(1, 8, n) {
+            // no box: there is nothing to read
             return BoxHeld::Declined(Refusal::WrittenLength);
         }
         let size = boolean::power_of_two(n);
-        if all.len() < size {
-            return BoxHeld::Declined(Refusal::WrittenLength);
-        }
         if rows.len() != size {
             return BoxHeld::Declined(Refusal::WrittenLength);
         }

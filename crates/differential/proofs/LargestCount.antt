@@ -1,7 +1,6 @@
 -- How many values have the largest count, kept beside the running value: after each rise it is as many as there are. Assumes nothing.
 use mathlib.Core.Path.{_≡_, refl, sym, ap, ap₂, _∙_}
 use mathlib.Core.Bool.{Bool, true, false}
-use mathlib.Core.Logic.{_⊎_, inl, inr}
 use mathlib.Core.List.{List}
 use Prim.Native.Nat.{ℕ, zero, suc, _+_, _/_, _<_, _≤_, zero-le}
 use native.Mathlib.Nat.{not-suc-le-zero}
@@ -11,13 +10,13 @@ use borrow.Author.Tests.{eq-eqb, ne-eqb}
 use lib.Dec.{eqb}
 use lib.ListN.{length}
 use Rattle.boolean.specs.Sums.{countBelow, one-if}
-use Rattle.boolean.specs.Functions.{at}
+use Rattle.boolean.specs.Functions.{at, Below, occurrences}
 use Rattle.boolean.proofs.Counts.{count-cong}
 use Rattle.boolean.proofs.Counted.{count-no}
-use Rattle.sorting.specs.Occurrences.{Below, occurrences}
-use Rattle.differential.specs.Work.{risenAt, Larger, CellsAfter, reaching, RunningCells}
+use Rattle.differential.specs.Running.{risenAt, higherOf, LargestSoFar}
+use Rattle.differential.specs.Work.{CellsAfter, reaching, RunningCells}
 use Rattle.sorting.proofs.Occurrences.{occurs-more, occurs-same, occurs-le}
-use Rattle.differential.proofs.Rises.{running-none, running-takes, running-keeps, largest-is}
+use Rattle.differential.proofs.Rises.{running-none, takes-higher, keeps-higher, largest-is}
 
 -- a test that passes at one number more counts one more
 count-one-more : (k : ℕ) (p q : ℕ → Bool) (v : ℕ) → v < k → p v ≡ false → q v ≡ true → ((u : ℕ) → (u ≡ v → ⊥) → p u ≡ q u) → countBelow k q ≡ countBelow k p + 1
@@ -118,23 +117,14 @@ module _ {values : List ℕ} {y best cells : ℕ} (t : RunningCells values y bes
           let less : count < largest = omega (arith, count-is, largest-is (t .running)) in
           after .under (omega (arith, count-is, largest-is (t .running))) ∙ t .number size b (omega (arith, largest-le)) ∙ sym (apart less size)
 
-  pub cells-next : {new : ℕ} → Larger best value new → RunningCells values (y + 1) new r
-  cells-next {new} g = pick (decLt best value) (g .either)
+  pub cells-next : {new : ℕ} → LargestSoFar values (y + 1) new → new ≡ higherOf best value → RunningCells values (y + 1) new r
+  cells-next {new} after-rise e = record { running = after-rise; few = few-next; number = λ size b l. pick size b (decLt best value) }
     where
-      takes : best < value → new ≡ value → RunningCells values (y + 1) new r
-      takes h e =
-          let taken = running-takes (t .running) small risen h in
-          let is : count ≡ taken .largest = sym count-is ∙ largest-is taken in
-          rw e (record { running = taken; few = few-next; number = λ size b l. number-takes h size b ∙ ap (reaching size values (y + 1)) is })
-
-      keeps : value ≤ best → new ≡ best → RunningCells values (y + 1) new r
-      keeps h e =
-          let kept = running-keeps (t .running) small risen h in
-          let is : largest ≡ kept .largest = sym (largest-is (t .running)) ∙ largest-is kept in
-          rw e (record { running = kept; few = few-next; number = λ size b l. number-keeps h size b ∙ ap (reaching size values (y + 1)) is })
-
-      pick : Dec (best < value) → (new ≡ best) ⊎ (new ≡ value) → RunningCells values (y + 1) new r
-      pick (yes h) (inl e) = absurd (omega (arith, g .right))
-      pick (yes h) (inr e) = takes h e
-      pick (no h) (inl e) = keeps (omega arith) e
-      pick (no h) (inr e) = keeps (omega arith) (omega (arith, g .left))
+      pick : (size : ℕ) → Below size values → Dec (best < value) → r ≡ reaching size values (y + 1) (after-rise .largest)
+      pick size b (yes h) =
+          let is : count ≡ after-rise .largest = omega (arith, count-is, largest-is after-rise, e, takes-higher h) in
+          number-takes h size b ∙ ap (reaching size values (y + 1)) is
+      pick size b (no h) =
+          let k : value ≤ best = omega arith in
+          let is : largest ≡ after-rise .largest = omega (arith, largest-is (t .running), largest-is after-rise, e, keeps-higher k) in
+          number-keeps k size b ∙ ap (reaching size values (y + 1)) is

@@ -11,4 +11,5 @@ pub mod CellRows
 pub mod Runs
 pub mod Measures
 pub mod ListChecks
+pub mod FirstCell
 pub mod Theorems

@@ -9,9 +9,8 @@ use lib.ListN.{length, drop}
 use lib.Seq.{sets, sets-eq}
 use Rattle.refusals.specs.Table.{first, boxChecks, Box}
 use Rattle.refusals.specs.declared.Refusal.the-variants.{ListTooShort}
-use Rattle.refusals.specs.declared.Checked.{Checked}
 use Rattle.refusals.specs.declared.Checked.the-variants.{Accepted, Refused}
-use Rattle.refusals.proofs.Checks.{found-after, skip, stop, end, box-accepted, content-accepted}
+use Rattle.refusals.proofs.Checks.{found-after, skip, stop, end, box-accepted}
 use Rattle.differential.specs.XorTable.{largestCells}
 use Rattle.differential.specs.Calls.{listChecks, listAfter}
 
@@ -25,6 +24,5 @@ module _ {n m : ℕ} {rows : List ℕ} (b : Box n m rows) {count : ℕ} (e : cou
   long-enough l = sym (found-after (boxChecks n m rows) (box-accepted n m rows b) (skip (le-leb (length (largestCells n m rows)) room (omega arith)) end))
 
 -- entries written from the first on, and what was past them
-pub written-first : {k : Checked} (wanted old new : List ℕ) → k ≡ Accepted → length wanted ≤ length old → new ≡ sets old 0 wanted → new ≡ listAfter k wanted old
-written-first wanted old new h l e =
-    e ∙ sets-eq wanted old 0 (omega arith) ∙ ap (λ (k : ℕ). wanted ++ drop k old) (zero-add (length wanted)) ∙ content-accepted h (wanted ++ drop (length wanted) old) old
+pub written-first : (wanted old new : List ℕ) → length wanted ≤ length old → new ≡ sets old 0 wanted → new ≡ listAfter wanted old
+written-first wanted old new l e = e ∙ sets-eq wanted old 0 (omega arith) ∙ ap (λ (k : ℕ). wanted ++ drop k old) (zero-add (length wanted))

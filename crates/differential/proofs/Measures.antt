@@ -1,6 +1,6 @@
 -- A row that was measured: its largest count and the number of cells that have it, found from its pairs; and the loop over the rows. Assumes nothing.
 use mathlib.Core.Path.{_≡_, sym, ap, _∙_, subst}
-use mathlib.Core.Logic.{_⊎_, inl, inr}
+use mathlib.Core.Logic.{_⊎_, inl, inr, ⊎-elim}
 use mathlib.Core.List.{List, [], _∷_}
 use Prim.Native.Nat.{ℕ, _+_, _-_, _*_, _/_, _%_, _^_, _<_, _≤_}
 use native.Mathlib.Nat.{le-refl, le-trans}
@@ -12,21 +12,22 @@ use lib.ListN.{length, set, length-set}
 use lib.Pow.{pow-pos, pow-lt, pow-mono}
 use lib.Seq.{getD-set-same, getD-set-other}
 use Rattle.boolean.specs.Sums.{countBelow}
-use Rattle.boolean.specs.Functions.{at}
+use Rattle.boolean.specs.Functions.{at, occurrences}
 use Rattle.boolean.specs.Selection.{Candidate}
 use Rattle.boolean.proofs.Counts.{count-cong, count-le}
 use Rattle.boolean.proofs.Selection.{firstLargest-ge}
 use Rattle.refusals.specs.Table.{Box}
 use Rattle.differential.specs.XorTable.{difference, cell, cells, largestCell}
-use Rattle.sorting.specs.Occurrences.{occurrences}
-use Rattle.differential.specs.Work.{differencesOf, Paired, reaching, RunningCells, Larger, IsRow, RowMeasured, Measured, rowCells}
+use Rattle.differential.specs.Running.{Paired, higherOf}
+use Rattle.differential.specs.Work.{differencesOf, reaching, RunningCells, IsRow, RowMeasured, Measured, rowCells}
 use Rattle.differential.specs.Statements.{IsCell}
 use Rattle.sorting.proofs.Occurrences.{occurs, occurs-at}
+use Rattle.differential.proofs.Rises.{higher-left, higher-right, higher-either}
 use Rattle.differential.proofs.Pairs.{pairs-length, pair-small, cell-twice}
 use Rattle.differential.proofs.Sweeps.{pairs-room, pairs-few, some-cell}
 use Rattle.differential.proofs.RowBest.{value-small, occurrences-cell}
 use Rattle.differential.proofs.CellRows.{row-none, row-one, row-counted}
-use Rattle.differential.proofs.Theorems.{most, reached}
+use Rattle.differential.proofs.FirstCell.{largest-cell-most, largest-cell-reached}
 
 -- the doubles of two numbers are equal where they are
 double-eqb : (x y : ℕ) → eqb x y ≡ eqb (2 * x) (2 * y)
@@ -59,6 +60,7 @@ module _ {n m : ℕ} {rows : List ℕ} (b : Box n m rows) {a : ℕ} (l : a < 2 ^
         omega (arith, pair-small b p (s .0) (s .1), s .2);
     most = λ v. omega (arith, cell-twice b p l v, t .running .so-far .most v);
     reached = omega (arith, cell-twice b p l (t .running .β), t .running .so-far .reached);
+    smallest = λ v k. omega (arith, cell-twice b p l v, t .running .so-far .smallest v k);
     few = omega (arith, t .few, pairs-few b p);
     counted =
         t .number (2 ^ m) (pair-small b p) some-pair
@@ -110,7 +112,7 @@ figure-positive {n} {m} {rows} b = let t = some-cell b in le-trans (t .2) (first
 figure-small : {n m : ℕ} {rows : List ℕ} → Box n m rows → largestCell n m rows .figure ≤ 256
 unfolding cell
 figure-small {n} {m} {rows} b =
-    let t = reached n m rows (b .n-low) in
+    let t = largest-cell-reached n m rows (b .n-low) in
     omega (arith, ap (λ (c : Candidate). c .figure) (t .3), count-le (2 ^ n) (λ x. eqb (difference rows (t .0) x) (t .1)), b .size, b .small)
 
 module _ {n m : ℕ} {rows : List ℕ} (b : Box n m rows) (largest : ℕ) (e : 2 * largest ≡ largestCell n m rows .figure) where
@@ -124,7 +126,7 @@ module _ {n m : ℕ} {rows : List ℕ} (b : Box n m rows) (largest : ℕ) (e : 2
   cells-at-most a r v = pick (decLt 0 (cell n rows a v))
     where
       pick : Dec (0 < cell n rows a v) → cell n rows a v ≤ 2 * largest
-      pick (yes h) = omega (arith, most n m rows a v (record { a-low = r .0; a-high = r .1; β-high = cell-inside b a v h }))
+      pick (yes h) = omega (arith, largest-cell-most n m rows a v (record { a-low = r .0; a-high = r .1; β-high = cell-inside b a v h }))
       pick (no h) = omega arith
 
   -- a row that has not this count has a smaller one, and none of the cells
@@ -163,7 +165,7 @@ measuring-none {n} b r s t = record {
 
 module _ {n m : ℕ} {rows standings numbers : List ℕ} {largest : ℕ} {pairs : List ℕ} {a : ℕ} (t : Measuring n m rows standings numbers largest pairs a) where
   module _ (l : a < 2 ^ n) {pairs′ : List ℕ} (p : Paired rows a pairs′) {value cells : ℕ} (run : RunningCells pairs′ (length pairs′) value cells) {new : ℕ}
-      (g : Larger largest (value / 4294967296) new) where
+      (g : new ≡ higherOf largest (value / 4294967296)) where
     abbrev row : RowMeasured n m rows a value cells
     row = row-measured (t .box) l p run
 
@@ -177,8 +179,8 @@ module _ {n m : ℕ} {rows standings numbers : List ℕ} {largest : ℕ} {pairs 
     at-row k h i (no e) = rw (getD-set-other standings a k value 0 e, getD-set-other numbers a k cells 0 e) (t .done k h (omega arith))
 
     bounded : (k : ℕ) → 1 ≤ k → k < a + 1 → Dec (k ≡ a) → (v : ℕ) → cell n rows k v ≤ 2 * new
-    bounded k h i (yes e) v = omega (arith, ap (λ (z : ℕ). cell n rows z v) e, row .most v, count-of (t .box) row, g .right)
-    bounded k h i (no e) v = omega (arith, t .bound k h (omega arith) v, g .left)
+    bounded k h i (yes e) v = omega (arith, ap (λ (z : ℕ). cell n rows z v) e, row .most v, count-of (t .box) row, g, higher-right largest (value / 4294967296))
+    bounded k h i (no e) v = omega (arith, t .bound k h (omega arith) v, g, higher-left largest (value / 4294967296))
 
     found : 0 < new → (new ≡ largest) ⊎ (new ≡ value / 4294967296) → (k : ℕ) × (β : ℕ) × IsCell n m k β × (cell n rows k β ≡ 2 * new)
     found h (inl e) = let s = t .some (omega arith) in (s .0, s .1, s .2, omega (arith, s .3))
@@ -200,7 +202,7 @@ module _ {n m : ℕ} {rows standings numbers : List ℕ} {largest : ℕ} {pairs 
       last = λ k. subst (λ (a : ℕ). Paired rows a pairs′) (let z : a ≡ a + 1 - 1 = omega arith in z) p;
       done = λ k h i. at-row k h i (ℕ-discrete k a);
       bound = λ k h i. bounded k h i (ℕ-discrete k a);
-      some = λ h. found h (g .either);
+      some = λ h. found h (⊎-elim (λ e. inl (g ∙ e)) (λ e. inr (g ∙ e)) (higher-either largest (value / 4294967296)));
     }
 
   module _ (h : 2 ^ n ≤ a) where
@@ -212,11 +214,11 @@ module _ {n m : ℕ} {rows standings numbers : List ℕ} {largest : ℕ} {pairs 
 
     pub measuring-largest : 2 * largest ≡ largestCell n m rows .figure
     measuring-largest =
-        let w = reached n m rows (t .box .n-low) in
+        let w = largest-cell-reached n m rows (t .box .n-low) in
         let figure : largestCell n m rows .figure ≡ cell n rows (w .0) (w .1) = ap (λ (c : Candidate). c .figure) (w .3) in
         let over = t .bound (w .0) (w .2 .a-low) (omega (arith, w .2 .a-high)) (w .1) in
         let s = t .some (omega (arith, figure, over, figure-positive (t .box))) in
-        omega (arith, figure, over, s .3, most n m rows (s .0) (s .1) (s .2))
+        omega (arith, figure, over, s .3, largest-cell-most n m rows (s .0) (s .1) (s .2))
 
     pub measuring-last : Paired rows (2 ^ n - 1) pairs
     measuring-last = subst (λ (k : ℕ). Paired rows (k - 1) pairs) at-end (t .last (omega (arith, pow-lt (t .box .n-low))))

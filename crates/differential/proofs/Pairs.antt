@@ -12,7 +12,7 @@ use lib.Dec.{eqb}
 use lib.ListN.{length}
 use lib.Pow.{pow-add, pow-mono}
 use Rattle.boolean.specs.Sums.{countBelow}
-use Rattle.boolean.specs.Functions.{at}
+use Rattle.boolean.specs.Functions.{at, occurrences}
 use Rattle.boolean.proofs.Counts.{count-cong, count-halves}
 use Rattle.boolean.proofs.Lists.{length-listBelow, getD-listBelow}
 use Rattle.boolean.proofs.Transform.{lower-lt, upper-lt, xor-10, xor-11}
@@ -20,8 +20,7 @@ use Rattle.boolean.proofs.Xor.{xor-cancel}
 use Rattle.refusals.specs.Table.{Box}
 use Rattle.boolean.proofs.Shifts.{count-shift}
 use Rattle.differential.specs.XorTable.{difference, cell}
-use Rattle.sorting.specs.Occurrences.{occurrences}
-use Rattle.differential.specs.Work.{HighestBit, lowerInput, pairsOf, Paired}
+use Rattle.differential.specs.Running.{HighestBit, lowerInput, pairsOf, Paired}
 
 -- the test is the same at the two inputs of each pair
 abbrev SameInPairs : (k a : ℕ) (p : ℕ → Bool) → Type 0

@@ -1,22 +1,21 @@
 -- The running value: after each rise its count is the largest so far, and its β the smallest that has it. Assumes nothing.
-use mathlib.Core.Path.{_≡_, refl, sym, ap, ap₂, _∙_, subst}
+use mathlib.Core.Path.{_≡_, refl, ap, ap₂, _∙_, subst}
 use mathlib.Core.Bool.{Bool, true, false}
-use mathlib.Core.Logic.{inl, inr}
+use mathlib.Core.Logic.{_⊎_, inl, inr}
 use mathlib.Core.List.{List, [], _∷_}
-use Prim.Native.Nat.{ℕ, zero, suc, _+_, _-_, _*_, _/_, _%_, _≤_, _<_}
+use Prim.Native.Nat.{ℕ, zero, suc, _+_, _-_, _*_, _/_, _%_, _^_, _≤_, _<_}
 use native.Mathlib.Decide.{ℕ-discrete, decLt}
 use native.Mathlib.Omega.{arith}
 use borrow.Author.Tests.{lt-ltb, le-ltb}
-use lib.Dec.{ltb}
 use lib.ListN.{length}
-use Rattle.boolean.specs.Functions.{at}
+use Rattle.boolean.specs.Functions.{at, Below, occurrences}
 use Rattle.boolean.specs.Selection.{Candidate}
-use Rattle.sorting.specs.Occurrences.{Below, occurrences}
-use Rattle.differential.specs.Work.{standing, risenAt, higherOf, runningAfter, Running, AfterRow}
+use Rattle.differential.specs.Running.{risenAt, higherOf, runningAfter, LargestSoFar}
+use Rattle.differential.specs.Work.{AfterRow}
 use Rattle.sorting.proofs.Occurrences.{occurs-more, occurs-same, occurs-none, occurs-le}
 
 -- ---- at the start
-pub running-none : (values : List ℕ) → Running values 0 4294967295
+pub running-none : (values : List ℕ) → LargestSoFar values 0 4294967295
 running-none values = record {
   largest = 0;
   β = 0;
@@ -26,7 +25,7 @@ running-none values = record {
 }
 
 -- ---- after a rise
-module _ {values : List ℕ} {y best : ℕ} (r : Running values y best) {value : ℕ} (small : at values y < 4294967296)
+module _ {values : List ℕ} {y best : ℕ} (r : LargestSoFar values y best) {value : ℕ} (small : at values y < 4294967296)
     (risen : value ≡ risenAt values y) where
   abbrev v : ℕ
   v = at values y
@@ -35,7 +34,7 @@ module _ {values : List ℕ} {y best : ℕ} (r : Running values y best) {value :
   count = occurrences values (y + 1) v
 
   -- the count that has risen is the largest, or is as large and of a smaller β
-  pub running-takes : best < value → Running values (y + 1) value
+  pub running-takes : best < value → LargestSoFar values (y + 1) value
   running-takes h = record {
     largest = count;
     β = v;
@@ -53,7 +52,7 @@ module _ {values : List ℕ} {y best : ℕ} (r : Running values y best) {value :
       smallest u l (no e) = omega (arith, occurs-same values y u (λ q. omega arith), r .so-far .most u, r .is, r .small)
 
   -- it is not
-  pub running-keeps : value ≤ best → Running values (y + 1) best
+  pub running-keeps : value ≤ best → LargestSoFar values (y + 1) best
   running-keeps h = record {
     largest = r .largest;
     β = r .β;
@@ -84,6 +83,28 @@ pub keeps-higher : {x y : ℕ} → y ≤ x → higherOf x y ≡ x
 unfolding higherOf
 keeps-higher {x = x} {y = y} h = ap (λ (t : Bool). elim t [ true ↦ y | false ↦ x ]) (le-ltb x y h)
 
+module _ (x y : ℕ) where
+  pub higher-either : (higherOf x y ≡ x) ⊎ (higherOf x y ≡ y)
+  higher-either = pick (decLt x y)
+    where
+      pick : Dec (x < y) → (higherOf x y ≡ x) ⊎ (higherOf x y ≡ y)
+      pick (yes h) = inr (takes-higher h)
+      pick (no h) = inl (keeps-higher (omega arith))
+
+  pub higher-left : x ≤ higherOf x y
+  higher-left = pick (decLt x y)
+    where
+      pick : Dec (x < y) → x ≤ higherOf x y
+      pick (yes h) = omega (arith, takes-higher h)
+      pick (no h) = let k : y ≤ x = omega arith in omega (arith, keeps-higher k)
+
+  pub higher-right : y ≤ higherOf x y
+  higher-right = pick (decLt x y)
+    where
+      pick : Dec (x < y) → y ≤ higherOf x y
+      pick (yes h) = omega (arith, takes-higher h)
+      pick (no h) = let k : y ≤ x = omega arith in omega (arith, keeps-higher k)
+
 -- ---- the running value's own steps
 pub rises-none : (values : List ℕ) → runningAfter values 0 ≡ 4294967295
 unfolding runningAfter
@@ -94,27 +115,21 @@ pub rises-next : (values : List ℕ) (y : ℕ)
 unfolding runningAfter
 rises-next values y = ap (runningAfter values) (let z : y + 1 ≡ suc y = omega arith in z)
 
-module _ (values : List ℕ) (y : ℕ) {best value : ℕ} (e : best ≡ runningAfter values y) (risen : value ≡ risenAt values y) where
-  pub rise-takes : best < value → value ≡ runningAfter values (y + 1)
-  rise-takes h = sym (rises-next values y ∙ ap₂ higherOf (sym e) (sym risen) ∙ takes-higher h)
-
-  pub rise-keeps : value ≤ best → best ≡ runningAfter values (y + 1)
-  rise-keeps h = sym (rises-next values y ∙ ap₂ higherOf (sym e) (sym risen) ∙ keeps-higher h)
-
 -- after each rise its count is the largest so far, and its β the smallest that has it: whatever part of the values was counted
-pub after-each-rise : (values : List ℕ) → Below 4294967296 values → (y : ℕ) → y ≤ length values → Running values y (runningAfter values y)
+pub after-each-rise : (values : List ℕ) → Below (2 ^ 32) values → (y : ℕ) → y ≤ length values → LargestSoFar values y (runningAfter values y)
 unfolding runningAfter
 after-each-rise values small zero l = running-none values
 after-each-rise values small (suc y) l =
-    subst (λ (k : ℕ). Running values k (runningAfter values (suc y))) (let z : y + 1 ≡ suc y = omega arith in z)
+    subst (λ (k : ℕ). LargestSoFar values k (runningAfter values (suc y))) (let z : y + 1 ≡ suc y = omega arith in z)
     (pick (after-each-rise values small y (omega arith)) (decLt (runningAfter values y) (risenAt values y)))
   where
-    pick : Running values y (runningAfter values y) → Dec (runningAfter values y < risenAt values y) → Running values (y + 1) (higherOf (runningAfter values y) (risenAt values y))
+    pick : LargestSoFar values y (runningAfter values y) → Dec (runningAfter values y < risenAt values y)
+        → LargestSoFar values (y + 1) (higherOf (runningAfter values y) (risenAt values y))
     pick r (yes h) = rw (takes-higher h) (running-takes r (small y (omega arith)) refl h)
     pick r (no h) = let k : risenAt values y ≤ runningAfter values y = omega arith in rw (keeps-higher k) (running-keeps r (small y (omega arith)) refl k)
 
 -- ---- the count and its β, out of the running value
-module _ {values : List ℕ} {y best : ℕ} (r : Running values y best) where
+module _ {values : List ℕ} {y best : ℕ} (r : LargestSoFar values y best) where
   pub largest-is : best / 4294967296 ≡ r .largest
   largest-is = omega (arith, r .is, r .small)
 
@@ -122,7 +137,7 @@ module _ {values : List ℕ} {y best : ℕ} (r : Running values y best) where
   smallest-is = omega (arith, r .is, r .small)
 
 -- ---- at the end
-module _ {values : List ℕ} {best : ℕ} (r : Running values (length values) best) where
+module _ {values : List ℕ} {best : ℕ} (r : LargestSoFar values (length values) best) where
   pub largest-few : best / 4294967296 ≤ length values
   largest-few = omega (arith, largest-is r, r .so-far .reached, occurs-le values (length values) (r .β))
 

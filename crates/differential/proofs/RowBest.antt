@@ -11,15 +11,15 @@ use lib.Bits.{bitXor, xor-lt}
 use lib.Dec.{eqb}
 use lib.ListN.{length}
 use Rattle.boolean.specs.Sums.{countBelow}
-use Rattle.boolean.specs.Functions.{at}
+use Rattle.boolean.specs.Functions.{at, occurrences}
 use Rattle.boolean.specs.Selection.{Candidate, best, higher}
 use Rattle.boolean.proofs.Counts.{count-cong}
 use Rattle.boolean.proofs.Lists.{length-listBelow, getD-listBelow}
 use Rattle.boolean.proofs.Selection.{best-stays, best-is, ranked-first}
 use Rattle.refusals.specs.Table.{Box}
 use Rattle.differential.specs.XorTable.{difference, cell, cellsOf}
-use Rattle.sorting.specs.Occurrences.{occurrences}
-use Rattle.differential.specs.Work.{differencesOf, Paired, RowLargest, AfterRow}
+use Rattle.differential.specs.Running.{Paired}
+use Rattle.differential.specs.Work.{differencesOf, RowAbove, AfterRow}
 use Rattle.differential.specs.Statements.{rank, cellOf}
 use Rattle.sorting.proofs.Occurrences.{occurs-at}
 use Rattle.differential.proofs.Pairs.{pair-small, cell-twice}
@@ -56,7 +56,7 @@ module _ {n m : ℕ} {rows : List ℕ} (b : Box n m rows) {a : ℕ} (l : a < 2 ^
       let s = mem-cellsOf n m rows a c i in
       omega (arith, h (s .0), cell-twice b p l (s .0), ap (λ (c : Candidate). c .figure) (s .2))
 
-  module _ {found r : Candidate} (t : RowLargest a pairs found r) where
+  module _ {found r : Candidate} (t : RowAbove a pairs found r) where
     largest-is : r ≡ cellOf n rows a (t .β)
     largest-is =
         t .is ∙ ap (λ (k : ℕ). record { figure = k; witness = a ∷ t .β ∷ [] }) (ap (λ (k : ℕ). 2 * k) (sym (t .of-row .reached)) ∙ sym (cell-twice b p l (t .β)))

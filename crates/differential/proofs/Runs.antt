@@ -11,7 +11,7 @@ use lib.Dec.{eqb}
 use lib.ListN.{length}
 use lib.Seq.{sets}
 use Rattle.boolean.specs.Sums.{countBelow, listFrom, listBelow, each}
-use Rattle.boolean.specs.Functions.{at}
+use Rattle.boolean.specs.Functions.{at, occurrences}
 use Rattle.boolean.specs.Selection.{Ascending}
 use Rattle.boolean.proofs.Counts.{count-le, count-split}
 use Rattle.boolean.proofs.Counted.{count-grows, count-no}
@@ -20,8 +20,8 @@ use Rattle.boolean.proofs.Members.{if-kept, mem-if, in-if}
 use Rattle.boolean.proofs.Stored.{Stored, stored-none, stored-room, stored-more}
 use Rattle.refusals.specs.Table.{Box}
 use Rattle.differential.specs.XorTable.{cell, largestCell}
-use Rattle.sorting.specs.Occurrences.{occurrences}
-use Rattle.differential.specs.Work.{Paired, IsRow, rowCells, runAt, runs}
+use Rattle.differential.specs.Running.{Paired}
+use Rattle.differential.specs.Work.{IsRow, rowCells, runAt, runs}
 use Rattle.sorting.specs.Sorting.{Sorted}
 use Rattle.sorting.proofs.Occurrences.{occurs-more, occurs-at}
 use Rattle.differential.proofs.Pairs.{cell-twice, pair-small}

@@ -7,9 +7,9 @@ use native.Mathlib.Decide.{ℕ-discrete}
 use native.Mathlib.Omega.{arith}
 use lib.ListN.{length, set, length-set}
 use lib.Seq.{getD-set-same, getD-set-other}
-use Rattle.boolean.specs.Functions.{at}
-use Rattle.sorting.specs.Occurrences.{occurrences}
-use Rattle.differential.specs.Work.{standing, slotOf, Slot, Slots}
+use Rattle.boolean.specs.Functions.{at, occurrences}
+use Rattle.differential.specs.Running.{standing}
+use Rattle.differential.specs.Work.{slotOf, Slot, Slots}
 use Rattle.sorting.proofs.Occurrences.{occurs-more, occurs-same, occurs-none, occurs-le}
 
 slot-inside : (v : ℕ) → slotOf v < 4096

@@ -15,7 +15,8 @@ use Rattle.boolean.proofs.Lists.{each-from-one}
 use Rattle.boolean.proofs.Selection.{best-append, firstLargest-above}
 use Rattle.refusals.specs.Table.{Box}
 use Rattle.differential.specs.XorTable.{cellsOf, cells, largestCell}
-use Rattle.differential.specs.Work.{Inside, differencesOf, Paired, AfterRow}
+use Rattle.differential.specs.Running.{Paired}
+use Rattle.differential.specs.Work.{Inside, differencesOf, AfterRow}
 use Rattle.differential.specs.Statements.{IsCell, cellOf}
 use Rattle.differential.proofs.Cells.{in-cells}
 use Rattle.sorting.proofs.Occurrences.{occurs}

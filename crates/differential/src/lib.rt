@@ -5,21 +5,28 @@ use refusals::Checked;
 use refusals::Refusal;
 use refusals::Written;
 ghost use mathlib.Core.Path.{_≡_};
-ghost use mathlib.Core.List.{[], _∷_};
 ghost use Prim.Native.Nat.{_+_, _-_, _*_, _^_, _≤_, _<_};
 ghost use lib.ListN.{length};
-ghost use Rattle.refusals.specs.Table.{first, replyAfter, contentAfter, written, Box};
-ghost use Rattle.sorting.specs.Occurrences.{occurrences};
-ghost use Rattle.differential.specs.XorTable.{xorRow, largestCells};
+ghost use Rattle.refusals.specs.Table.{first, Box};
+ghost use Rattle.differential.specs.XorTable.{xorRow};
+ghost use Rattle.boolean.specs.Sums.{AnyContent};
+ghost use Rattle.boolean.specs.Functions.{occurrences};
 ghost use Rattle.differential.specs.XorTable as spec;
-ghost use Rattle.differential.specs.Calls.{rowChecks, listChecks, largestReply, xorReply, listReply, listAfter};
-ghost use Rattle.differential.specs.Work.{candidate, Swept, Inside, differencesOf, HighestBit, Paired, risenAt, runningAfter, Running, Slots, AfterRow};
+ghost use Rattle.differential.specs.Calls.{rowChecks, largestReply, xorReply, RowCalled, ListCalled};
+ghost use Rattle.differential.specs.Work.{candidate, Swept, Inside, differencesOf, Slots, AfterRow};
+ghost use Rattle.differential.specs.Running.{HighestBit, Paired, LargestSoFar, risenAt, higherOf, runningAfter};
 
 // The best cell so far.
 pub struct FoundCell {
     pub count: u32,
     pub a: u32,
     pub beta: u32,
+}
+
+// What a rise leaves: the standing of the difference whose count has risen, and the running value.
+pub struct AfterRise {
+    pub standing: u64,
+    pub running: u64,
 }
 
 // The answer of the largest cell.
@@ -83,7 +90,8 @@ fn check_row(n: u32, m: u32, rows: &[u32], a: u32, room: usize) -> Checked
 // The row of a, with an array for the differences lent.
 fn write_row(n: u32, m: u32, rows: &[u32], a: u32, differences: &mut [u32], counts: &mut [u16])
     requires { ⌜ Swept n m (now rows) (now differences) × (a < 2 ^ n) × (length (now counts) ≡ 2 ^ m) ⌝ }
-    ensures { λ _. ⌜ (now (counts .exit) ≡ xorRow n m (now (rows .entry)) a) × (now (differences .exit) ≡ differencesOf (now (rows .entry)) a) ⌝ }
+    ensures { λ _. ⌜ (now (counts .exit) ≡ xorRow n m (now (rows .entry)) a)
+        × (now (differences .exit) ≡ differencesOf (now (rows .entry)) a) ⌝ }
 {
     write_differences(rows, a, differences);
     sorting::clear(counts);
@@ -92,8 +100,7 @@ fn write_row(n: u32, m: u32, rows: &[u32], a: u32, differences: &mut [u32], coun
 
 // One row of the XOR table: the count for each output difference under the input difference a.
 pub fn xor_row(n: u32, m: u32, rows: &[u32], a: u32, counts: &mut [u16]) -> Written
-    ensures reply { λ r. ⌜ written r ≡ replyAfter (first (rowChecks n m (now (rows .entry)) a (length (now (counts .entry))))) [] ⌝ }
-    ensures content { λ r. ⌜ now (counts .exit) ≡ contentAfter (first (rowChecks n m (now (rows .entry)) a (length (now (counts .entry))))) (xorRow n m (now (rows .entry)) a) (now (counts .entry)) ⌝ }
+    ensures { λ r. ⌜ RowCalled n m (now (rows .entry)) a (now (counts .entry)) r (now (counts .exit)) ⌝ }
 {
     if let Checked::Refused(e) = check_row(n, m, rows, a, counts.len()) {
         return Written::Declined(e);
@@ -131,9 +138,9 @@ fn write_pairs(rows: &[u32], a: u32, pairs: &mut [u32])
     }
 }
 
-// The counts of a row stand in 4,096 slots, since 32 outputs have too many differences for a count each. A slot holds the standing of one difference, its
-// count * 2^32 + (2^32 - 1 - beta), so that the larger standing counts more, or as many for a smaller difference. Every difference takes its slot, with a
-// count of 0, so that the last of those that share a slot has it.
+// The counts of a row stand in 4,096 slots, since 32 outputs have too many differences for a count each. A slot holds the standing of one
+// difference, its count * 2^32 + (2^32 - 1 - beta), so that the larger standing counts more, or as many for a smaller difference. Every
+// difference takes its slot, with a count of 0, so that the last of those that share a slot has it.
 fn claim_slots(differences: &[u32], slots: &mut [u64])
     requires { ⌜ length (now slots) ≡ 4096 ⌝ }
     ensures { λ _. ⌜ Slots (now (differences .entry)) 0 (now (slots .exit)) ⌝ }
@@ -147,11 +154,12 @@ fn claim_slots(differences: &[u32], slots: &mut [u64])
     }
 }
 
-// The standing of the difference at y after its count has risen: by one in its slot, or, where another difference has the slot, from those before it
-// that are the same.
+// The standing of the difference at y after its count has risen: by one in its slot, or, where another difference has the slot, from those
+// before it that are the same.
 fn risen(differences: &[u32], y: usize, slots: &mut [u64]) -> u64
     requires { ⌜ (y < length (now differences)) × (length (now differences) ≤ 128) × Slots (now differences) y (now slots) ⌝ }
-    ensures { λ r. ⌜ (r ≡ risenAt (now (differences .entry)) y) × Slots (now (differences .entry)) (y + 1) (now (slots .exit)) ⌝ }
+    ensures { λ r. ⌜ (r ≡ risenAt (now (differences .entry)) y)
+        × Slots (now (differences .entry)) (y + 1) (now (slots .exit)) ⌝ }
 {
     let beta = differences[y];
     let last = 4294967295 - beta as u64;
@@ -165,28 +173,49 @@ fn risen(differences: &[u32], y: usize, slots: &mut [u64]) -> u64
     (before + 1) * 4294967296 + last
 }
 
-// The largest count of the differences and the smallest difference that has it, as one standing, brought up to date as each count rises.
+// One rise: the count of the difference at y goes up by one, and the running value is brought up to date by one comparison. After each rise
+// its count is the largest so far, and its difference the smallest that has it.
+fn rise(differences: &[u32], y: usize, slots: &mut [u64], running: u64) -> AfterRise
+    requires { ⌜ (y < length (now differences)) × (length (now differences) ≤ 128) × Slots (now differences) y (now slots)
+        × LargestSoFar (now differences) y running ⌝ }
+    ensures { λ r. ⌜ LargestSoFar (now (differences .entry)) (y + 1) (r .running)
+        × (r .running ≡ higherOf running (r .standing)) × (r .standing ≡ risenAt (now (differences .entry)) y)
+        × Slots (now (differences .entry)) (y + 1) (now (slots .exit)) ⌝ }
+{
+    let standing = risen(differences, y, slots);
+    if running < standing {
+        AfterRise {
+            standing,
+            running: standing,
+        }
+    } else {
+        AfterRise { standing, running }
+    }
+}
+
+// The largest count of the differences and the smallest difference that has it, as one standing: a running value while the counts rise.
 fn largest_risen(differences: &[u32], slots: &mut [u64]) -> u64
     requires { ⌜ (length (now differences) ≤ 128) × (length (now slots) ≡ 4096) ⌝ }
-    ensures { λ r. ⌜ Running (now (differences .entry)) (length (now (differences .entry))) r × (length (now (slots .exit)) ≡ 4096) × (r ≡ runningAfter (now (differences .entry)) (length (now (differences .entry)))) ⌝ }
+    ensures { λ r. ⌜ LargestSoFar (now (differences .entry)) (length (now (differences .entry))) r
+        × (r ≡ runningAfter (now (differences .entry)) (length (now (differences .entry))))
+        × Slots (now (differences .entry)) (length (now (differences .entry))) (now (slots .exit)) ⌝ }
 {
     claim_slots(differences, slots);
-    let mut best: u64 = 4294967295;
+    let mut running: u64 = 4294967295;
     let mut y = 0;
     while y < differences.len() {
-        let standing = risen(differences, y, slots);
-        if best < standing {
-            best = standing;
-        }
+        let after = rise(differences, y, slots, running);
+        running = after.running;
         y += 1;
     }
-    best
+    running
 }
 
 // The best cell so far, or the largest of the row of a where that counts more. A pair stands for two inputs.
 fn after_row(a: u32, pairs: &[u32], slots: &mut [u64], found: FoundCell) -> FoundCell
     requires { ⌜ (length (now pairs) ≤ 128) × (length (now slots) ≡ 4096) ⌝ }
-    ensures { λ r. ⌜ AfterRow a (now (pairs .entry)) (candidate found) (candidate r) × (length (now (slots .exit)) ≡ 4096) ⌝ }
+    ensures { λ r. ⌜ AfterRow a (now (pairs .entry)) (candidate found) (candidate r)
+        × Slots (now (pairs .entry)) (length (now (pairs .entry))) (now (slots .exit)) ⌝ }
 {
     let best = largest_risen(pairs, slots);
     let count = 2 * ((best / 4294967296) as u32);
@@ -200,7 +229,8 @@ fn after_row(a: u32, pairs: &[u32], slots: &mut [u64], found: FoundCell) -> Foun
 // Every row in turn, from 1 to 2^n − 1. It starts from a count that every row exceeds.
 fn sweep_cells(n: u32, m: u32, rows: &[u32], pairs: &mut [u32], slots: &mut [u64]) -> FoundCell
     requires { ⌜ Box n m (now rows) × (length (now rows) ≡ 2 * length (now pairs)) × (length (now slots) ≡ 4096) ⌝ }
-    ensures { λ r. ⌜ (candidate r ≡ spec.largestCell n m (now (rows .entry))) × Paired (now (rows .entry)) (2 ^ n - 1) (now (pairs .exit)) × (length (now (slots .exit)) ≡ 4096) ⌝ }
+    ensures { λ r. ⌜ (candidate r ≡ spec.largestCell n m (now (rows .entry)))
+        × Paired (now (rows .entry)) (2 ^ n - 1) (now (pairs .exit)) × AnyContent (now (slots .entry)) (now (slots .exit)) ⌝ }
 {
     let inputs = boolean::power_of_two(n) as u32;
     let mut found = FoundCell {
@@ -243,11 +273,10 @@ pub fn largest_cell(n: u32, m: u32, rows: &[u32]) -> LargestCell
     }
 }
 
-// All cells that reach the largest count, each as a * 2^32 + beta, by ascending a, then beta, with their number. They are counted before the list is
-// written to.
+// All cells that reach the largest count, each as a * 2^32 + beta, by ascending a, then beta, with their number. They are counted before
+// the list is written to.
 pub fn largest_cells(n: u32, m: u32, rows: &[u32], list: &mut [u64]) -> CellList
-    ensures reply { λ r. ⌜ listReply r ≡ replyAfter (first (listChecks n m (now (rows .entry)) (length (now (list .entry))))) (length (largestCells n m (now (rows .entry))) ∷ []) ⌝ }
-    ensures content { λ r. ⌜ now (list .exit) ≡ listAfter (first (listChecks n m (now (rows .entry)) (length (now (list .entry))))) (largestCells n m (now (rows .entry))) (now (list .entry)) ⌝ }
+    ensures { λ r. ⌜ ListCalled n m (now (rows .entry)) (now (list .entry)) r (now (list .exit)) ⌝ }
 {
     if let Checked::Refused(e) = refusals::check_box(n, m, rows) {
         return CellList::Unlisted(e);

@@ -1,20 +1,21 @@
-// The list of all cells that reach the largest count. Each row is measured once: its largest count, the smallest difference that has it, and how many have
-// it. A row with one such cell is then known; only the pairs of a row with several are put in order.
+// The list of all cells that reach the largest count. Each row is measured once: its largest count, the smallest difference that has it,
+// and how many have it. A row with one such cell is then known; only the pairs of a row with several are put in order.
 use crate::CellList;
 use crate::claim_slots;
-use crate::risen;
+use crate::rise;
 use crate::write_pairs;
 use refusals::Refusal;
 ghost use mathlib.Core.Path.{_≡_};
-ghost use mathlib.Core.List.{[], _∷_};
 ghost use Prim.Native.Nat.{_+_, _-_, _*_, _/_, _^_, _≤_, _<_};
 ghost use lib.ListN.{length};
 ghost use lib.Seq.{sets};
-ghost use Rattle.refusals.specs.Table.{first, replyAfter, Box};
+ghost use Rattle.refusals.specs.Table.{Box};
+ghost use Rattle.boolean.specs.Sums.{AnyContent};
 ghost use Rattle.differential.specs.XorTable.{largestCells};
 ghost use Rattle.differential.specs.XorTable as spec;
-ghost use Rattle.differential.specs.Calls.{listChecks, listReply, listAfter};
-ghost use Rattle.differential.specs.Work.{Paired, Larger, CellsAfter, RunningCells, IsRow, RowMeasured, Measured, rowCells, runAt, runs};
+ghost use Rattle.differential.specs.Calls.{ListCalled};
+ghost use Rattle.differential.specs.Work.{CellsAfter, RunningCells, IsRow, RowMeasured, Measured, rowCells, runAt, runs, Slots, PairsInOrder};
+ghost use Rattle.differential.specs.Running.{Paired, higherOf};
 
 // What the list needs of a row: its largest standing, and how many of its cells reach that count.
 pub struct RowLargest {
@@ -24,18 +25,18 @@ pub struct RowLargest {
 
 // The larger of two counts.
 fn larger(x: u64, y: u64) -> u64
-    ensures { λ r. ⌜ Larger x y r ⌝ }
+    ensures { λ r. ⌜ r ≡ higherOf x y ⌝ }
 {
     if x < y { y } else { x }
 }
 
-// How many differences have the largest count once another count has risen: that one alone where its count is a new largest, and one more where it is as
-// large.
-fn cells_after(best: u64, standing: u64, cells: u32) -> u32
+// How many differences have the largest count once another count has risen: that one alone where its count is a new largest, and one more
+// where it is as large.
+fn cells_after(running: u64, standing: u64, cells: u32) -> u32
     requires { ⌜ cells < 128 ⌝ }
-    ensures { λ r. ⌜ CellsAfter (best / 4294967296) (standing / 4294967296) cells r ⌝ }
+    ensures { λ r. ⌜ CellsAfter (running / 4294967296) (standing / 4294967296) cells r ⌝ }
 {
-    let before = best / 4294967296;
+    let before = running / 4294967296;
     let count = standing / 4294967296;
     if before < count {
         return 1;
@@ -49,20 +50,21 @@ fn cells_after(best: u64, standing: u64, cells: u32) -> u32
 // As `largest_risen`, with the number of differences that have the largest count brought up to date beside it.
 fn measure_row(differences: &[u32], slots: &mut [u64]) -> RowLargest
     requires { ⌜ (length (now differences) ≤ 128) × (length (now slots) ≡ 4096) ⌝ }
-    ensures { λ r. ⌜ RunningCells (now (differences .entry)) (length (now (differences .entry))) (r .standing) (r .cells) × (length (now (slots .exit)) ≡ 4096) ⌝ }
+    ensures { λ r. ⌜ RunningCells (now (differences .entry)) (length (now (differences .entry))) (r .standing) (r .cells)
+        × Slots (now (differences .entry)) (length (now (differences .entry))) (now (slots .exit)) ⌝ }
 {
     claim_slots(differences, slots);
-    let mut best: u64 = 4294967295;
+    let mut running: u64 = 4294967295;
     let mut cells: u32 = 0;
     let mut y = 0;
     while y < differences.len() {
-        let standing = risen(differences, y, slots);
-        cells = cells_after(best, standing, cells);
-        best = larger(best, standing);
+        let after = rise(differences, y, slots, running);
+        cells = cells_after(running, after.standing, cells);
+        running = after.running;
         y += 1;
     }
     RowLargest {
-        standing: best,
+        standing: running,
         cells: cells,
     }
 }
@@ -77,8 +79,11 @@ fn measure_rows(
     standings: &mut [u64; 256],
     numbers: &mut [u32; 256],
 ) -> u64
-    requires { ⌜ Box n m (now rows) × (length (now rows) ≡ 2 * length (now pairs)) × (length (now slots) ≡ 4096) × (length (now standings) ≡ 256) × (length (now numbers) ≡ 256) ⌝ }
-    ensures { λ r. ⌜ Measured n m (now (rows .entry)) (now (standings .exit)) (now (numbers .exit)) × (2 * r ≡ spec.largestCell n m (now (rows .entry)) .figure) × Paired (now (rows .entry)) (2 ^ n - 1) (now (pairs .exit)) × (length (now (slots .exit)) ≡ 4096) ⌝ }
+    requires { ⌜ Box n m (now rows) × (length (now rows) ≡ 2 * length (now pairs)) × (length (now slots) ≡ 4096)
+        × (length (now standings) ≡ 256) × (length (now numbers) ≡ 256) ⌝ }
+    ensures { λ r. ⌜ Measured n m (now (rows .entry)) (now (standings .exit)) (now (numbers .exit))
+        × (2 * r ≡ spec.largestCell n m (now (rows .entry)) .figure)
+        × Paired (now (rows .entry)) (2 ^ n - 1) (now (pairs .exit)) × AnyContent (now (slots .entry)) (now (slots .exit)) ⌝ }
 {
     let mut largest: u64 = 0;
     let mut a: usize = 1;
@@ -102,7 +107,8 @@ fn measure(
     numbers: &mut [u32; 256],
 ) -> u64
     requires { ⌜ Box n m (now rows) × (length (now standings) ≡ 256) × (length (now numbers) ≡ 256) ⌝ }
-    ensures { λ r. ⌜ Measured n m (now (rows .entry)) (now (standings .exit)) (now (numbers .exit)) × (2 * r ≡ spec.largestCell n m (now (rows .entry)) .figure) ⌝ }
+    ensures { λ r. ⌜ Measured n m (now (rows .entry)) (now (standings .exit)) (now (numbers .exit))
+        × (2 * r ≡ spec.largestCell n m (now (rows .entry)) .figure) ⌝ }
 {
     let mut pairs = [0u32; 128];
     let mut slots = [0u64; 4096];
@@ -127,7 +133,8 @@ fn count_cells(
     numbers: &[u32; 256],
     largest: u64,
 ) -> usize
-    requires { ⌜ Box n m (now rows) × Measured n m (now rows) (now standings) (now numbers) × (2 * largest ≡ spec.largestCell n m (now rows) .figure) ⌝ }
+    requires { ⌜ Box n m (now rows) × Measured n m (now rows) (now standings) (now numbers)
+        × (2 * largest ≡ spec.largestCell n m (now rows) .figure) ⌝ }
     ensures { λ r. ⌜ (r ≡ length (largestCells n m (now (rows .entry)))) × (r ≤ 65536) ⌝ }
 {
     let mut count = 0;
@@ -141,11 +148,13 @@ fn count_cells(
     count
 }
 
-// The cell of the run that starts at y is written to the list's entry `next`: of the pairs in order, `largest` from there on have the same difference. The
-// entry after it is returned.
+// The cell of the run that starts at y is written to the list's entry `next`: of the pairs in order, `largest` from there on have the same
+// difference. The entry after it is returned.
 fn list_run(a: u32, pairs: &[u32], y: usize, largest: usize, list: &mut [u64], next: usize) -> usize
-    requires { ⌜ (1 ≤ largest) × (y + largest ≤ length (now pairs)) × (length (now pairs) ≤ 128) × (a < 256) × (next + length (runAt largest a (now pairs) y) ≤ length (now list)) ⌝ }
-    ensures { λ r. ⌜ (r ≡ next + length (runAt largest a (now (pairs .entry)) y)) × (now (list .exit) ≡ sets (now (list .entry)) next (runAt largest a (now (pairs .entry)) y)) ⌝ }
+    requires { ⌜ (1 ≤ largest) × (y + largest ≤ length (now pairs)) × (length (now pairs) ≤ 128) × (a < 256)
+        × (next + length (runAt largest a (now pairs) y) ≤ length (now list)) ⌝ }
+    ensures { λ r. ⌜ (r ≡ next + length (runAt largest a (now (pairs .entry)) y))
+        × (now (list .exit) ≡ sets (now (list .entry)) next (runAt largest a (now (pairs .entry)) y)) ⌝ }
 {
     let last = y + (largest - 1);
     if pairs[y] != pairs[last] {
@@ -157,8 +166,10 @@ fn list_run(a: u32, pairs: &[u32], y: usize, largest: usize, list: &mut [u64], n
 
 // The cells of all runs are written to the list from the entry `start` on. The entry after them is returned.
 fn list_runs(a: u32, pairs: &[u32], largest: usize, list: &mut [u64], start: usize) -> usize
-    requires { ⌜ (1 ≤ largest) × (largest ≤ 128) × (length (now pairs) ≤ 128) × (a < 256) × (start + length (runs largest a (now pairs)) ≤ length (now list)) ⌝ }
-    ensures { λ r. ⌜ (r ≡ start + length (runs largest a (now (pairs .entry)))) × (now (list .exit) ≡ sets (now (list .entry)) start (runs largest a (now (pairs .entry)))) ⌝ }
+    requires { ⌜ (1 ≤ largest) × (largest ≤ 128) × (length (now pairs) ≤ 128) × (a < 256)
+        × (start + length (runs largest a (now pairs)) ≤ length (now list)) ⌝ }
+    ensures { λ r. ⌜ (r ≡ start + length (runs largest a (now (pairs .entry))))
+        × (now (list .exit) ≡ sets (now (list .entry)) start (runs largest a (now (pairs .entry)))) ⌝ }
 {
     let mut next = start;
     let mut y = 0;
@@ -169,7 +180,8 @@ fn list_runs(a: u32, pairs: &[u32], largest: usize, list: &mut [u64], start: usi
     next
 }
 
-// The cells of a row that has several: its pairs are put in order, so that those with the same difference stand together, the smallest first.
+// The cells of a row that has several: its pairs are put in order, so that those with the same difference stand together, the smallest
+// first.
 fn list_several(
     n: u32,
     m: u32,
@@ -180,16 +192,19 @@ fn list_several(
     list: &mut [u64],
     start: usize,
 ) -> usize
-    requires { ⌜ Box n m (now rows) × IsRow n a × (2 * largest ≡ spec.largestCell n m (now rows) .figure) × (length (now rows) ≡ 2 * length (now pairs)) × (start + length (rowCells n m (now rows) a) ≤ length (now list)) ⌝ }
-    ensures { λ r. ⌜ (r ≡ start + length (rowCells n m (now (rows .entry)) a)) × (now (list .exit) ≡ sets (now (list .entry)) start (rowCells n m (now (rows .entry)) a)) × (length (now (pairs .exit)) ≡ length (now (pairs .entry))) ⌝ }
+    requires { ⌜ Box n m (now rows) × IsRow n a × (2 * largest ≡ spec.largestCell n m (now rows) .figure)
+        × (length (now rows) ≡ 2 * length (now pairs)) × (start + length (rowCells n m (now rows) a) ≤ length (now list)) ⌝ }
+    ensures { λ r. ⌜ (r ≡ start + length (rowCells n m (now (rows .entry)) a))
+        × (now (list .exit) ≡ sets (now (list .entry)) start (rowCells n m (now (rows .entry)) a))
+        × PairsInOrder (now (rows .entry)) a (now (pairs .exit)) ⌝ }
 {
     write_pairs(rows, a, pairs);
     sorting::sort(pairs, m);
     list_runs(a, pairs, largest, list, start)
 }
 
-// The cells of one row that reach the largest count are written to the list from the entry `start` on. A single one is known already. The entry after them
-// is returned.
+// The cells of one row that reach the largest count are written to the list from the entry `start` on. A single one is known already. The
+// entry after them is returned.
 fn list_row(
     n: u32,
     m: u32,
@@ -200,8 +215,11 @@ fn list_row(
     list: &mut [u64],
     start: usize,
 ) -> usize
-    requires { ⌜ Box n m (now rows) × IsRow n a × RowMeasured n m (now rows) a (row .standing) (row .cells) × (2 * largest ≡ spec.largestCell n m (now rows) .figure) × (start + length (rowCells n m (now rows) a) ≤ length (now list)) ⌝ }
-    ensures { λ r. ⌜ (r ≡ start + length (rowCells n m (now (rows .entry)) a)) × (now (list .exit) ≡ sets (now (list .entry)) start (rowCells n m (now (rows .entry)) a)) ⌝ }
+    requires { ⌜ Box n m (now rows) × IsRow n a × RowMeasured n m (now rows) a (row .standing) (row .cells)
+        × (2 * largest ≡ spec.largestCell n m (now rows) .figure)
+        × (start + length (rowCells n m (now rows) a) ≤ length (now list)) ⌝ }
+    ensures { λ r. ⌜ (r ≡ start + length (rowCells n m (now (rows .entry)) a))
+        × (now (list .exit) ≡ sets (now (list .entry)) start (rowCells n m (now (rows .entry)) a)) ⌝ }
 {
     if row.standing / 4294967296 != largest {
         return start;
@@ -234,7 +252,8 @@ fn list_cells(
     largest: u64,
     list: &mut [u64],
 )
-    requires { ⌜ Box n m (now rows) × Measured n m (now rows) (now standings) (now numbers) × (2 * largest ≡ spec.largestCell n m (now rows) .figure) × (length (largestCells n m (now rows)) ≤ length (now list)) ⌝ }
+    requires { ⌜ Box n m (now rows) × Measured n m (now rows) (now standings) (now numbers)
+        × (2 * largest ≡ spec.largestCell n m (now rows) .figure) × (length (largestCells n m (now rows)) ≤ length (now list)) ⌝ }
     ensures { λ _. ⌜ now (list .exit) ≡ sets (now (list .entry)) 0 (largestCells n m (now (rows .entry))) ⌝ }
 {
     let mut next = 0;
@@ -249,7 +268,8 @@ fn list_cells(
     }
 }
 
-// The rows are measured, then the cells that reach the largest count are counted, and only a list that has room for all of them is written to.
+// The rows are measured, then the cells that reach the largest count are counted, and only a list that has room for all of them is written
+// to.
 pub fn list_with(
     n: u32,
     m: u32,
@@ -259,8 +279,8 @@ pub fn list_with(
     list: &mut [u64],
 ) -> CellList
     requires { ⌜ Box n m (now rows) × (length (now standings) ≡ 256) × (length (now numbers) ≡ 256) ⌝ }
-    ensures reply { λ r. ⌜ listReply r ≡ replyAfter (first (listChecks n m (now (rows .entry)) (length (now (list .entry))))) (length (largestCells n m (now (rows .entry))) ∷ []) ⌝ }
-    ensures content { λ r. ⌜ now (list .exit) ≡ listAfter (first (listChecks n m (now (rows .entry)) (length (now (list .entry))))) (largestCells n m (now (rows .entry))) (now (list .entry)) ⌝ }
+    ensures { λ r. ⌜ ListCalled n m (now (rows .entry)) (now (list .entry)) r (now (list .exit)) ⌝ }
+    ensures measured { λ r. ⌜ Measured n m (now (rows .entry)) (now (standings .exit)) (now (numbers .exit)) ⌝ }
 {
     let largest = measure(n, m, rows, standings, numbers);
     let count = count_cells(n, m, rows, standings, numbers, largest);

@@ -9,7 +9,7 @@ use borrow.Author.Count.{below-more}
 use lib.IntN.{ℤ, pos, natAbs}
 use lib.ListN.{length, List·getD-eq-default}
 use Rattle.boolean.specs.Functions.{valueAt}
-use Rattle.linear.specs.Calls.{Largest, FirstPlace}
+use Rattle.linear.specs.Work.{Largest, FirstPlace}
 
 -- the largest magnitude of the first k values
 pub record Leading (values : List ℤ) (k largest : ℕ) : Type 0 where

@@ -18,16 +18,17 @@ use Rattle.boolean.proofs.Digits.{component-lt}
 use Rattle.boolean.proofs.Distances.{walsh-pos, walsh-negsuc, distance-walsh}
 use Rattle.boolean.proofs.Dots.{bit-cases}
 use Rattle.boolean.proofs.Lists.{length-listBelow, getD-listBelow}
-use Rattle.boolean.proofs.Components.{masksBelow}
+use Rattle.boolean.specs.Statements.{masksBelow}
 use Rattle.boolean.proofs.Selection.{best-takes, best-keeps, first-is, firstLeast-le, firstLeast-mem, ranked-first}
 use Rattle.boolean.proofs.Approximations.{walsh-twice, walsh-size, approximation-le, half-power}
 use Rattle.refusals.specs.Table.{Box}
 use Rattle.masks.specs.Masks.{Next, Raised, outputs, preferred}
 use Rattle.masks.proofs.Walk.{best-starts, best-next, best-ends}
-use Rattle.masks.proofs.Fewest.{Blocks, least-names, lower-test, least-swept}
+use Rattle.masks.specs.Statements.{Blocks}
+use Rattle.masks.proofs.Fewest.{least-names, lower-test, least-swept}
 use Rattle.masks.proofs.Boxes.{Stepwise, stepwise-starts, stepwise-next}
 use Rattle.linear.specs.Nonlinearity.{pair, pairsOf, pairs, nonlinearity}
-use Rattle.linear.specs.Calls.{Largest, FirstPlace, Swept}
+use Rattle.linear.specs.Work.{Largest, FirstPlace, Swept}
 use Rattle.linear.specs.Statements.{pairRank}
 use Rattle.linear.proofs.Pairs.{in-pairsOf, mem-pairsOf, pairsOf-some, ascending-pairsOf}
 

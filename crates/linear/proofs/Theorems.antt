@@ -1,15 +1,16 @@
 -- The nonlinearity d: the least distance, the first pair that has it, in whichever order the pairs are visited; the covering bound, and where that
--- is met.
+-- is met; and all of it of what the call reports (`nonlinearity-reported`).
 use mathlib.Core.Path.{_≡_, sym, ap, ap₂, _∙_, subst}
 use mathlib.Core.Logic.{_↔_}
-use mathlib.Core.List.{List, List·Memᴰ}
+use mathlib.Core.List.{List, _∷_, List·Memᴰ}
 use Prim.Native.Nat.{ℕ, _+_, _*_, _-_, _^_, _<_, _≤_}
 use native.Mathlib.Nat.{le-trans, le-of-eq, zero-lt-suc, le-refl, mul-le-mul}
 use native.Mathlib.Omega.{arith}
 use lib.IntN.{natAbs}
 use Rattle.boolean.specs.Sums.{each}
-use Rattle.boolean.specs.Functions.{Bent, Within, component, components, distance, walsh, square}
-use Rattle.boolean.specs.Selection.{Candidate, lower, firstBest, firstLeast, SameMembers, ranked, First}
+use Rattle.boolean.specs.Functions.{Bent, Within, at, component, components, distance, walsh, square}
+use Rattle.boolean.specs.Selection.{Candidate, shown, lower, firstBest, firstLeast, SameMembers, ranked, First}
+use Rattle.boolean.proofs.Components.{within-more}
 use Rattle.boolean.proofs.Digits.{component-lt}
 use Rattle.boolean.proofs.Dots.{bit-cases}
 use Rattle.boolean.proofs.Distances.{distance-walsh}
@@ -17,22 +18,26 @@ use Rattle.boolean.proofs.Spectrum.{some-walsh-large}
 use Rattle.boolean.proofs.Bent.{bent-of-squares, bent-squares}
 use Rattle.boolean.proofs.Lists.{each-same}
 use Rattle.boolean.proofs.Selection.{firstLeast-le, firstLeast-mem, firstLeast-first, firstLeast-any-order, first-ranked}
-use Rattle.linear.specs.Nonlinearity.{pair, pairsOf, pairs, nonlinearity}
-use Rattle.linear.specs.Statements.{IsPair, Before, pairRank}
+use Rattle.refusals.specs.Table.{figures, limitChecks, first}
+use Rattle.refusals.specs.declared.Checked.the-variants.{Accepted}
+use Rattle.refusals.proofs.Checks.{limited, reply-accepted}
+use Rattle.linear.specs.Nonlinearity.{pair, pairsOf, pairs, nonlinearity, nonlinearityReply}
+use Rattle.linear.specs.Statements.{IsPair, Before, NonlinearityReported, pairRank}
+use Rattle.refusals.proofs.Replies.{figures-accepted, head-same}
 use Rattle.linear.proofs.Pairs.{before-rank, first-pair, in-pairsOf, mem-pairsOf, pairsOf-some, in-pairs, mem-pairs, ascending-pairs, pairs-nonempty}
 
 module _ (n m : ℕ) (rows : List ℕ) (i : ℕ) where
   -- every pair differs at d inputs or more
-  pub least : (c w b : ℕ) → IsPair n m i c w b → nonlinearity n m rows i .figure ≤ distance n (component rows c) w b
+  pub nonlinearity-least : (c w b : ℕ) → IsPair n m i c w b → nonlinearity n m rows i .figure ≤ distance n (component rows c) w b
   unfolding nonlinearity
-  least c w b h = firstLeast-le (pairs n m rows i) (pair n rows c w b) (in-pairs n m rows i c w b h)
+  nonlinearity-least c w b h = firstLeast-le (pairs n m rows i) (pair n rows c w b) (in-pairs n m rows i c w b h)
 
   -- so does the nearest pair of each component
   pub component-least : (c : ℕ) → Within i (2 ^ m) c → nonlinearity n m rows i .figure ≤ firstLeast (pairsOf n rows c) .figure
   component-least c mask =
       let t = pairsOf-some n rows c in
       let k = mem-pairsOf n rows c (firstLeast (pairsOf n rows c)) (subst (λ (l : List Candidate). List·Memᴰ (firstLeast l) l) (sym (t .2)) (firstLeast-mem (t .0) (t .1))) in
-      omega (arith, least c (k .0) (k .1) (record { mask = mask; w-high = k .2; b-high = k .3 }), ap (λ (p : Candidate). p .figure) (k .4))
+      omega (arith, nonlinearity-least c (k .0) (k .1) (record { mask = mask; w-high = k .2; b-high = k .3 }), ap (λ (p : Candidate). p .figure) (k .4))
 
   -- "Combinations may be visited in any order without effect on any answer." Over any list with the members of `pairs`, in any order and some of
   -- them more than once, the pair that differs at the fewest inputs, and of those the one of the lowest rank, is the nonlinearity with its witness.
@@ -50,24 +55,24 @@ module _ (n m : ℕ) (rows : List ℕ) (i : ℕ) where
 
   module _ (m-low : 1 ≤ m) (i-low : 1 ≤ i) where
     -- a pair differs at exactly d
-    pub reached : (c w b : ℕ) × IsPair n m i c w b × (nonlinearity n m rows i ≡ pair n rows c w b)
+    pub nonlinearity-reached : (c w b : ℕ) × IsPair n m i c w b × (nonlinearity n m rows i ≡ pair n rows c w b)
     unfolding nonlinearity
-    reached =
+    nonlinearity-reached =
         let t = pairs-nonempty n m rows i m-low i-low in
         mem-pairs n m rows i (nonlinearity n m rows i) (subst (λ (l : List Candidate). List·Memᴰ (firstLeast l) l) (sym (t .2)) (firstLeast-mem (t .0) (t .1)))
 
     -- so does the nearest pair of one component
     pub component-reached : (c : ℕ) × Within i (2 ^ m) c × (firstLeast (pairsOf n rows c) .figure ≡ nonlinearity n m rows i .figure)
     component-reached =
-        let t = reached in
+        let t = nonlinearity-reached in
         let near = firstLeast-le (pairsOf n rows (t .0)) (pair n rows (t .0) (t .1) (t .2)) (in-pairsOf n rows (t .0) (t .1) (t .2) (t .3 .w-high) (t .3 .b-high)) in
         (t .0, t .3 .mask, omega (arith, near, ap (λ (p : Candidate). p .figure) (t .4), component-least (t .0) (t .3 .mask)))
 
     -- and each pair before it at more
-    pub first : (c w b : ℕ) → nonlinearity n m rows i ≡ pair n rows c w b
+    pub nonlinearity-first : (c w b : ℕ) → nonlinearity n m rows i ≡ pair n rows c w b
         → (c′ w′ b′ : ℕ) → IsPair n m i c′ w′ b′ → Before c′ w′ b′ c w b → nonlinearity n m rows i .figure < distance n (component rows c′) w′ b′
     unfolding nonlinearity
-    first c w b e c′ w′ b′ h l =
+    nonlinearity-first c w b e c′ w′ b′ h l =
         let t = pairs-nonempty n m rows i m-low i-low in
         first-ranked (pairRank n m) (λ r p. r .figure < p .figure) (ascending-pairs n m rows i)
         (subst (λ (l : List Candidate). First (λ r p. r .figure < p .figure) (firstLeast l) l) (sym (t .2)) (firstLeast-first (t .0) (t .1)))
@@ -81,8 +86,8 @@ module _ (n m : ℕ) (rows : List ℕ) (i : ℕ) where
     -- what 2d leaves of 2^n is at least each Walsh value in size
     spectrum-within : (c w : ℕ) → Within i (2 ^ m) c → w < 2 ^ n → 2 * nonlinearity n m rows i .figure + natAbs (walsh n (component rows c) w) ≤ 2 ^ n
     spectrum-within c w mask l =
-        let p = least c w 0 (record { mask = mask; w-high = l; b-high = zero-lt-suc 1 }) in
-        let q = least c w 1 (record { mask = mask; w-high = l; b-high = le-refl 2 }) in
+        let p = nonlinearity-least c w 0 (record { mask = mask; w-high = l; b-high = zero-lt-suc 1 }) in
+        let q = nonlinearity-least c w 1 (record { mask = mask; w-high = l; b-high = le-refl 2 }) in
         omega (arith, distance-walsh n (component rows c) w (boolean c))
 
     -- and the value at the witness
@@ -101,20 +106,61 @@ module _ (n m : ℕ) (rows : List ℕ) (i : ℕ) where
         let k : natAbs (walsh n (component rows c) w) ≤ 2 ^ n - 2 * nonlinearity n m rows i .figure = omega (arith, spectrum-within c w mask l) in
         mul-le-mul k k
 
-    pub covering : (2 * nonlinearity n m rows i .figure ≤ 2 ^ n) × (2 ^ n ≤ (2 ^ n - 2 * nonlinearity n m rows i .figure) * (2 ^ n - 2 * nonlinearity n m rows i .figure))
-    covering =
+    pub covering-bound : (2 * nonlinearity n m rows i .figure ≤ 2 ^ n) × (2 ^ n ≤ (2 ^ n - 2 * nonlinearity n m rows i .figure) * (2 ^ n - 2 * nonlinearity n m rows i .figure))
+    covering-bound =
         let p = first-pair n m i m-low i-low in
         let t = some-walsh-large n (component rows 1) (boolean 1) in
         (omega (arith, spectrum-within 1 0 (p .mask) (p .w-high)), le-trans (t .2) (squares-within 1 (t .0) (p .mask) (t .1)))
 
     -- it is met exactly where every component is bent
-    pub tight : 1 ≤ n → (2 ^ n - 2 * nonlinearity n m rows i .figure) * (2 ^ n - 2 * nonlinearity n m rows i .figure) ≡ 2 ^ n
+    pub covering-equality : 1 ≤ n → (2 ^ n - 2 * nonlinearity n m rows i .figure) * (2 ^ n - 2 * nonlinearity n m rows i .figure) ≡ 2 ^ n
         ↔ ((c : ℕ) → Within i (2 ^ m) c → Bent n (component rows c))
     unfolding square
-    tight low = (
+    covering-equality low = (
       λ e c mask. bent-of-squares n (component rows c) low (boolean c) (λ w l. le-trans (squares-within c w mask l) (le-of-eq e)),
       λ bent.
-          let t = reached in
+          let t = nonlinearity-reached in
           let s : natAbs (walsh n (component rows (t .0)) (t .1)) ≡ 2 ^ n - 2 * nonlinearity n m rows i .figure = spectrum-reached (t .0) (t .1) (t .2) (t .3) (t .4) in
           sym (ap₂ (λ (i j : ℕ). i * j) s s) ∙ bent-squares n (component rows (t .0)) low (bent (t .0) (t .3 .mask)) (t .1) (t .3 .w-high),
     )
+
+-- ---- what the call reports
+module _ (n m : ℕ) (rows : List ℕ) (i : ℕ) where
+  -- "With d the nonlinearity reported for an accepted table: every nonzero output combination differs from every affine function at d inputs or more, and
+  -- the witness is the first pair that differs at exactly d."
+  pub nonlinearity-reported : first (limitChecks n m rows i) ≡ Accepted → NonlinearityReported n m rows i
+  nonlinearity-reported accepted =
+      let l = limited n m rows i accepted in
+      let t = nonlinearity-reached n m rows i (l .box .m-low) (l .i-low) in
+      record {
+        d = nonlinearity n m rows i .figure;
+        c = t .0;
+        w = t .1;
+        b = t .2;
+        reply = sym (reply-accepted accepted (shown (nonlinearity n m rows i)))
+            ∙ ap (λ (p : Candidate). figures (nonlinearity n m rows i .figure ∷ p .witness)) (t .4);
+        least = nonlinearity-least n m rows i;
+        member = t .3;
+        reached = sym (ap (λ (p : Candidate). p .figure) (t .4));
+        before = nonlinearity-first n m rows i (l .box .m-low) (l .i-low) (t .0) (t .1) (t .2) (t .4);
+      }
+
+  -- a reply of figures is that of an accepted table, and its first figure is the nonlinearity
+  pub figure-told : {d : ℕ} {witness : List ℕ} → nonlinearityReply n m rows i ≡ figures (d ∷ witness)
+      → (first (limitChecks n m rows i) ≡ Accepted) × (nonlinearity n m rows i .figure ≡ d)
+  figure-told e =
+      let t = figures-accepted (first (limitChecks n m rows i)) (shown (nonlinearity n m rows i)) e in
+      (t .0, sym (ap (λ (l : List ℕ). at l 0) (t .1)))
+
+-- ---- "cover combinations of at most i outputs": a wider limit covers more, so that the nonlinearity is no larger
+pub nonlinearity-falls : (n m : ℕ) (rows : List ℕ) (i j : ℕ) → i ≤ j → (d e : ℕ) (v w : List ℕ)
+    → nonlinearityReply n m rows i ≡ figures (d ∷ v) → nonlinearityReply n m rows j ≡ figures (e ∷ w) → e ≤ d
+nonlinearity-falls n m rows i j wider d e v w p q =
+    let a = figures-accepted (first (limitChecks n m rows i)) (shown (nonlinearity n m rows i)) p in
+    let b = figures-accepted (first (limitChecks n m rows j)) (shown (nonlinearity n m rows j)) q in
+    let l = limited n m rows i (a .0) in
+    let t = nonlinearity-reached n m rows i (l .box .m-low) (l .i-low) in
+    let pair-is = t .3 in
+    let most = nonlinearity-least n m rows j (t .0) (t .1) (t .2)
+    (record { mask = within-more wider (pair-is .mask); w-high = pair-is .w-high; b-high = pair-is .b-high }) in
+    omega (arith, most, ap (λ (p : Candidate). p .figure) (t .4), head-same (a .1), head-same (b .1))

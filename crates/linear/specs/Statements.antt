@@ -1,9 +1,12 @@
 -- What the theorems beside the contracts say; no contract needs it.
-use Prim.Native.Nat.{ℕ, _+_, _*_, _^_, _<_}
+use Prim.Native.Nat.{ℕ, _+_, _*_, _^_, _≤_, _<_}
 use mathlib.Core.Path.{_≡_}
 use mathlib.Core.Logic.{_⊎_}
-use Rattle.boolean.specs.Functions.{at, Within, MaskBefore, maskRank}
+use mathlib.Core.List.{List, [], _∷_}
+use Rattle.boolean.specs.Functions.{at, component, distance, Within, MaskBefore, maskRank}
 use Rattle.boolean.specs.Selection.{Candidate}
+use Rattle.refusals.specs.Table.{figures}
+use Rattle.linear.specs.Nonlinearity.{nonlinearityReply}
 
 -- component c and the affine function (w, b) are a pair of a box of n inputs and m outputs, within the limit i
 pub record IsPair (n m i c w b : ℕ) : Type 0 where
@@ -15,6 +18,19 @@ pub record IsPair (n m i c w b : ℕ) : Type 0 where
 abbrev pub Before : (c′ w′ b′ c w b : ℕ) → Type 0
 Before c′ w′ b′ c w b = MaskBefore c′ c ⊎ (((c′ ≡ c) × (w′ < w)) ⊎ ((c′ ≡ c) × (w′ ≡ w) × (b′ < b)))
 
+-- What is reported of an accepted box within the limit i: d and the witness (c, w, b), as the call replies them. No pair differs at fewer
+-- inputs than d, the witness is a pair that differs at exactly d, and each pair before it differs at more.
+pub record NonlinearityReported (n m : ℕ) (rows : List ℕ) (i : ℕ) : Type 0 where
+  pub d : ℕ
+  pub c : ℕ
+  pub w : ℕ
+  pub b : ℕ
+  pub reply : nonlinearityReply n m rows i ≡ figures (d ∷ c ∷ w ∷ b ∷ [])
+  pub least : (c′ w′ b′ : ℕ) → IsPair n m i c′ w′ b′ → d ≤ distance n (component rows c′) w′ b′
+  pub member : IsPair n m i c w b
+  pub reached : distance n (component rows c) w b ≡ d
+  pub before : (c′ w′ b′ : ℕ) → IsPair n m i c′ w′ b′ → Before c′ w′ b′ c w b → d < distance n (component rows c′) w′ b′
+
 -- a pair's number in that order
-abbrev pub pairRank : ℕ → ℕ → Candidate → ℕ
+abbrev pub pairRank : (n m : ℕ) (p : Candidate) → ℕ
 pairRank n m p = maskRank m (at (p .witness) 0) * (2 * 2 ^ n) + at (p .witness) 1 * 2 + at (p .witness) 2

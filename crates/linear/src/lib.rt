@@ -6,18 +6,19 @@ ghost use mathlib.Core.Path.{_≡_};
 ghost use mathlib.Core.List.{[], _∷_};
 ghost use Prim.Native.Nat.{_*_, _^_, _≤_, _<_};
 ghost use lib.ListN.{length};
-ghost use Rattle.boolean.specs.Sums.{listBelow};
+ghost use Rattle.boolean.specs.Sums.{listBelow, AnyContent};
 ghost use Rattle.boolean.specs.Functions.{component, spectrum};
 ghost use Rattle.boolean.specs.Selection.{best, lower, firstLeast, ranked};
-ghost use Rattle.refusals.specs.Table.{first, replyAfter, contentAfter, written, Box};
+ghost use Rattle.refusals.specs.Table.{first, Box};
 ghost use Rattle.walsh.specs.Work.{Spectra};
 ghost use Rattle.masks.specs.Masks.{outputs};
-ghost use Rattle.masks.specs.Steps.{Stepping};
+ghost use Rattle.masks.specs.Steps.{stepTables, Stepping};
 ghost use Rattle.linear.specs.Nonlinearity.{pairsOf, nonlinearityReply};
 ghost use Rattle.linear.specs.Nonlinearity as spec;
-ghost use Rattle.linear.specs.Calls.{componentChecks, leastPair, candidate, Swept, Largest, FirstPlace};
+ghost use Rattle.linear.specs.Calls.{componentChecks, ComponentCalled, leastPair};
+ghost use Rattle.linear.specs.Work.{candidate, Swept, Largest, FirstPlace};
 
-// The best pair so far.
+// The best pair so far. It stands in a server, which crosses to C by value: so its fields lie as C lays them.
 #[repr(C)]
 pub struct Found {
     pub count: u32,
@@ -43,7 +44,8 @@ pub fn component_spectrum(
     out: &mut [i32],
 )
     requires { ⌜ Swept n m (now rows) (now table) (now out) × Spectra (now fixed) ⌝ }
-    ensures { λ _. ⌜ (now (out .exit) ≡ spectrum n (component (now (rows .entry)) c)) × (now (table .exit) ≡ listBelow (2 ^ n) (λ x. component (now (rows .entry)) c x)) ⌝ }
+    ensures { λ _. ⌜ (now (out .exit) ≡ spectrum n (component (now (rows .entry)) c))
+        × (now (table .exit) ≡ listBelow (2 ^ n) (λ x. component (now (rows .entry)) c x)) ⌝ }
 {
     masks::write_component(rows, c, table);
     walsh::descend(fixed, n, table, out);
@@ -61,8 +63,10 @@ fn next_spectrum(
     table: &mut [u8],
     out: &mut [i32],
 )
-    requires { ⌜ Swept n m (now rows) (now table) (now out) × Spectra (now fixed) × Stepping m (now rows) (now steps) last c (now table) ⌝ }
-    ensures { λ _. ⌜ (now (out .exit) ≡ spectrum n (component (now (rows .entry)) c)) × (now (table .exit) ≡ listBelow (2 ^ n) (λ x. component (now (rows .entry)) c x)) ⌝ }
+    requires { ⌜ Swept n m (now rows) (now table) (now out) × Spectra (now fixed)
+        × Stepping m (now rows) (now steps) last c (now table) ⌝ }
+    ensures { λ _. ⌜ (now (out .exit) ≡ spectrum n (component (now (rows .entry)) c))
+        × (now (table .exit) ≡ listBelow (2 ^ n) (λ x. component (now (rows .entry)) c x)) ⌝ }
 {
     masks::next_component(m, rows, steps, last, c, table);
     walsh::descend(fixed, n, table, out);
@@ -87,8 +91,7 @@ fn check_component(n: u32, m: u32, rows: &[u32], c: u32, room: usize) -> Checked
 
 // The spectrum of component c of a box.
 pub fn spectrum_of_component(n: u32, m: u32, rows: &[u32], c: u32, out: &mut [i32]) -> Written
-    ensures reply { λ r. ⌜ written r ≡ replyAfter (first (componentChecks n m (now (rows .entry)) c (length (now (out .entry))))) [] ⌝ }
-    ensures content { λ r. ⌜ now (out .exit) ≡ contentAfter (first (componentChecks n m (now (rows .entry)) c (length (now (out .entry))))) (spectrum n (component (now (rows .entry)) c)) (now (out .entry)) ⌝ }
+    ensures { λ r. ⌜ ComponentCalled n m (now (rows .entry)) c (now (out .entry)) r (now (out .exit)) ⌝ }
 {
     if let Checked::Refused(e) = check_component(n, m, rows, c, out.len()) {
         return Written::Declined(e);
@@ -117,7 +120,8 @@ fn largest_magnitude(values: &[i32]) -> u32
     largest
 }
 
-// The fewest inputs at which component c differs from an affine function, with the fixed table and two arrays to work in lent.
+// The fewest inputs at which component c differs from an affine function, with the fixed table and two arrays to work in lent: they are
+// left with the component's truth table and spectrum.
 pub fn component_count(
     fixed: &[i32; 2048],
     n: u32,
@@ -128,7 +132,9 @@ pub fn component_count(
     values: &mut [i32],
 ) -> u32
     requires { ⌜ Swept n m (now rows) (now table) (now values) × Spectra (now fixed) ⌝ }
-    ensures { λ r. ⌜ r ≡ firstLeast (pairsOf n (now (rows .entry)) c) .figure ⌝ }
+    ensures { λ r. ⌜ (r ≡ firstLeast (pairsOf n (now (rows .entry)) c) .figure)
+        × (now (values .exit) ≡ spectrum n (component (now (rows .entry)) c))
+        × (now (table .exit) ≡ listBelow (2 ^ n) (λ x. component (now (rows .entry)) c x)) ⌝ }
 {
     component_spectrum(fixed, n, m, rows, c, table, values);
     let largest = largest_magnitude(values);
@@ -147,11 +153,13 @@ fn first_place(values: &[i32], size: u32) -> usize
     w
 }
 
-// The best pair so far, or the first nearest pair of component c, whose spectrum is given: by the count, and among equal counts by fewer outputs.
-// The largest magnitude has the fewest differing inputs, and its sign decides b. Its place is looked for only where the pair is taken.
+// The best pair so far, or the first nearest pair of component c, whose spectrum is given: by the count, and among equal counts by fewer
+// outputs. The largest magnitude has the fewest differing inputs, and its sign decides b. Its place is looked for only where the pair is
+// taken.
 pub fn with_spectrum(found: Found, n: u32, m: u32, rows: &[u32], c: u32, values: &[i32]) -> Found
     requires { ⌜ Box n m (now rows) × (now values ≡ spectrum n (component (now rows) c)) ⌝ }
-    ensures { λ r. ⌜ candidate r ≡ best (ranked lower outputs) (candidate found) (firstLeast (pairsOf n (now (rows .entry)) c) ∷ []) ⌝ }
+    ensures { λ r. ⌜ candidate r
+        ≡ best (ranked lower outputs) (candidate found) (firstLeast (pairsOf n (now (rows .entry)) c) ∷ []) ⌝ }
 {
     let largest = largest_magnitude(values);
     let count = rows.len() as u32 / 2 - largest;
@@ -180,8 +188,11 @@ fn sweep(
     table: &mut [u8],
     values: &mut [i32],
 ) -> Found
-    requires { ⌜ Swept n m (now rows) (now table) (now values) × Spectra (now fixed) × (length (now steps) ≡ m * length (now rows)) × (1 ≤ i) ⌝ }
-    ensures { λ r. ⌜ candidate r ≡ spec.nonlinearity n m (now (rows .entry)) i ⌝ }
+    requires { ⌜ Swept n m (now rows) (now table) (now values) × Spectra (now fixed)
+        × (length (now steps) ≡ m * length (now rows)) × (1 ≤ i) ⌝ }
+    ensures { λ r. ⌜ (candidate r ≡ spec.nonlinearity n m (now (rows .entry)) i)
+        × (now (steps .exit) ≡ stepTables m (now (rows .entry)))
+        × AnyContent (now (table .entry)) (now (table .exit)) × AnyContent (now (values .entry)) (now (values .exit)) ⌝ }
 {
     masks::write_steps(m, rows, steps);
     masks::write_component(rows, 0, table);

@@ -13,17 +13,15 @@ use lib.Count.{ones}
 use lib.Dec.{ltb, eqb}
 use lib.Pow.{pow-pos}
 use Rattle.boolean.specs.Sums.{each}
-use Rattle.boolean.specs.Functions.{at, components, maskRank}
-use Rattle.boolean.specs.Selection.{Candidate, best, lower, higher, firstBest, firstLeast, firstLargest, ranked, Ascending, SameMembers}
+use Rattle.boolean.specs.Functions.{components, maskRank}
+use Rattle.boolean.specs.Selection.{Candidate, best, lower, higher, firstBest, firstLeast, firstLargest, ranked, Ascending}
+use Rattle.boolean.specs.Statements.{Ordered, ByFigure, masksBelow}
 use Rattle.boolean.proofs.Blocks.{first-blocks}
-use Rattle.boolean.proofs.Components.{masksBelow, mem-masksBelow, ascending-masksBelow, first-masksBelow, ascending-components, same-masks, rank-of-before}
+use Rattle.boolean.proofs.Components.{mem-masksBelow, ascending-masksBelow, first-masksBelow, ascending-components, same-masks, rank-of-before}
 use Rattle.boolean.proofs.Lists.{mem-each, each-same, ascending-each}
-use Rattle.boolean.proofs.Selection.{Ordered, ByFigure, least, by-least, largest, by-largest, best-mem, best-from, best-agrees, ranked-all, any-order}
+use Rattle.boolean.proofs.Selection.{least, by-least, largest, by-largest, best-mem, best-from, best-agrees, ranked-all, any-order}
 use Rattle.masks.specs.Masks.{outputs, preferred}
-
--- the mask of a candidate
-abbrev mask : Candidate → ℕ
-mask p = at (p .witness) 0
+use Rattle.masks.specs.Statements.{mask, Named, Visit, Blocks}
 
 -- a better figure wins whatever the ranks
 pub ranked-wins : (beats : Candidate → Candidate → Bool) (rank : Candidate → ℕ) (c b : Candidate) → beats c b ≡ true → ranked beats rank c b ≡ true
@@ -43,20 +41,7 @@ module _ (v b : Candidate) {figure c : ℕ} (p : figure ≡ v .figure) (q : c �
       turned (yes e) = eq-eqb _ _ e ∙ sym (eq-eqb _ _ (sym e))
       turned (no e) = ne-eqb _ _ e ∙ sym (ne-eqb _ _ (λ d. e (sym d)))
 
--- one candidate for each mask, which its witness names
-pub record Named (rule : ℕ → Candidate) : Type 0 where
-  pub names : (c : ℕ) → mask (rule c) ≡ c
-
--- Masks as a loop visits them, rising from 1 on and below 2^m, and the same masks in the components' order.
-pub record Visit (m : ℕ) (visited ordered : List ℕ) : Type 0 where
-  pub rest : List ℕ
-  pub starts : visited ≡ 1 ∷ rest
-  pub rises : Ascending (λ c. c) visited
-  pub high : (c : ℕ) → List·Memᴰ c visited → c < 2 ^ m
-  pub in-order : Ascending (maskRank m) ordered
-  pub same : SameMembers visited ordered
-
--- so are the masks within a limit
+-- the masks within a limit are visited so
 pub visit-within : (m i : ℕ) → 1 ≤ m → 1 ≤ i → Visit m (masksBelow i (2 ^ m)) (components m i)
 visit-within m i m-low i-low =
     let t = first-masksBelow i m m-low i-low in
@@ -116,11 +101,7 @@ module _ {beats : Candidate → Candidate → Bool} {R S : Candidate → Candida
       agrees [] same a = refl
       agrees (c ∷ cs) same a = best-agrees (ranked beats outputs) (ranked beats (λ p. maskRank m (mask p))) mask c cs a (λ x y k. same x y (List·Memᴰ·tail k))
 
--- ---- candidates in blocks, one for each mask: none is empty, and the witnesses name the mask
-pub record Blocks (f : ℕ → List Candidate) : Type 0 where
-  pub some : (c : ℕ) → (x : Candidate) × (xs : List Candidate) × (f c ≡ x ∷ xs)
-  pub names : (c : ℕ) (p : Candidate) → List·Memᴰ p (f c) → mask p ≡ c
-
+-- ---- candidates in blocks, one for each mask
 module _ {f : ℕ → List Candidate} (b : Blocks f) where
   -- the first best of a block is one of it
   leader-names : (beats : Candidate → Candidate → Bool) (c : ℕ) → mask (firstBest beats (f c)) ≡ c

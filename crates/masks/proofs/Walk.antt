@@ -10,7 +10,8 @@ use lib.Count.{ones}
 use lib.Pow.{pow-pos}
 use Rattle.boolean.specs.Sums.{listFrom, each, keep}
 use Rattle.boolean.specs.Selection.{best}
-use Rattle.boolean.proofs.Components.{limited, masksBelow, split, keep-none}
+use Rattle.boolean.specs.Statements.{masksBelow}
+use Rattle.boolean.proofs.Components.{limited, split, keep-none}
 use Rattle.boolean.proofs.Kept.{keep-append, keep-takes, mem-keep}
 use Rattle.boolean.proofs.Lists.{each-append, mem-each, mem-listFrom}
 use Rattle.boolean.proofs.OneBit.{ones-one, ones-power}

@@ -1,5 +1,5 @@
--- From one mask within a limit to the next: the masks of components with at most i ones, in ascending order. And what a loop that visits them so
--- goes by where two figures are equal.
+-- From one mask within a limit to the next: the masks of components with at most i ones, in ascending order. And what a loop that visits
+-- them so goes by where two figures are equal.
 use Prim.Native.Nat.{ℕ, suc, _*_, _^_, _≤_, _<_}
 use mathlib.Core.Path.{_≡_}
 use mathlib.Core.Bool.{Bool, _&&_, _||_}
@@ -25,6 +25,7 @@ pub record Raised (c r : ℕ) : Type 0 where
 abbrev pub outputs : Candidate → ℕ
 outputs p = ones (at (p .witness) 0)
 
--- `low` is below `high`, or they are equal and c has fewer ones than the best so far: of two figures the better one, and then the fewer outputs
+-- `low` is below `high`, or they are equal and c has fewer ones than the best so far: of two figures the better one, and then the fewer
+-- outputs
 abbrev pub preferred : (low high c best : ℕ) → Bool
 preferred low high c best = ltb low high || (eqb low high && ltb (ones c) (ones best))

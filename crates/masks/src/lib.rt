@@ -22,9 +22,9 @@ pub fn next_mask(limit: u32, c: u64) -> u64
     }
 }
 
-// Whether mask c is to be preferred to the best so far: by its figure, and among equal figures by fewer ones. Where `low` is the figure of c and
-// `high` that of the best, the lower figure is the better one; the other way round, the higher. The masks come in ascending order, so that of as
-// many ones the first that came is kept. No ones are counted unless the figures are equal.
+// Whether mask c is to be preferred to the best so far: by its figure, and among equal figures by fewer ones. Where `low` is the figure of
+// c and `high` that of the best, the lower figure is the better one; the other way round, the higher. The masks come in ascending order, so
+// that of as many ones the first that came is kept. No ones are counted unless the figures are equal.
 pub fn is_preferred(low: u32, high: u32, c: u32, best: u32) -> bool
     ensures { λ r. ⌜ r ≡ preferred low high c best ⌝ }
 {
@@ -73,7 +73,8 @@ pub fn write_steps(m: u32, rows: &[u32], steps: &mut [u8])
 // Adds one truth table to another.
 fn add_table(other: &[u8], table: &mut [u8])
     requires { ⌜ length (now table) ≡ length (now other) ⌝ }
-    ensures { λ _. ⌜ now (table .exit) ≡ listBelow (length (now (other .entry))) (λ x. bitXor (at (now (table .entry)) x) (at (now (other .entry)) x)) ⌝ }
+    ensures { λ _. ⌜ now (table .exit)
+        ≡ listBelow (length (now (other .entry))) (λ x. bitXor (at (now (table .entry)) x) (at (now (other .entry)) x)) ⌝ }
 {
     let mut x = 0;
     while x < other.len() {
@@ -85,7 +86,8 @@ fn add_table(other: &[u8], table: &mut [u8])
 // Adds step table k to a truth table.
 fn add_step(m: u32, rows: &[u32], steps: &[u8], k: u32, table: &mut [u8])
     requires { ⌜ Steps m (now rows) (now steps) × (k < m) × (length (now table) ≡ length (now rows)) ⌝ }
-    ensures { λ _. ⌜ now (table .exit) ≡ listBelow (length (now (rows .entry))) (λ x. bitXor (at (now (table .entry)) x) (component (now (rows .entry)) (run k) x)) ⌝ }
+    ensures { λ _. ⌜ now (table .exit)
+        ≡ listBelow (length (now (rows .entry))) (λ x. bitXor (at (now (table .entry)) x) (component (now (rows .entry)) (run k) x)) ⌝ }
 {
     let size = rows.len();
     let start = k as usize * size;

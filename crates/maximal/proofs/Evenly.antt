@@ -1,26 +1,23 @@
 -- A function changes evenly under every nonzero input change exactly when it is bent: Wiener-Khinchin and inversion. Assumes nothing.
-use mathlib.Core.Path.{_≡_, refl, sym, ap, ap₂, _∙_}
+use mathlib.Core.Path.{_≡_, sym, ap, ap₂, _∙_}
 use mathlib.Core.Logic.{_↔_}
-use Prim.Native.Nat.{ℕ, zero, suc, _+_, _-_, _^_, _<_, _≤_}
+use Prim.Native.Nat.{ℕ, zero, suc, _-_, _^_, _<_, _≤_}
 use native.Mathlib.Nat.{le-of-eq, not-suc-le-zero}
 use native.Mathlib.Omega.{arith}
-use borrow.Author.Tests.{eq-eqb}
 use lib.Pow.{pow-pos}
-use lib.Bits.{bitXor, xor-zero-r}
-use lib.IntN.{ℤ, pos, negsuc, _+ℤ_, _*ℤ_, natAbs, +ℤ-idl, +ℤ-idr, *ℤ-zero}
-use mathlib.Core.Bool.{Bool, cond}
+use lib.IntN.{ℤ, pos, _+ℤ_, _*ℤ_, natAbs, +ℤ-idl, +ℤ-idr, *ℤ-zero}
 use Rattle.boolean.specs.Bits.{dot}
-use Rattle.boolean.specs.Functions.{Boolean, Bent, agreement, autocorrelation, sign, square, transform, walsh}
+use Rattle.boolean.specs.Functions.{Boolean, Bent, autocorrelation, sign, square, transform, walsh}
 use Rattle.boolean.specs.Sums.{sumBelow}
 use Rattle.boolean.proofs.Bent.{bent-of-squares, bent-squares}
-use Rattle.boolean.proofs.Correlation.{squares-transform, correlation-half}
+use Rattle.boolean.proofs.Correlation.{squares-transform, correlation-half, correlation-zero}
 use Rattle.boolean.proofs.Dots.{dot-comm, dot-zero}
 use Rattle.boolean.proofs.Ints.{one-*ℤ}
+use Rattle.boolean.proofs.Sizes.{no-size}
 use Rattle.boolean.proofs.Spectrum.{square-is, cancelℤ, wiener-khinchin}
-use Rattle.boolean.proofs.Sums.{sum-cong}
 use Rattle.boolean.proofs.Transform.{transform-cong, inversion}
 use Rattle.avalanche.specs.Avalanche.{imbalance}
-use Rattle.avalanche.proofs.Theorems.{no-size, balanced, no-imbalance}
+use Rattle.avalanche.proofs.Criteria.{balanced, no-imbalance}
 use Rattle.maximal.specs.Statements.{ChangesEvenly}
 
 -- ---- k at 0, and 0 elsewhere: its transform is k everywhere
@@ -40,17 +37,6 @@ spike-transform n k w =
     ap (λ (j : ℕ). sumBelow j (λ x. sign (dot w x) *ℤ spike k x)) some
     ∙ sum-first (2 ^ n - 1) (λ x. sign (dot w x) *ℤ spike k x) (λ x. *ℤ-zero (sign (dot w (suc x))))
     ∙ ap (λ (b : ℕ). sign b *ℤ pos k) (dot-comm w 0 ∙ dot-zero w) ∙ one-*ℤ (pos k)
-
--- ---- r(0) is 2^n
-sum-ones : (k : ℕ) → sumBelow k (λ x. pos 1) ≡ pos k
-unfolding sumBelow
-sum-ones zero = refl
-sum-ones (suc k) = ap (λ (z : ℤ). z +ℤ pos 1) (sum-ones k) ∙ ap pos (let e : k + 1 ≡ suc k = omega arith in e)
-
-correlation-zero : (n : ℕ) (f : ℕ → ℕ) → autocorrelation n f 0 ≡ pos (2 ^ n)
-unfolding autocorrelation agreement
-correlation-zero n f =
-    sum-cong (2 ^ n) _ _ (λ x l. ap (λ (t : Bool). cond t (pos 1) (negsuc 0)) (eq-eqb (f x) (f (bitXor x 0)) (ap f (sym (xor-zero-r x))))) ∙ sum-ones (2 ^ n)
 
 -- every r(s) from s = 1 is 0
 abbrev Even : ℕ → (ℕ → ℕ) → Type 0

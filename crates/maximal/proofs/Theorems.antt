@@ -1,13 +1,13 @@
 -- Document 02 §13: the dynamic distance of order (i, n) is 0 exactly when (2^n − 2d)² = 2^n, with d the nonlinearity within the limit i; and neither
 -- at an odd n. Assumes nothing.
 use Prim.Native.Nat.{ℕ, _-_, _*_, _%_, _^_}
-use mathlib.Core.Path.{_≡_, sym, ap, _∙_}
+use mathlib.Core.Path.{_≡_, sym, _∙_}
 use mathlib.Core.Logic.{_↔_, Iff·symm, Iff·trans}
-use mathlib.Core.List.{List, []}
+use mathlib.Core.List.{List, [], _∷_}
 use native.Mathlib.Nat.{le-refl}
 use native.Mathlib.Omega.{arith}
-use Rattle.boolean.specs.Functions.{Bent, Within, component}
-use Rattle.boolean.specs.Selection.{Candidate, shown}
+use Rattle.boolean.specs.Functions.{Bent, component}
+use Rattle.boolean.specs.Selection.{shown}
 use Rattle.boolean.proofs.Components.{whole-within}
 use Rattle.boolean.proofs.Counts.{pow-square}
 use Rattle.boolean.proofs.Digits.{component-lt}
@@ -17,11 +17,12 @@ use Rattle.refusals.proofs.Bounds.{range-true}
 use Rattle.refusals.proofs.Checks.{box, box-accepted, found-after, skip, end, Limited, limited, limit-accepted, reply-accepted}
 use Rattle.linear.specs.Nonlinearity.{nonlinearity}
 use Rattle.columns.proofs.Demand3.{covering-bound, covering-equality}
-use Rattle.avalanche.specs.Avalanche.{dynamicDistance}
+use Rattle.avalanche.specs.Avalanche.{imbalance}
 use Rattle.avalanche.specs.Calls.{distanceChecks}
-use Rattle.avalanche.specs.Statements.{distanceOf}
-use Rattle.avalanche.proofs.Theorems.{balanced, no-imbalance, distance-widest}
-use Rattle.maximal.specs.Statements.{ChangesEvenly, gapSquared, MaximumAvalanche}
+use Rattle.avalanche.specs.Statements.{DistanceReported}
+use Rattle.avalanche.proofs.Criteria.{balanced, no-imbalance}
+use Rattle.avalanche.proofs.Theorems.{distance-reported}
+use Rattle.maximal.specs.Statements.{ChangesEvenly, gapSquared, MaximumAvalanche, AllEven, AllBent}
 use Rattle.maximal.proofs.Evenly.{evenly-bent}
 
 -- no power of two with an odd exponent is a square
@@ -42,37 +43,41 @@ module _ (n m : ℕ) (rows : List ℕ) (i : ℕ) (accepted : first (limitChecks 
       sym (found-after _ (box-accepted n m rows accepted-box)
       (skip (range-true 1 m i (accepted-limit .i-low) (accepted-limit .i-high)) (skip (range-true 1 n n (accepted-box .n-low) (le-refl n)) end)))
 
+  reported : DistanceReported n m rows i n
+  reported = distance-reported n m rows i n distance-accepted
+
   -- the largest distance is 0 exactly where all are
-  distance-evenly : dynamicDistance n m rows i n .figure ≡ 0 ↔ ((c : ℕ) → Within i (2 ^ m) c → ChangesEvenly n (component rows c))
+  distance-evenly : reported .d ≡ 0 ↔ AllEven n m rows i
   distance-evenly =
-      let t = distance-widest n m rows accepted-box i n (accepted-limit .i-low) (accepted-box .n-low) in (
+      let t = reported in (
         λ e c w s lo hi.
-            let most = t .most c s w (whole-within n s lo hi) in
-            let none : distanceOf n rows c s ≡ 0 = omega (arith, most, e) in
+            let most = t .largest c s (record { mask = w; shift = whole-within n s lo hi }) in
+            let none : imbalance n (component rows c) s ≡ 0 = omega (arith, most, e) in
             balanced n (component rows c) s none,
         λ h.
-            ap (λ (p : Candidate). p .figure) (t .reached)
-            ∙ no-imbalance n (component rows (t .c)) (t .s) (h (t .c) (t .c-within) (t .s) (t .s-within .low) (t .s-within .high)),
+            let shift = t .member .shift in
+            sym (t .reached) ∙ no-imbalance n (component rows (t .c)) (t .s) (h (t .c) (t .member .mask) (t .s) (shift .low) (shift .high)),
       )
 
-  all-evenly-bent : ((c : ℕ) → Within i (2 ^ m) c → ChangesEvenly n (component rows c)) ↔ ((c : ℕ) → Within i (2 ^ m) c → Bent n (component rows c))
+  -- "a box whose combinations all change evenly under every nonzero input change is the same thing as a box whose combinations are all bent"
+  pub all-evenly-bent : AllEven n m rows i ↔ AllBent n m rows i
   all-evenly-bent =
       let one : (c : ℕ) → ChangesEvenly n (component rows c) ↔ Bent n (component rows c) =
       λ c. evenly-bent n (component rows c) (λ x l. component-lt rows c x) (accepted-box .n-low) in
       (λ e c w. one c .0 (e c w), λ b c w. one c .1 (b c w))
 
-  distance-bent : dynamicDistance n m rows i n .figure ≡ 0 ↔ ((c : ℕ) → Within i (2 ^ m) c → Bent n (component rows c))
+  distance-bent : reported .d ≡ 0 ↔ AllBent n m rows i
   distance-bent = Iff·trans distance-evenly all-evenly-bent
 
-  distance-gap : dynamicDistance n m rows i n .figure ≡ 0 ↔ gapSquared n (nonlinearity n m rows i .figure) ≡ 2 ^ n
+  distance-gap : reported .d ≡ 0 ↔ gapSquared n (nonlinearity n m rows i .figure) ≡ 2 ^ n
   distance-gap = Iff·trans distance-bent (Iff·symm (covering-equality n m rows i accepted))
 
   -- "Show it also for the limit i: order (i, n) against the nonlinearity within i. At n = 1 and every other odd n neither side occurs."
   pub maximum-avalanche-within : MaximumAvalanche n m rows i
   maximum-avalanche-within = record {
-    distance = dynamicDistance n m rows i n .figure;
-    change = dynamicDistance n m rows i n .witness;
-    distance-reply = sym (reply-accepted distance-accepted (shown (dynamicDistance n m rows i n)));
+    distance = reported .d;
+    change = reported .c ∷ reported .s ∷ [];
+    distance-reply = reported .reply;
     d = nonlinearity n m rows i .figure;
     pair = nonlinearity n m rows i .witness;
     nonlinearity-reply = sym (reply-accepted accepted (shown (nonlinearity n m rows i)));
@@ -80,6 +85,7 @@ module _ (n m : ℕ) (rows : List ℕ) (i : ℕ) (accepted : first (limitChecks 
     exactly = distance-gap;
     evenly = distance-evenly;
     bent = distance-bent;
+    even-is-bent = all-evenly-bent;
     never-odd = λ o. (λ e. odd-gap n (nonlinearity n m rows i .figure) o (distance-gap .0 e), odd-gap n (nonlinearity n m rows i .figure) o);
   }
 

@@ -1,6 +1,6 @@
 -- Document 02 §8 beside the contracts: columns and their bytes, and both ways back. Assumes nothing.
 use mathlib.Core.Path.{_≡_, refl, sym, ap, ap₂, _∙_, subst}
-use mathlib.Core.List.{List, []}
+use mathlib.Core.List.{List}
 use Prim.Native.Nat.{ℕ, _+_, _*_, _-_, _/_, _%_, _^_, _<_, _≤_}
 use native.Mathlib.Nat.{mod-lt, le-trans, le-of-eq, lt-of-lt-of-le, div-lt-iff-lt-mul, div-add-mod'}
 use native.Mathlib.Omega.{arith}
@@ -13,17 +13,15 @@ use Rattle.boolean.specs.Functions.{at, column}
 use Rattle.boolean.proofs.Counts.{total-cong}
 use Rattle.boolean.proofs.Columns.{column-lt}
 use Rattle.boolean.proofs.Lists.{getD-listBelow, list-is, listBelow-cong}
-use Rattle.refusals.specs.Table.{Box, first, figures, replyAfter, contentAfter, written}
-use Rattle.refusals.specs.declared.Checked.{Checked}
-use Rattle.refusals.specs.declared.Checked.the-variants.{Accepted, Refused}
+use Rattle.refusals.specs.Table.{Box}
 use Rattle.refusals.specs.declared.Written.{Written}
-use Rattle.refusals.specs.declared.Written.the-variants.{Done, Declined}
-use Rattle.packing.specs.Packing.{columnBytes, packedByte, packed, packedValue, unpackedRow, unpacked, usedBits, packChecks, unpackChecks}
+use Rattle.refusals.specs.declared.Written.the-variants.{Done}
+use Rattle.refusals.proofs.Outcomes.{nothing-said, wrote-when-accepted, wrote-when-told}
+use Rattle.packing.specs.Packing.{columnBytes, packedByte, packed, packedValue, unpackedRow, unpacked, usedBits, PackCalled, UnpackCalled}
 use Rattle.packing.specs.Work.{Columns}
-use Rattle.packing.specs.Statements.{PackCalled, UnpackCalled}
 use Rattle.packing.proofs.Binary.{bit-past, number-lt, number-back, number-ends}
 use Rattle.packing.proofs.Widths.{bytes-low, used-most}
-use Rattle.packing.proofs.Accepted.{pack-box, pack-room, pack-accepted, unpack-columns, unpack-room, unpack-accepted}
+use Rattle.packing.proofs.Accepted.{pack-box, pack-accepted, unpack-columns, unpack-accepted}
 use Rattle.packing.proofs.Returns as returns
 use Rattle.packing.proofs.Returns.{past-inputs, past-used, length-packed, length-unpacked, unpacked-at, row-lt, column-past}
 
@@ -125,39 +123,24 @@ module _ (n m : ℕ) (bytes : List ℕ) (c : Columns n m bytes) where
     below = λ x. row-below x (decLt x (2 ^ n));
   }
 
--- The calls. An answer that is done says that the checks accepted, and only then.
-done-accepted : (k : Checked) → figures [] ≡ replyAfter k [] → k ≡ Accepted
-done-accepted Accepted h = refl
-done-accepted (Refused e) h = cc
-
-accepted-done : (answer : Written) → written answer ≡ figures [] → answer ≡ Done
-accepted-done Done h = refl
-accepted-done (Declined e) h = cc
-
--- Rows come back the same: where a call of pack was accepted, a call of unpack with what it left, and any array as long as the rows, is accepted and
--- leaves the rows.
+-- The calls, by their contracts. Rows come back the same: where a call of pack was accepted, a call of unpack with what it left, and any array as long as
+-- the rows, is accepted and leaves the rows.
 pub rows-come-back : (n m : ℕ) (rows lent left lent′ left′ : List ℕ) (answer answer′ : Written) → PackCalled n m rows lent answer left → answer ≡ Done
     → UnpackCalled n m left lent′ answer′ left′ → length lent′ ≡ length rows → (answer′ ≡ Done) × (left′ ≡ rows)
 rows-come-back n m rows lent left lent′ left′ answer answer′ p done u long =
-    let k : first (packChecks n m rows (length lent)) ≡ Accepted = done-accepted _ (ap written (sym done) ∙ p .reply) in
-    let b : Box n m rows = pack-box n m rows (length lent) k in
-    let is : left ≡ packed n m rows = p .content ∙ ap (λ (z : Checked). contentAfter z (packed n m rows) lent) k in
-    let columns : Columns n m left = subst (λ (l : List ℕ). Columns n m l) (sym is) (packed-columns n m rows b) in
-    let k′ : first (unpackChecks n m left (length lent′)) ≡ Accepted = unpack-accepted n m left (length lent′) columns (long ∙ b .size) in (
-      accepted-done answer′ (u .reply ∙ ap (λ (z : Checked). replyAfter z []) k′),
-      u .content ∙ ap (λ (z : Checked). contentAfter z (unpacked n m left) lent′) k′ ∙ ap (unpacked n m) is ∙ unpacked-packed n m rows b,
-    )
+    let t = wrote-when-told (subst (λ (z : Written). PackCalled n m rows lent z left) done p) in
+    let b : Box n m rows = pack-box n m rows (length lent) (t .0) in
+    let columns : Columns n m left = subst (λ (l : List ℕ). Columns n m l) (sym (t .2)) (packed-columns n m rows b) in
+    let back = wrote-when-accepted u (unpack-accepted n m left (length lent′) columns (long ∙ b .size)) in
+    (nothing-said answer′ (back .0), back .1 ∙ ap (unpacked n m) (t .2) ∙ unpacked-packed n m rows b)
 
 -- Packed bytes that are accepted come back the same: where a call of unpack was accepted, a call of pack with the rows it left, and any array as long as
 -- the packed bytes, is accepted and leaves these bytes.
 pub bytes-come-back : (n m : ℕ) (bytes lent left lent′ left′ : List ℕ) (answer answer′ : Written) → UnpackCalled n m bytes lent answer left → answer ≡ Done
     → PackCalled n m left lent′ answer′ left′ → length lent′ ≡ length bytes → (answer′ ≡ Done) × (left′ ≡ bytes)
 bytes-come-back n m bytes lent left lent′ left′ answer answer′ u done p long =
-    let k : first (unpackChecks n m bytes (length lent)) ≡ Accepted = done-accepted _ (ap written (sym done) ∙ u .reply) in
-    let c : Columns n m bytes = unpack-columns n m bytes (length lent) k in
-    let is : left ≡ unpacked n m bytes = u .content ∙ ap (λ (z : Checked). contentAfter z (unpacked n m bytes) lent) k in
-    let box : Box n m left = subst (λ (l : List ℕ). Box n m l) (sym is) (unpacked-box n m bytes c) in
-    let k′ : first (packChecks n m left (length lent′)) ≡ Accepted = pack-accepted n m left (length lent′) box (long ∙ c .size) in (
-      accepted-done answer′ (p .reply ∙ ap (λ (z : Checked). replyAfter z []) k′),
-      p .content ∙ ap (λ (z : Checked). contentAfter z (packed n m left) lent′) k′ ∙ ap (packed n m) is ∙ packed-unpacked n m bytes c,
-    )
+    let t = wrote-when-told (subst (λ (z : Written). UnpackCalled n m bytes lent z left) done u) in
+    let c : Columns n m bytes = unpack-columns n m bytes (length lent) (t .0) in
+    let box : Box n m left = subst (λ (l : List ℕ). Box n m l) (sym (t .2)) (unpacked-box n m bytes c) in
+    let back = wrote-when-accepted p (pack-accepted n m left (length lent′) box (long ∙ c .size)) in
+    (nothing-said answer′ (back .0), back .1 ∙ ap (packed n m) (t .2) ∙ packed-unpacked n m bytes c)

@@ -1,4 +1,4 @@
--- Document 02 §8: a box as packed columns, the rows that packed columns stand for, and the checks of both calls.
+-- Document 02 §8: a box as packed columns, the rows that packed columns stand for, and the checks and outcomes of both calls.
 use Prim.Native.Nat.{ℕ, _+_, _-_, _*_, _/_, _%_, _^_, min, max}
 use mathlib.Core.List.{List, [], _∷_, _++_}
 use lib.Dec.{eqb}
@@ -6,8 +6,9 @@ use lib.ListN.{length}
 use Rattle.boolean.specs.Bits.{bit}
 use Rattle.boolean.specs.Sums.{totalBelow, listBelow}
 use Rattle.boolean.specs.Functions.{at, column}
-use Rattle.refusals.specs.Table.{Check, _unless_, inRange, allBelow, boxChecks}
+use Rattle.refusals.specs.Table.{Check, _unless_, inRange, allBelow, boxChecks, Wrote, written}
 use Rattle.refusals.specs.declared.Refusal.the-variants.{InputWidth, OutputWidth, ReadLength, UnusedBit, WrittenLength}
+use Rattle.refusals.specs.declared.Written.{Written}
 
 -- how many bytes a column takes: one for each eight truth values, and one with n below 3
 unfoldable pub columnBytes : ℕ → ℕ
@@ -57,3 +58,11 @@ unpackChecks n m bytes room =
     ∷ (UnusedBit unless allBelow (2 ^ usedBits n) bytes)
     ∷ (WrittenLength unless eqb room (2 ^ n))
     ∷ []
+
+-- the outcome of a call of `packing::pack`
+abbrev pub PackCalled : (n m : ℕ) (rows lent : List ℕ) (answer : Written) (left : List ℕ) → Type 0
+PackCalled n m rows lent answer left = Wrote (packChecks n m rows (length lent)) [] (packed n m rows) lent (written answer) left
+
+-- the outcome of a call of `packing::unpack`
+abbrev pub UnpackCalled : (n m : ℕ) (bytes lent : List ℕ) (answer : Written) (left : List ℕ) → Type 0
+UnpackCalled n m bytes lent answer left = Wrote (unpackChecks n m bytes (length lent)) [] (unpacked n m bytes) lent (written answer) left

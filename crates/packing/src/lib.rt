@@ -3,14 +3,13 @@ use refusals::Checked;
 use refusals::Refusal;
 use refusals::Written;
 ghost use mathlib.Core.Path.{_≡_};
-ghost use mathlib.Core.List.{[]};
 ghost use Prim.Native.Nat.{ℕ, _+_, _*_, _/_, _%_, _^_, _≤_, _<_};
 ghost use lib.ListN.{length};
 ghost use Rattle.boolean.specs.Bits.{bit};
 ghost use Rattle.boolean.specs.Sums.{listBelow};
 ghost use Rattle.boolean.specs.Functions.{at};
-ghost use Rattle.refusals.specs.Table.{first, replyAfter, contentAfter, written, Box};
-ghost use Rattle.packing.specs.Packing.{columnBytes, packed, unpacked, usedBits, packChecks, unpackChecks};
+ghost use Rattle.refusals.specs.Table.{first, Box};
+ghost use Rattle.packing.specs.Packing.{columnBytes, packed, unpacked, usedBits, packChecks, unpackChecks, PackCalled, UnpackCalled};
 ghost use Rattle.packing.specs.Work.{wordOf, gathered, Cleared, Columns, Padded, GatheredWords, wordByte, fourBytes, BytesWords};
 
 // A byte as a number.
@@ -157,8 +156,7 @@ fn check_pack(n: u32, m: u32, rows: &[u32], room: usize) -> Checked
 
 // The columns of a box, packed for the mask: for column 1 first, the truth values in input order, eight to a byte, lowest bit first.
 pub fn pack(n: u32, m: u32, rows: &[u32], out: &mut [u8]) -> Written
-    ensures reply { λ r. ⌜ written r ≡ replyAfter (first (packChecks n m (now (rows .entry)) (length (now (out .entry))))) [] ⌝ }
-    ensures content { λ r. ⌜ now (out .exit) ≡ contentAfter (first (packChecks n m (now (rows .entry)) (length (now (out .entry))))) (packed n m (now (rows .entry))) (now (out .entry)) ⌝ }
+    ensures { λ r. ⌜ PackCalled n m (now (rows .entry)) (now (out .entry)) r (now (out .exit)) ⌝ }
 {
     if let Checked::Refused(e) = check_pack(n, m, rows, out.len()) {
         return Written::Declined(e);
@@ -262,8 +260,7 @@ fn check_unpack(n: u32, m: u32, bytes: &[u8], room: usize) -> Checked
 
 // The rows of packed columns.
 pub fn unpack(n: u32, m: u32, packed: &[u8], out: &mut [u32]) -> Written
-    ensures reply { λ r. ⌜ written r ≡ replyAfter (first (unpackChecks n m (now (packed .entry)) (length (now (out .entry))))) [] ⌝ }
-    ensures content { λ r. ⌜ now (out .exit) ≡ contentAfter (first (unpackChecks n m (now (packed .entry)) (length (now (out .entry))))) (unpacked n m (now (packed .entry))) (now (out .entry)) ⌝ }
+    ensures { λ r. ⌜ UnpackCalled n m (now (packed .entry)) (now (out .entry)) r (now (out .exit)) ⌝ }
 {
     if let Checked::Refused(e) = check_unpack(n, m, packed, out.len()) {
         return Written::Declined(e);

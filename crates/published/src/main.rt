@@ -1,5 +1,5 @@
-// Reads box files from standard input, one after the other, and writes the figures of each box over all combinations; then its nonlinearity after
-// one column addition, after a second, and after a third that is refused and leaves the rows standing.
+// Reads box files from standard input, one after the other, and writes the figures of each box over all combinations; then its
+// nonlinearity after one column addition, after a second, and after a third that is refused and leaves the rows standing.
 use algebraic::DegreeFound;
 use avalanche::LargestChange;
 use boxfile::BoxFile;
@@ -147,21 +147,10 @@ fn show_file(file: &[u8], size: usize)
     }
 }
 
-// How many rows a box of this width has; a width that no box has gives none.
-fn rows_of(n: u8) -> usize
-    ensures { λ r. ⌜ r ≤ 256 ⌝ }
-{
-    if 8 < n {
-        0
-    } else {
-        boolean::power_of_two(n as u32)
-    }
-}
-
 fn show_boxes(bytes: &[u8]) {
     let mut from = 0;
     while from + 2 <= bytes.len() {
-        let size = rows_of(bytes[from]);
+        let size = boxfile::room_of(&bytes[from..]);
         let start = from + 2;
         let end = start + lines::smaller(4 * size, bytes.len() - start);
         show_file(&bytes[from..end], size);

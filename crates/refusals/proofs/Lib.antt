@@ -1,4 +1,6 @@
 pub mod Bounds
 pub mod Checks
+pub mod Replies
+pub mod Outcomes
 pub mod Theorems
 pub mod Swapped

@@ -1,47 +1,100 @@
--- The sum as a box: its nonlinearity is that of the box of N inputs, and of one box it is the box's own, witness and all. Assumes nothing.
+-- The sum as a box: its nonlinearity is that of the box of N inputs, and of one box it is the box's own, figure and witness. Assumes nothing.
 use mathlib.Core.Path.{_≡_, refl, sym, ap, ap₂, _∙_, subst}
-use mathlib.Core.Bool.{Bool, true, false}
+use mathlib.Core.Bool.{true, false}
+use mathlib.Core.Logic.{_⊎_, inl, inr}
 use mathlib.Core.List.{List, [], _∷_, _++_, append-nil}
 use Prim.Native.Nat.{ℕ, _+_, _%_, _^_, _<_, _≤_}
 use native.Mathlib.Nat.{le-antisymm, add-zero, mul-zero, mod-eq-of-lt}
 use native.Mathlib.Omega.{arith}
+use native.Mathlib.Decide.{decLt}
 use lib.Bits.{xor-zero-r}
+use lib.Count.{ones}
 use Rattle.boolean.specs.Sums.{each, every, listBelow}
 use Rattle.boolean.specs.Bits.{dot}
-use Rattle.boolean.specs.Functions.{at, component, components, distance}
+use Rattle.boolean.specs.Functions.{at, component, components, distance, maskRank}
 use Rattle.boolean.specs.Selection.{Candidate, firstLeast, shown}
-use Rattle.boolean.proofs.Components.{mem-components, in-components, first-mask}
+use Rattle.boolean.proofs.Components.{mem-components, in-components}
 use Rattle.boolean.proofs.Digits.{component-dot}
 use Rattle.boolean.proofs.Distances.{distance-cong}
 use Rattle.boolean.proofs.Kept.{each-cong, each-each}
 use Rattle.refusals.specs.Table.{Check, _unless_, inRange, first, limitChecks, replyAfter}
-use Rattle.refusals.specs.declared.Refusal.the-variants.{BoxCount, OutputWidths, Parameter}
+use Rattle.refusals.specs.declared.Refusal.the-variants.{OutputWidths, Parameter}
 use Rattle.refusals.specs.declared.Checked.{Checked}
 use Rattle.linear.specs.Nonlinearity.{pair, pairsOf, pairs, nonlinearity, nonlinearityReply}
+use Rattle.linear.specs.Statements.{IsPair, Before}
 use Rattle.linear.proofs.Theorems as linear
 use Rattle.rounds.specs.Round.{Summand, inputsOf, sumAt, sumRows, masks, joined, sumPair, sumPairsOf, sumPairs, sumNonlinearity, checksOf, sumChecks, sumReply}
 use Rattle.rounds.proofs.Masks.{joined-lt}
 use Rattle.rounds.proofs.Products.{component-sum}
-use Rattle.rounds.proofs.Theorems.{least, reached}
+use Rattle.rounds.proofs.Decided.{Decided, by-rank}
 
--- the figure is the nonlinearity of the sum as a box of N inputs and m outputs, within the same limit
-pub as-box : (ss : List Summand) (m i : ℕ) → 1 ≤ m → 1 ≤ i → sumNonlinearity ss (components m i) .figure ≡ nonlinearity (inputsOf ss) m (sumRows ss) i .figure
-as-box ss m i h l = le-antisymm above below
+-- ---- one pair comes before another, is the other, or comes after it
+number-cases : (a b : ℕ) → (a < b) ⊎ ((a ≡ b) ⊎ (b < a))
+number-cases a b = pick (decLt a b) (decLt b a)
   where
-    above : sumNonlinearity ss (components m i) .figure ≤ nonlinearity (inputsOf ss) m (sumRows ss) i .figure
-    above =
-        let t = linear.reached (inputsOf ss) m (sumRows ss) i h l in
-        let p = t .3 in
-        omega (arith, ap (λ (p : Candidate). p .figure) (t .4), least ss (components m i) (t .0) (t .1) (t .2) (in-components m i (t .0) (p .mask)) (p .w-high) (p .b-high))
+    pick : Dec (a < b) → Dec (b < a) → (a < b) ⊎ ((a ≡ b) ⊎ (b < a))
+    pick (yes l) r = inl l
+    pick (no l) (yes k) = inr (inr k)
+    pick (no l) (no k) = inr (inl (omega arith))
 
-    below : nonlinearity (inputsOf ss) m (sumRows ss) i .figure ≤ sumNonlinearity ss (components m i) .figure
-    below =
-        let t = reached ss (components m i) 1 (in-components m i 1 (first-mask m i h l)) in
-        omega (
-          arith,
-          ap (λ (p : Candidate). p .figure) (t .6),
-          linear.least (inputsOf ss) m (sumRows ss) i (t .0) (joined ss (t .1)) (t .2) (record { mask = mem-components m i (t .0) (t .3); w-high = joined-lt ss (t .1) (t .4); b-high = t .5 }),
-        )
+pair-cases : (c′ w′ b′ c w b : ℕ) → Before c′ w′ b′ c w b ⊎ (((c′ ≡ c) × (w′ ≡ w) × (b′ ≡ b)) ⊎ Before c w b c′ w′ b′)
+pair-cases c′ w′ b′ c w b = go (number-cases (ones c′) (ones c)) (number-cases c′ c) (number-cases w′ w) (number-cases b′ b)
+  where
+    go : (ones c′ < ones c) ⊎ ((ones c′ ≡ ones c) ⊎ (ones c < ones c′)) → (c′ < c) ⊎ ((c′ ≡ c) ⊎ (c < c′))
+        → (w′ < w) ⊎ ((w′ ≡ w) ⊎ (w < w′)) → (b′ < b) ⊎ ((b′ ≡ b) ⊎ (b < b′))
+        → Before c′ w′ b′ c w b ⊎ (((c′ ≡ c) × (w′ ≡ w) × (b′ ≡ b)) ⊎ Before c w b c′ w′ b′)
+    go (inl o) x y z = inl (inl (inl o))
+    go (inr (inr o)) x y z = inr (inr (inl (inl o)))
+    go (inr (inl o)) (inl l) y z = inl (inl (inr (o, l)))
+    go (inr (inl o)) (inr (inr l)) y z = inr (inr (inl (inr (sym o, l))))
+    go (inr (inl o)) (inr (inl e)) (inl l) z = inl (inr (inl (e, l)))
+    go (inr (inl o)) (inr (inl e)) (inr (inr l)) z = inr (inr (inr (inl (sym e, l))))
+    go (inr (inl o)) (inr (inl e)) (inr (inl f)) (inl l) = inl (inr (inr (e, f, l)))
+    go (inr (inl o)) (inr (inl e)) (inr (inl f)) (inr (inr l)) = inr (inr (inr (inr (sym e, sym f, l))))
+    go (inr (inl o)) (inr (inl e)) (inr (inl f)) (inr (inl g)) = inr (inl (e, f, g))
+
+-- ---- the sum as a box of N inputs and m outputs, within the same limit
+module _ (ss : List Summand) (m i : ℕ) (m-low : 1 ≤ m) (i-low : 1 ≤ i) (r : Decided ss (components m i) (maskRank m)) where
+  abbrev whole-box : Candidate
+  whole-box = nonlinearity (inputsOf ss) m (sumRows ss) i
+
+  witness-pair : IsPair (inputsOf ss) m i (r .c) (joined ss (r .ws)) (r .b)
+  witness-pair = record { mask = mem-components m i (r .c) (r .in-order); w-high = joined-lt ss (r .ws) (r .fits); b-high = r .b-high }
+
+  -- its figure is d: its own pair differs at d or more, and the sum's witness is one of its pairs
+  same-figure : whole-box .figure ≡ r .d
+  same-figure =
+      let t = linear.nonlinearity-reached (inputsOf ss) m (sumRows ss) i m-low i-low in
+      let p = t .3 in
+      le-antisymm (omega (arith, linear.nonlinearity-least (inputsOf ss) m (sumRows ss) i (r .c) (joined ss (r .ws)) (r .b) witness-pair, r .reached))
+      (omega (arith, ap (λ (q : Candidate). q .figure) (t .4), r .least (t .0) (t .1) (t .2) (in-components m i (t .0) (p .mask)) (p .w-high) (p .b-high)))
+
+  -- and neither witness comes before the other
+  pub as-box : whole-box ≡ record { figure = r .d; witness = r .c ∷ joined ss (r .ws) ∷ r .b ∷ [] }
+  as-box =
+      let t = linear.nonlinearity-reached (inputsOf ss) m (sumRows ss) i m-low i-low in
+      go (t .0) (t .1) (t .2) (t .3) (t .4) (pair-cases (t .0) (t .1) (t .2) (r .c) (joined ss (r .ws)) (r .b))
+    where
+      go : (c w b : ℕ) → IsPair (inputsOf ss) m i c w b → whole-box ≡ pair (inputsOf ss) (sumRows ss) c w b
+          → Before c w b (r .c) (joined ss (r .ws)) (r .b) ⊎ (((c ≡ r .c) × (w ≡ joined ss (r .ws)) × (b ≡ r .b)) ⊎ Before (r .c) (joined ss (r .ws)) (r .b) c w b)
+          → whole-box ≡ record { figure = r .d; witness = r .c ∷ joined ss (r .ws) ∷ r .b ∷ [] }
+      go c w b p e (inl l) =
+          absurd (omega (
+            arith,
+            r .before-joined c w b (in-components m i c (p .mask)) (p .w-high) (p .b-high) (by-rank _<_ m c (p .mask .high) l),
+            ap (λ (q : Candidate). q .figure) e,
+            same-figure,
+          ))
+      go c w b p e (inr (inl t)) =
+          e ∙ ap (λ (d : ℕ). record { figure = d; witness = c ∷ w ∷ b ∷ [] }) (sym (ap (λ (q : Candidate). q .figure) e) ∙ same-figure)
+          ∙ rw (t .0, t .1, t .2) refl
+      go c w b p e (inr (inr l)) =
+          absurd (omega (
+            arith,
+            linear.nonlinearity-first (inputsOf ss) m (sumRows ss) i m-low i-low c w b e (r .c) (joined ss (r .ws)) (r .b) witness-pair l,
+            r .reached,
+            same-figure,
+          ))
 
 -- ---- one box
 module _ (s : Summand) where
@@ -79,9 +132,9 @@ module _ (s : Summand) where
   one-box m i = ap firstLeast (each-cong (components m i) _ _ alone-pairsOf)
 
   -- its checks are the nonlinearity's, and so is all that the call replies
-  alone-checks : (i : ℕ) → first (sumChecks 1 alone i) ≡ first (limitChecks (s .inputs) (s .outputs) (s .rows) i)
+  alone-checks : (others : List Summand) (i : ℕ) → first (sumChecks 1 (s ∷ others) i) ≡ first (limitChecks (s .inputs) (s .outputs) (s .rows) i)
   unfolding sumChecks limitChecks each every first
-  alone-checks i =
+  alone-checks others i =
       ap (λ (cs : List Check). first (cs ++ ((OutputWidths unless true) ∷ (Parameter unless inRange 1 (s .outputs) i) ∷ []))) (append-nil (checksOf s))
       ∙ passed-over (checksOf s)
     where
@@ -91,7 +144,8 @@ module _ (s : Summand) where
       passed-over ((e unless true) ∷ cs) = passed-over cs
       passed-over ((e unless false) ∷ cs) = refl
 
-  -- With one box the call replies what the nonlinearity call replies within the same limit: its figure, its witness, or its refusal.
-  pub one-box-reply : (i : ℕ) → sumReply 1 alone i ≡ nonlinearityReply (s .inputs) (s .outputs) (s .rows) i
-  one-box-reply i =
-      ap₂ (λ (k : Checked) (p : Candidate). replyAfter k (shown p)) (alone-checks i) (one-box (s .outputs) i)
+  -- With one box, whatever else is handed over, the call replies what the nonlinearity call replies within the same limit: its figure, its witness, or
+  -- its refusal.
+  pub one-box-reply : (others : List Summand) (i : ℕ) → sumReply 1 (s ∷ others) i ≡ nonlinearityReply (s .inputs) (s .outputs) (s .rows) i
+  one-box-reply others i =
+      ap₂ (λ (k : Checked) (p : Candidate). replyAfter k (shown p)) (alone-checks others i) (one-box (s .outputs) i)

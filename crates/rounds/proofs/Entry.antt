@@ -2,10 +2,11 @@
 use mathlib.Core.Path.{_≡_, refl, sym, ap, _∙_, subst}
 use mathlib.Core.Bool.{Bool, true, false, _&&_}
 use mathlib.Core.List.{List, [], _∷_, _++_, append-nil, List·Memᴰ, List·Memᴰ·head, List·Memᴰ·tail, List·Memᴰ·not-nil}
-use Prim.Native.Nat.{ℕ, zero, suc, _+_, _^_, _≤_, _<_}
+use Prim.Native.Nat.{ℕ, zero, suc, _+_, _*_, _^_, _≤_, _<_}
 use native.Mathlib.Omega.{arith}
 use borrow.Author.Tests.{ltb-true, eqb-true}
 use lib.Dec.{ltb, eqb}
+use lib.ListN.{length, length-take}
 use Rattle.boolean.specs.Sums.{each, every}
 use Rattle.boolean.proofs.Every.{both}
 use Rattle.boolean.proofs.Selection.{of-cons}
@@ -16,8 +17,8 @@ use Rattle.refusals.specs.declared.Checked.{Checked}
 use Rattle.refusals.specs.declared.Checked.the-variants.{Accepted, Refused}
 use Rattle.refusals.proofs.Bounds.{range-low, range-high}
 use Rattle.refusals.proofs.Checks.{Walk, found-after, box, first-passed, first-failed, first-append, first-refused, accepted-before, accepted-after, passed}
-use Rattle.rounds.specs.Round.{Summand, inputsOf, boxes, outputsOf, sameOutputs, checksOf, sumChecks}
-use Rattle.rounds.specs.Calls.{checksIf, sameIf, inputsIf, IsBox, Round}
+use Rattle.rounds.specs.Round.{Summand, inputsOf, given, outputsOf, sameOutputs, checksOf, sumChecks}
+use Rattle.rounds.specs.Work.{checksIf, sameIf, inputsIf, IsBox, Round}
 
 -- ---- four lists of checks, one after the other
 module _ (xs bs cs ds : List Check) where
@@ -52,6 +53,10 @@ holds-3 {x} {y} {z} e f g = g ∙ sym (ap (λ (t : Bool). t && (y && z)) e ∙ a
 and-true : (t : Bool) → (t && true) ≡ t
 and-true true = refl
 and-true false = refl
+
+-- the given boxes of four
+abbrev pub boxes : (count : ℕ) (s1 s2 s3 s4 : Summand) → List Summand
+boxes count s1 s2 s3 s4 = given count (s1 ∷ s2 ∷ s3 ∷ s4 ∷ [])
 
 module _ (s1 s2 s3 s4 : Summand) where
   -- their checks
@@ -144,29 +149,7 @@ module _ (s1 s2 s3 s4 : Summand) where
       pub used-4 : ltb 3 count ≡ true → IsBox s4 × (c < 2 ^ s4 .outputs)
       used-4 e = (box-4 e, as-first s4 (r .same s4 (member-4 count (ltb-true 3 count e))))
 
--- ---- the call's checks
-module _ (count : ℕ) (ss : List Summand) (i : ℕ) where
-  -- those after the boxes' own
-  abbrev tests : List Check
-  tests = (OutputWidths unless sameOutputs ss) ∷ (Parameter unless inRange 1 (outputsOf ss) i) ∷ []
-
-  pub wrong-number : inRange 1 4 count ≡ false → Refused BoxCount ≡ first (sumChecks count ss i)
-  unfolding sumChecks
-  wrong-number h = sym (first-failed BoxCount (inRange 1 4 count) (each ss checksOf ++ tests) h)
-
-  module _ (number : inRange 1 4 count ≡ true) where
-    past-number : first (sumChecks count ss i) ≡ first (each ss checksOf ++ tests)
-    unfolding sumChecks
-    past-number = first-passed BoxCount (inRange 1 4 count) (each ss checksOf ++ tests) number
-
-    pub box-refused : {e : Refusal} → first (each ss checksOf) ≡ Refused e → Refused e ≡ first (sumChecks count ss i)
-    box-refused h = sym (past-number ∙ first-refused (each ss checksOf) tests h)
-
-    pub boxes-passed : {k : Checked} → first (each ss checksOf) ≡ Accepted → Walk tests k → k ≡ first (sumChecks count ss i)
-    boxes-passed h w = found-after (each ss checksOf) h w ∙ sym past-number
-
--- ---- what acceptance says
--- each box is one
+-- ---- what the boxes' own checks and the test of their widths say: each is a box
 all-boxed : (ss : List Summand) → first (each ss checksOf) ≡ Accepted → (s : Summand) → List·Memᴰ s ss → IsBox s
 unfolding each
 all-boxed [] h s m = absurd (List·Memᴰ·not-nil m)
@@ -184,43 +167,79 @@ all-same [] h s m = absurd (List·Memᴰ·not-nil m)
 all-same (t ∷ ts) h s m =
     of-cons (λ z. z .outputs ≡ t .outputs) refl (λ k. eqb-true (s .outputs) (t .outputs) (every-mem (λ z. eqb (z .outputs) (t .outputs)) ts h s k)) m
 
-module _ (count : ℕ) (ss : List Summand) (i : ℕ) (accepted : first (sumChecks count ss i) ≡ Accepted) where
-  abbrev number-test : List Check
-  number-test = (BoxCount unless inRange 1 4 count) ∷ []
+-- and has at most 8 inputs
+inputs-few : (ss : List Summand) → ((s : Summand) → List·Memᴰ s ss → IsBox s) → inputsOf ss ≤ 8 * length ss
+unfolding inputsOf
+inputs-few [] h = omega arith
+inputs-few (s ∷ ss) h = omega (arith, h s (List·Memᴰ·head refl) .n-high, inputs-few ss (λ t m. h t (List·Memᴰ·tail m)))
 
-  number-is : inRange 1 4 count ≡ true
+-- ---- the call's checks
+module _ (count : ℕ) (handed : List Summand) (i : ℕ) where
+  -- the boxes that are given
+  abbrev ss : List Summand
+  ss = given count handed
+
+  -- the checks after the boxes' own
+  abbrev tests : List Check
+  tests = (OutputWidths unless sameOutputs ss) ∷ (Parameter unless inRange 1 (outputsOf ss) i) ∷ []
+
+  pub wrong-number : inRange 1 4 count ≡ false → Refused BoxCount ≡ first (sumChecks count handed i)
   unfolding sumChecks
-  number-is = passed number-test (accepted-before number-test (each ss checksOf ++ tests count ss i) accepted) .0
+  wrong-number h = sym (first-failed BoxCount (inRange 1 4 count) (each ss checksOf ++ tests) h)
 
-  after-number : first (each ss checksOf ++ tests count ss i) ≡ Accepted
-  unfolding sumChecks
-  after-number = accepted-after number-test (each ss checksOf ++ tests count ss i) accepted
+  module _ (number : inRange 1 4 count ≡ true) where
+    past-number : first (sumChecks count handed i) ≡ first (each ss checksOf ++ tests)
+    unfolding sumChecks
+    past-number = first-passed BoxCount (inRange 1 4 count) (each ss checksOf ++ tests) number
 
-  pub limit-range : inRange 1 (outputsOf ss) i ≡ true
-  limit-range = passed (tests count ss i) (accepted-after (each ss checksOf) (tests count ss i) after-number) .1 .0
+    pub box-refused : {e : Refusal} → first (each ss checksOf) ≡ Refused e → Refused e ≡ first (sumChecks count handed i)
+    box-refused h = sym (past-number ∙ first-refused (each ss checksOf) tests h)
 
-  pub accepted-round : Round count (outputsOf ss) ss
-  accepted-round = record {
-    count-low = range-low 1 4 count number-is;
-    count-high = range-high 1 4 count number-is;
-    boxed = all-boxed ss (accepted-before (each ss checksOf) (tests count ss i) after-number);
-    same = all-same ss (passed (tests count ss i) (accepted-after (each ss checksOf) (tests count ss i) after-number) .0);
-  }
+    pub boxes-passed : {k : Checked} → first (each ss checksOf) ≡ Accepted → Walk tests k → k ≡ first (sumChecks count handed i)
+    boxes-passed h w = found-after (each ss checksOf) h w ∙ sym past-number
 
-  pub limit-low : 1 ≤ i
-  limit-low = range-low 1 (outputsOf ss) i limit-range
+  -- ---- what acceptance says
+  module _ (accepted : first (sumChecks count handed i) ≡ Accepted) where
+    abbrev number-test : List Check
+    number-test = (BoxCount unless inRange 1 4 count) ∷ []
 
-  pub limit-high : i ≤ outputsOf ss
-  limit-high = range-high 1 (outputsOf ss) i limit-range
+    number-is : inRange 1 4 count ≡ true
+    unfolding sumChecks
+    number-is = passed number-test (accepted-before number-test (each ss checksOf ++ tests) accepted) .0
 
-  -- there is a box, and an input
-  pub some-outputs : 1 ≤ outputsOf ss
-  some-outputs = omega (arith, limit-low, limit-high)
+    after-number : first (each ss checksOf ++ tests) ≡ Accepted
+    unfolding sumChecks
+    after-number = accepted-after number-test (each ss checksOf ++ tests) accepted
 
-  pub some-inputs : 1 ≤ inputsOf ss
-  unfolding inputsOf
-  some-inputs = go ss (accepted-round .boxed) some-outputs
-    where
-      go : (ss : List Summand) → ((s : Summand) → List·Memᴰ s ss → IsBox s) → 1 ≤ outputsOf ss → 1 ≤ inputsOf ss
-      go [] b h = absurd (omega arith)
-      go (s ∷ ss) b h = omega (arith, b s (List·Memᴰ·head refl) .n-low)
+    pub limit-range : inRange 1 (outputsOf ss) i ≡ true
+    limit-range = passed tests (accepted-after (each ss checksOf) tests after-number) .1 .0
+
+    pub accepted-round : Round count (outputsOf ss) ss
+    accepted-round = record {
+      count-low = range-low 1 4 count number-is;
+      count-high = range-high 1 4 count number-is;
+      boxed = all-boxed ss (accepted-before (each ss checksOf) tests after-number);
+      same = all-same ss (passed tests (accepted-after (each ss checksOf) tests after-number) .0);
+    }
+
+    pub limit-low : 1 ≤ i
+    limit-low = range-low 1 (outputsOf ss) i limit-range
+
+    pub limit-high : i ≤ outputsOf ss
+    limit-high = range-high 1 (outputsOf ss) i limit-range
+
+    -- there is a box, and an input
+    pub some-outputs : 1 ≤ outputsOf ss
+    some-outputs = omega (arith, limit-low, limit-high)
+
+    pub some-inputs : 1 ≤ inputsOf ss
+    unfolding inputsOf
+    some-inputs = go ss (accepted-round .boxed) some-outputs
+      where
+        go : (ts : List Summand) → ((s : Summand) → List·Memᴰ s ts → IsBox s) → 1 ≤ outputsOf ts → 1 ≤ inputsOf ts
+        go [] b h = absurd (omega arith)
+        go (s ∷ ts) b h = omega (arith, b s (List·Memᴰ·head refl) .n-low)
+
+    -- "all their inputs, up to 32 of them"
+    pub at-most-32 : inputsOf ss ≤ 32
+    at-most-32 = omega (arith, inputs-few ss (accepted-round .boxed), length-take count handed, accepted-round .count-high)

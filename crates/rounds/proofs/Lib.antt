@@ -8,7 +8,10 @@ pub mod Spectra
 pub mod Theorems
 pub mod Worked
 pub mod Entry
+pub mod Decided
 pub mod Boxes
 pub mod Reported
+pub mod Orders
+pub mod Answers
 pub mod Tops
 pub mod Terms

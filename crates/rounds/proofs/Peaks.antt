@@ -2,8 +2,9 @@
 use mathlib.Core.Path.{_≡_, sym, subst}
 use mathlib.Core.List.{List, [], _∷_, List·Memᴰ, List·Memᴰ·eq-of-singleton}
 use Prim.Native.Nat.{ℕ, zero, suc, _*_, _^_, _<_, _≤_}
-use native.Mathlib.Nat.{le-refl, lt-of-le-of-lt, mul-le-mul, mul-le-mul-left, mul-lt-mul-of-pos-left, mul-lt-mul-of-pos-right, zero-lt-suc}
+use native.Mathlib.Nat.{le-refl, lt-of-le-of-lt, mul-le-mul, mul-le-mul-left, mul-le-mul-right, mul-lt-mul-of-pos-left, mul-lt-mul-of-pos-right, zero-lt-suc}
 use native.Mathlib.Omega.{arith}
+use native.Mathlib.Decide.{decLt}
 use lib.Pow.{pow-pos}
 use lib.IntN.{natAbs}
 use Rattle.boolean.specs.Functions.{component, square}
@@ -74,6 +75,35 @@ peaks-bound (s ∷ ss) c [] h vs f = absurd h
 peaks-bound (s ∷ ss) c (w ∷ ws) h [] f = absurd f
 peaks-bound (s ∷ ss) c (w ∷ ws) h (v ∷ vs) f =
     rw (size-next s ss c v vs, size-next s ss c w ws) (mul-le-mul (h .0 .bounds v (f .0)) (peaks-bound ss c ws (h .1) vs (f .1)))
+
+-- Masks that give as much are no smaller, box by box: those that reach the product are a product of sets, one for each box. So the peaks come first in
+-- every order that compares masks box by box, whichever box it begins with.
+abbrev pub NoSmaller : (vs ws : List ℕ) → Type 0
+NoSmaller [] ws = Unit {0}
+NoSmaller (v ∷ vs) [] = Unit {0}
+NoSmaller (v ∷ vs) (w ∷ ws) = (w ≤ v) × NoSmaller vs ws
+
+pub as-much : (ss : List Summand) (c : ℕ) (ws : List ℕ) → Peaks ss c ws → (vs : List ℕ) → Fits ss vs → sizeAt ss c ws ≤ sizeAt ss c vs → NoSmaller vs ws
+as-much [] c ws p [] f l = tt
+as-much [] c ws p (v ∷ vs) f l = absurd f
+as-much (s ∷ ss) c ws p [] f l = absurd f
+as-much (s ∷ ss) c [] p (v ∷ vs) f l = absurd p
+as-much (s ∷ ss) c (w ∷ ws) p (v ∷ vs) f l = (own (decLt v w), as-much ss c ws (p .1) vs (f .1) (others (decLt (sizeAt ss c vs) (sizeAt ss c ws))))
+  where
+    -- a smaller first mask gives less, whatever the others; so do others that give less
+    own : Dec (v < w) → w ≤ v
+    own (yes k) =
+        let less : sizeOf s c v * sizeAt ss c vs < sizeOf s c w * sizeAt ss c ws =
+        lt-of-le-of-lt (mul-le-mul-left (sizeOf s c v) (peaks-bound ss c ws (p .1) vs (f .1))) (mul-lt-mul-of-pos-right (p .0 .first v k) (peaks-positive ss c ws (p .1))) in
+        absurd (omega (arith, less, size-next s ss c v vs, size-next s ss c w ws))
+    own (no k) = omega arith
+
+    others : Dec (sizeAt ss c vs < sizeAt ss c ws) → sizeAt ss c ws ≤ sizeAt ss c vs
+    others (yes k) =
+        let less : sizeOf s c v * sizeAt ss c vs < sizeOf s c w * sizeAt ss c ws =
+        lt-of-le-of-lt (mul-le-mul-right (sizeAt ss c vs) (p .0 .bounds v (f .0))) (mul-lt-mul-of-pos-left k (peak-positive s c w (p .0))) in
+        absurd (omega (arith, less, size-next s ss c v vs, size-next s ss c w ws))
+    others (no k) = omega arith
 
 -- and all that come before give less
 pub peaks-first : (ss : List Summand) (c : ℕ) (ws : List ℕ) → Peaks ss c ws → First (λ r v. sizeAt ss c v < sizeAt ss c r) ws (masks ss)

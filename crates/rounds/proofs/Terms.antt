@@ -1,6 +1,6 @@
 -- The product and the witness of up to four boxes, the loop over the components, and the answer that they make. Assumes nothing.
 use mathlib.Core.Path.{_≡_, refl, sym, ap, ap₂, _∙_, subst}
-use mathlib.Core.Bool.{Bool, true, false}
+use mathlib.Core.Bool.{true, false}
 use mathlib.Core.Logic.{inr}
 use mathlib.Core.List.{List, [], _∷_, _++_, List·Memᴰ, List·Memᴰ·not-nil}
 use Prim.Native.Nat.{ℕ, zero, suc, _+_, _*_, _-_, _/_, _<_, _≤_, _^_}
@@ -9,24 +9,26 @@ use native.Mathlib.Omega.{arith}
 use borrow.Author.Tests.{lt-ltb}
 use lib.Bits.{bitXor, xor-zero-r}
 use lib.Dec.{ltb}
+use lib.ListN.{take, drop}
 use Rattle.boolean.specs.Sums.{each}
 use Rattle.boolean.specs.Functions.{at, component, components, walsh, signBit}
 use Rattle.boolean.specs.Selection.{Candidate, best, higher, firstLargest, ranked}
-use Rattle.boolean.proofs.Components.{masksBelow}
+use Rattle.boolean.specs.Statements.{masksBelow}
 use Rattle.boolean.proofs.FirstLargest.{best-changed}
-use Rattle.boolean.proofs.Selection.{best-mem, best-takes, best-keeps, largest, by-largest}
+use Rattle.boolean.proofs.Selection.{best-takes, best-keeps, largest, by-largest}
 use Rattle.masks.specs.Masks.{Next, outputs, preferred}
 use Rattle.masks.proofs.Fewest.{visit-within, swept, ranked-wins, higher-test}
 use Rattle.masks.proofs.Walk.{Walk, walk-starts, walk-next, best-starts, best-next, best-ends}
-use Rattle.rounds.specs.Round.{Summand, inputsOf, boxes, sumNonlinearity}
+use Rattle.rounds.specs.Round.{Summand, inputsOf, sumNonlinearity}
 use Rattle.rounds.specs.Spectra.{peak, product, places, signAt, bySpectra, larger, factored, largestProduct}
-use Rattle.rounds.specs.Calls.{sizeIf, foundCandidate, TopOf, TopIf, masksOf, WitnessOf}
+use Rattle.rounds.specs.Work.{sizeIf, foundCandidate, TopOf, TopIf, masksOf, WitnessOf}
 use Rattle.rounds.specs.declared.Top.{Top}
 use Rattle.rounds.specs.declared.Witness.{Witness}
 use Rattle.rounds.specs.declared.Found.{Found}
 use Rattle.rounds.proofs.Peaks.{peaks-positive}
 use Rattle.rounds.proofs.Spectra.{places-peaks, product-is, spectra-half}
 use Rattle.rounds.proofs.Theorems.{by-spectra, product-reached}
+use Rattle.rounds.proofs.Entry.{boxes}
 
 -- ---- the product of up to four boxes
 module _ (s1 s2 s3 s4 : Summand) (c : ℕ) where
@@ -89,21 +91,23 @@ module _ (s1 s2 s3 s4 : Summand) (c : ℕ) (t1 t2 t3 t4 : Top) where
     b = bitXor (t1 .sign) (bitXor (t2 .sign) (bitXor (t3 .sign) (t4 .sign)));
   }
 
-  is-witness : (ss : List Summand) (count : ℕ) {sign : ℕ} → fourMasks .b ≡ sign → Placed ss c (masksOf count fourMasks) sign → WitnessOf ss count c fourMasks
-  is-witness ss count q h = record { masks-are = h .masks-are; sign-is = q ∙ h .sign-is }
+  is-witness : (ss : List Summand) (count : ℕ) {sign : ℕ} → fourMasks .b ≡ sign → Placed ss c (take count (masksOf fourMasks)) sign
+      → drop count (masksOf fourMasks) ≡ drop count (0 ∷ 0 ∷ 0 ∷ 0 ∷ []) → WitnessOf ss count c fourMasks
+  is-witness ss count q h z = record { masks-are = h .masks-are; past = z; sign-is = q ∙ h .sign-is }
 
   pub witness-is : (count : ℕ) → 1 ≤ count → count ≤ 4
       → TopOf s1 c t1 → TopIf (ltb 1 count) s2 c t2 → TopIf (ltb 2 count) s3 c t3 → TopIf (ltb 3 count) s4 c t4 → WitnessOf (boxes count s1 s2 s3 s4) count c fourMasks
   witness-is zero l h p1 p2 p3 p4 = absurd (omega arith)
   witness-is (suc zero) l h p1 p2 p3 p4 =
-      is-witness (s1 ∷ []) 1 (ap (bitXor (t1 .sign)) (zeros (p2 .1) (p3 .1) (p4 .1))) (next s1 [] c t1 [] 0 p1 (none c))
-  witness-is (suc (suc zero)) l h p1 p2 p3 p4 = is-witness (s1 ∷ s2 ∷ []) 2 (rw (p3 .1, p4 .1)) (next s1 _ c t1 _ _ p1 (next s2 [] c t2 [] 0 p2 (none c)))
+      is-witness (s1 ∷ []) 1 (ap (bitXor (t1 .sign)) (zeros (p2 .1) (p3 .1) (p4 .1))) (next s1 [] c t1 [] 0 p1 (none c)) (rw (p2 .0, p3 .0, p4 .0))
+  witness-is (suc (suc zero)) l h p1 p2 p3 p4 =
+      is-witness (s1 ∷ s2 ∷ []) 2 (rw (p3 .1, p4 .1)) (next s1 _ c t1 _ _ p1 (next s2 [] c t2 [] 0 p2 (none c))) (rw (p3 .0, p4 .0))
   witness-is (suc (suc (suc zero))) l h p1 p2 p3 p4 =
-      is-witness (s1 ∷ s2 ∷ s3 ∷ []) 3 (rw (p4 .1)) (next s1 _ c t1 _ _ p1 (next s2 _ c t2 _ _ p2 (next s3 [] c t3 [] 0 p3 (none c))))
+      is-witness (s1 ∷ s2 ∷ s3 ∷ []) 3 (rw (p4 .1)) (next s1 _ c t1 _ _ p1 (next s2 _ c t2 _ _ p2 (next s3 [] c t3 [] 0 p3 (none c)))) (rw (p4 .0))
   witness-is (suc (suc (suc (suc zero)))) l h p1 p2 p3 p4 =
       is-witness (s1 ∷ s2 ∷ s3 ∷ s4 ∷ []) 4
       (ap (λ (z : ℕ). bitXor (t1 .sign) (bitXor (t2 .sign) (bitXor (t3 .sign) z))) (sym (xor-zero-r (t4 .sign))))
-      (next s1 _ c t1 _ _ p1 (next s2 _ c t2 _ _ p2 (next s3 _ c t3 _ _ p3 (next s4 [] c t4 [] 0 p4 (none c)))))
+      (next s1 _ c t1 _ _ p1 (next s2 _ c t2 _ _ p2 (next s3 _ c t3 _ _ p3 (next s4 [] c t4 [] 0 p4 (none c))))) refl
   witness-is (suc (suc (suc (suc (suc k))))) l h p1 p2 p3 p4 = absurd (omega arith)
 
 -- ---- the loop over the components
@@ -180,7 +184,7 @@ module _ {ss : List Summand} {cs : List ℕ} {found : Found} (h : Chosen ss cs f
 
   -- what the answer shows
   pub answer-is : {count figure : ℕ} {t : Witness} → figure ≡ 2 ^ (inputsOf ss - 1) - found .size / 2 → WitnessOf ss count (found .c) t
-      → record { figure = figure; witness = found .c ∷ (masksOf count t ++ (t .b ∷ [])) } ≡ sumNonlinearity ss cs
+      → record { figure = figure; witness = found .c ∷ (take count (masksOf t) ++ (t .b ∷ [])) } ≡ sumNonlinearity ss cs
   answer-is e w =
       ap₂ (λ (k : ℕ) (l : List ℕ). record { figure = k; witness = found .c ∷ l }) (e ∙ ap (λ (k : ℕ). 2 ^ (inputsOf ss - 1) - k / 2) (h .size-is))
       (ap₂ (λ (l : List ℕ) (b : ℕ). l ++ (b ∷ [])) (w .masks-are) (w .sign-is))

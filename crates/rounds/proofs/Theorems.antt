@@ -4,14 +4,14 @@ use mathlib.Core.Bool.{Bool, true, false}
 use mathlib.Core.List.{List, [], _∷_, _++_, List·Memᴰ, List·Memᴰ·not-nil}
 use Prim.Native.Nat.{ℕ, suc, _+_, _^_, _<_, _≤_}
 use native.Mathlib.Omega.{arith}
-use borrow.Author.Tests.{ltb-true, ltb-false, lt-ltb}
+use borrow.Author.Tests.{ltb-true, ltb-false}
 use Rattle.boolean.specs.Sums.{each}
-use Rattle.boolean.specs.Functions.{component, distance}
 use Rattle.boolean.specs.Selection.{Candidate, best, lower, firstLeast, First}
 use Rattle.boolean.proofs.FirstLargest.{best-changed}
 use Rattle.boolean.proofs.Lists.{mem-each, in-each}
-use Rattle.boolean.proofs.Selection.{Ordered, best-all, best-mem, best-step, best-takes, best-append, firstLeast-le, firstLeast-mem, firstLeast-first, firstLeast-append, firstLeast-from}
-use Rattle.rounds.specs.Round.{Summand, inputsOf, sumRows, sumPair, sumPairsOf, sumPairs, sumNonlinearity}
+use Rattle.boolean.proofs.Selection.{best-all, best-mem, best-step, best-append, firstLeast-le, firstLeast-mem, firstLeast-first, firstLeast-append, firstLeast-from}
+use Rattle.rounds.specs.Round.{Summand, inputsOf, sumDistance, sumPair, sumPairsOf, sumPairs, sumNonlinearity}
+use Rattle.boolean.specs.Statements.{Ordered}
 use Rattle.rounds.specs.Spectra.{product, bySpectra, larger}
 use Rattle.rounds.specs.Statements.{Fits}
 use Rattle.rounds.proofs.Masks.{apart, apart-fits, joined-apart}
@@ -47,10 +47,10 @@ module _ {A : Type 0} (f : A → List Candidate) (g : A → Candidate)
 -- ---- the least distance, reached, and the first
 module _ (ss : List Summand) (cs : List ℕ) where
   -- every component in cs differs from every affine function of N inputs at so many inputs or more
-  pub least : (c v b : ℕ) → List·Memᴰ c cs → v < 2 ^ inputsOf ss → b < 2 → sumNonlinearity ss cs .figure ≤ distance (inputsOf ss) (component (sumRows ss) c) v b
+  pub least : (c v b : ℕ) → List·Memᴰ c cs → v < 2 ^ inputsOf ss → b < 2 → sumNonlinearity ss cs .figure ≤ sumDistance ss c v b
   unfolding sumNonlinearity sumPairs
   least c v b m l h =
-      subst (λ (z : ℕ). sumNonlinearity ss cs .figure ≤ distance (inputsOf ss) (component (sumRows ss) c) z b) (joined-apart ss v l)
+      subst (λ (z : ℕ). sumNonlinearity ss cs .figure ≤ sumDistance ss c z b) (joined-apart ss v l)
       (firstLeast-le (sumPairs ss cs) (sumPair ss c (apart ss v) b)
       (in-each cs (sumPairsOf ss) c (sumPair ss c (apart ss v) b) m (in-sumPairsOf ss c (apart ss v) b (apart-fits ss v) h)))
 
@@ -106,18 +106,6 @@ module _ (ss : List Summand) (some : 1 ≤ inputsOf ss) where
       go true false p q r s = absurd (omega (arith, p refl, s refl, spectra-half ss some c, spectra-half ss some b))
       go false true p q r s = absurd (omega (arith, q refl, r refl, spectra-half ss some c, spectra-half ss some b))
       go false false p q r s = refl
-
-  -- the first best over the components, one candidate for each: what a loop does, from any start
-  pub loop : (b : Candidate) (cs : List ℕ) → best lower b (sumPairs ss cs) ≡ best lower b (each cs (λ c. bySpectra ss c ∷ []))
-  unfolding sumPairs
-  loop = best-each (sumPairsOf ss) (bySpectra ss) spectra-taken spectra-kept
-
-  -- from a start that the first component's best beats, it is the first best of all
-  pub loop-from : (b : Candidate) (c : ℕ) (cs : List ℕ) → bySpectra ss c .figure < b .figure → best lower b (sumPairs ss (c ∷ cs)) ≡ sumNonlinearity ss (c ∷ cs)
-  unfolding sumNonlinearity sumPairs each
-  loop-from b c cs h =
-      loop b (c ∷ cs) ∙ best-takes lower b (bySpectra ss c) (each cs (λ c. bySpectra ss c ∷ [])) (lt-ltb _ _ h)
-      ∙ sym (firstLeast-each (sumPairsOf ss) (bySpectra ss) spectra-taken spectra-kept c cs (spectra-in c))
 
   -- the first component of the largest product decides: its first largest magnitudes are the witness
   pub by-spectra : (c : ℕ) (cs : List ℕ) → sumNonlinearity ss (c ∷ cs) ≡ bySpectra ss (best (larger ss) c cs)

@@ -3,7 +3,7 @@
 use mathlib.Core.Path.{_≡_, refl, sym, ap, _∙_, subst}
 use mathlib.Core.List.{List}
 use Prim.Native.Nat.{ℕ, suc, _+_, _-_, _*_, _<_, _≤_, _^_, max}
-use native.Mathlib.Nat.{le-antisymm, le-of-eq, le-trans, zero-lt-suc}
+use native.Mathlib.Nat.{le-antisymm, le-of-eq, zero-lt-suc}
 use native.Mathlib.Numerals.{add-one}
 use native.Mathlib.Omega.{arith}
 use native.Mathlib.Decide.{decLt}
@@ -13,7 +13,7 @@ use lib.IntN.{ℤ, pos, negsuc, _+ℤ_, natAbs}
 use lib.ListN.{length}
 use lib.Pow.{pow-mono}
 use Rattle.boolean.specs.Sums.{largestBelow}
-use Rattle.boolean.specs.Functions.{at, valueAt, component, walsh, approximation, spectrum, signBit}
+use Rattle.boolean.specs.Functions.{at, valueAt, component, approximation, spectrum, signBit}
 use Rattle.boolean.proofs.Largest.{largest-le, le-largest}
 use Rattle.boolean.proofs.Lists.{length-listBelow, getD-listBelow}
 use Rattle.boolean.proofs.Walsh.{walsh-le}
@@ -25,7 +25,7 @@ use Rattle.refusals.proofs.Checks.{accepted, box-accepted, first-append, conten
 use Rattle.linear.specs.Calls.{componentChecks}
 use Rattle.rounds.specs.Round.{Summand, boxOf}
 use Rattle.rounds.specs.Spectra.{peak}
-use Rattle.rounds.specs.Calls.{Highest, TopOf}
+use Rattle.rounds.specs.Work.{Highest, TopOf}
 use Rattle.rounds.specs.declared.Top.{Top}
 use Rattle.rounds.proofs.Peaks.{sizeOf, Peak}
 use Rattle.rounds.proofs.Spectra.{place-peak, peak-size}

@@ -1,4 +1,5 @@
 pub mod Round
 pub mod Spectra
 pub mod Calls
+pub mod Work
 pub mod Statements

@@ -1,5 +1,5 @@
--- Boxes added together (document 02 §4): each box is fed by its own input bits, box 1 by the lowest, and their outputs are XORed. What is measured is
--- the nonlinearity of that sum, as a box whose inputs are all their inputs.
+-- Boxes added together (document 02 §4): each box is fed by its own input bits, box 1 by the lowest, and their outputs are XORed. What is
+-- measured is the nonlinearity of that sum, as a box whose inputs are all their inputs.
 use Prim.Native.Nat.{ℕ, _+_, _*_, _/_, _%_, _^_}
 use mathlib.Core.Bool.{Bool, true}
 use mathlib.Core.List.{List, [], _∷_, _++_}
@@ -24,7 +24,7 @@ inputsOf [] = 0
 inputsOf (s ∷ ss) = s .inputs + inputsOf ss
 
 -- the sum at the input x: the first box takes the lowest bits, the others the rest
-unfoldable pub sumAt : List Summand → ℕ → ℕ
+unfoldable pub sumAt : (ss : List Summand) (x : ℕ) → ℕ
 sumAt [] x = 0
 sumAt (s ∷ ss) x = bitXor (at (s .rows) (x % 2 ^ s .inputs)) (sumAt ss (x / 2 ^ s .inputs))
 
@@ -40,39 +40,43 @@ masks [] = [] ∷ []
 masks (s ∷ ss) = each (listBelow (2 ^ s .inputs) (λ w. w)) (λ w. each (masks ss) (λ ws. (w ∷ ws) ∷ []))
 
 -- one mask put together of a mask for each box, the first box's in the lowest bits
-unfoldable pub joined : List Summand → List ℕ → ℕ
+unfoldable pub joined : (ss : List Summand) (ws : List ℕ) → ℕ
 joined [] ws = 0
 joined (s ∷ ss) [] = 0
 joined (s ∷ ss) (w ∷ ws) = w + 2 ^ s .inputs * joined ss ws
 
--- component c of the sum and the affine function whose mask is put together of ws, with the count of the inputs, of all 2^N, at which they differ
-abbrev pub sumPair : List Summand → ℕ → List ℕ → ℕ → Candidate
-sumPair ss c ws b = record { figure = distance (inputsOf ss) (component (sumRows ss) c) (joined ss ws) b; witness = c ∷ (ws ++ (b ∷ [])) }
+-- the count of the inputs, of all 2^N, at which component c of the sum and the affine function (v, b) of N inputs differ
+abbrev pub sumDistance : (ss : List Summand) (c v b : ℕ) → ℕ
+sumDistance ss c v b = distance (inputsOf ss) (component (sumRows ss) c) v b
+
+-- component c of the sum and the affine function whose mask is put together of ws, with that count
+abbrev pub sumPair : (ss : List Summand) (c : ℕ) (ws : List ℕ) (b : ℕ) → Candidate
+sumPair ss c ws b = record { figure = sumDistance ss c (joined ss ws) b; witness = c ∷ (ws ++ (b ∷ [])) }
 
 -- the pairs of one component, in the masks' order, then b
-unfoldable pub sumPairsOf : List Summand → ℕ → List Candidate
+unfoldable pub sumPairsOf : (ss : List Summand) (c : ℕ) → List Candidate
 unfolding each masks
 sumPairsOf ss c = each (masks ss) (λ ws. sumPair ss c ws 0 ∷ sumPair ss c ws 1 ∷ [])
 
 -- all pairs of the components cs, in their order, then the masks', then b
-unfoldable pub sumPairs : List Summand → List ℕ → List Candidate
+unfoldable pub sumPairs : (ss : List Summand) (cs : List ℕ) → List Candidate
 unfolding each sumPairsOf
 sumPairs ss cs = each cs (λ c. sumPairsOf ss c)
 
 -- the first pair that differs at the fewest inputs
-unfoldable pub sumNonlinearity : List Summand → List ℕ → Candidate
+unfoldable pub sumNonlinearity : (ss : List Summand) (cs : List ℕ) → Candidate
 unfolding firstLeast sumPairs
 sumNonlinearity ss cs = firstLeast (sumPairs ss cs)
 
 -- The call: which boxes it reads, its checks, and what it replies.
 
 -- a box as it is handed over
-abbrev pub boxOf : ℕ → ℕ → List ℕ → Summand
+abbrev pub boxOf : (n m : ℕ) (rows : List ℕ) → Summand
 boxOf n m rows = record { inputs = n; outputs = m; rows = rows }
 
--- the boxes that are read: the first so many of the four that are handed over
-abbrev pub boxes : ℕ → Summand → Summand → Summand → Summand → List Summand
-boxes count s1 s2 s3 s4 = take count (s1 ∷ s2 ∷ s3 ∷ s4 ∷ [])
+-- the boxes that are given, of those handed over: the first so many. No other is read.
+abbrev pub given : (count : ℕ) (handed : List Summand) → List Summand
+given count handed = take count handed
 
 -- the outputs of the sum: those of box 1
 abbrev pub outputsOf : List Summand → ℕ
@@ -88,16 +92,19 @@ sameOutputs (s ∷ ss) = every (λ t. eqb (t .outputs) (s .outputs)) ss
 abbrev pub checksOf : Summand → List Check
 checksOf s = boxChecks (s .inputs) (s .outputs) (s .rows)
 
--- the checks: the number of boxes, each box's own in box order, the output widths, and the limit
-unfoldable pub sumChecks : ℕ → List Summand → ℕ → List Check
+-- the checks: the number of boxes, each given box's own in box order, their output widths, and the limit
+unfoldable pub sumChecks : (count : ℕ) (handed : List Summand) (i : ℕ) → List Check
 unfolding each
-sumChecks count ss i =
+sumChecks count handed i =
+    let ss : List Summand = given count handed in
     (BoxCount unless inRange 1 4 count)
     ∷ (each ss checksOf ++ (
     (OutputWidths unless sameOutputs ss)
     ∷ (Parameter unless inRange 1 (outputsOf ss) i)
     ∷ []))
 
--- what the call replies, of a number of boxes and those that are read: figure, c, a mask for each box, b; or the number of the refusal
-abbrev pub sumReply : ℕ → List Summand → ℕ → Reply
-sumReply count ss i = replyAfter (first (sumChecks count ss i)) (shown (sumNonlinearity ss (components (outputsOf ss) i)))
+-- what the call replies: of the sum of the given boxes the figure, c, a mask for each box, b; or the number of the refusal
+abbrev pub sumReply : (count : ℕ) (handed : List Summand) (i : ℕ) → Reply
+sumReply count handed i =
+    let ss : List Summand = given count handed in
+    replyAfter (first (sumChecks count handed i)) (shown (sumNonlinearity ss (components (outputsOf ss) i)))

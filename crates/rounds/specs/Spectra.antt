@@ -11,42 +11,44 @@ use Rattle.boolean.specs.Selection.{Candidate, firstLargest}
 use Rattle.rounds.specs.Round.{Summand, inputsOf}
 
 -- the largest magnitude of W(w) of component c of a box, with the first mask that has it
-unfoldable pub peak : Summand → ℕ → Candidate
+unfoldable pub peak : (s : Summand) (c : ℕ) → Candidate
 unfolding listBelow walsh firstLargest
-peak s c = firstLargest (listBelow (2 ^ s .inputs) (λ w. record { figure = natAbs (walsh (s .inputs) (component (s .rows) c) w); witness = w ∷ [] }))
+peak s c =
+    firstLargest (listBelow (2 ^ s .inputs) (λ w. record { figure = natAbs (walsh (s .inputs) (component (s .rows) c) w); witness = w ∷ [] }))
 
 -- the product of the boxes' largest magnitudes
-unfoldable pub product : List Summand → ℕ → ℕ
+unfoldable pub product : (ss : List Summand) (c : ℕ) → ℕ
 unfolding peak
 product [] c = 1
 product (s ∷ ss) c = peak s c .figure * product ss c
 
 -- the first masks that have them, from box 1 on
-unfoldable pub places : List Summand → ℕ → List ℕ
+unfoldable pub places : (ss : List Summand) (c : ℕ) → List ℕ
 unfolding peak
 places [] c = []
 places (s ∷ ss) c = at (peak s c .witness) 0 ∷ places ss c
 
 -- the sign bit of the product of W(w) at a mask for each box: the XOR of their sign bits
-unfoldable pub signAt : List Summand → ℕ → List ℕ → ℕ
+unfoldable pub signAt : (ss : List Summand) (c : ℕ) (ws : List ℕ) → ℕ
 unfolding walsh component signBit
 signAt [] c ws = 0
 signAt (s ∷ ss) c [] = 0
 signAt (s ∷ ss) c (w ∷ ws) = bitXor (signBit (walsh (s .inputs) (component (s .rows) c) w)) (signAt ss c ws)
 
 -- what the spectra give for component c: 2^(N − 1) less half the product, with the masks and b
-abbrev pub bySpectra : List Summand → ℕ → Candidate
-bySpectra ss c = record { figure = 2 ^ (inputsOf ss - 1) - product ss c / 2; witness = c ∷ (places ss c ++ (signAt ss c (places ss c) ∷ [])) }
+abbrev pub bySpectra : (ss : List Summand) (c : ℕ) → Candidate
+bySpectra ss c =
+    record { figure = 2 ^ (inputsOf ss - 1) - product ss c / 2; witness = c ∷ (places ss c ++ (signAt ss c (places ss c) ∷ [])) }
 
 -- a larger product
-abbrev pub larger : List Summand → ℕ → ℕ → Bool
+abbrev pub larger : (ss : List Summand) (c b : ℕ) → Bool
 larger ss c b = ltb (product ss b) (product ss c)
 
 -- component c with its product, as a candidate
-abbrev pub factored : List Summand → ℕ → Candidate
+abbrev pub factored : (ss : List Summand) (c : ℕ) → Candidate
 factored ss c = record { figure = product ss c; witness = c ∷ [] }
 
 -- the first component, of those in cs, of the largest product
-unfoldable pub largestProduct : List Summand → List ℕ → Candidate
+unfoldable pub largestProduct : (ss : List Summand) (cs : List ℕ) → Candidate
 unfolding product each firstLargest
 largestProduct ss cs = firstLargest (each cs (λ c. factored ss c ∷ []))

@@ -1,28 +1,31 @@
 -- What the theorems beside the contract say; no contract needs it.
-use Prim.Native.Nat.{ℕ, _-_, _/_, _^_, _≤_, _<_}
+use Prim.Native.Nat.{ℕ, _+_, _*_, _^_, _≤_, _<_}
 use mathlib.Core.Path.{_≡_}
 use mathlib.Core.Logic.{_⊎_}
 use mathlib.Core.List.{List, [], _∷_, _++_}
 use lib.IntN.{ℤ, pos, _*ℤ_}
-use Rattle.boolean.specs.Functions.{component, distance, walsh, Within, MaskBefore}
+use lib.ListN.{length, drop}
+use Rattle.boolean.specs.Functions.{at, component, walsh, Within, MaskBefore, maskRank}
+use Rattle.boolean.specs.Selection.{Candidate}
 use Rattle.refusals.specs.Table.{figures}
+use Rattle.linear.specs.Nonlinearity.{nonlinearity}
 use Rattle.linear.specs.Statements.{IsPair}
-use Rattle.rounds.specs.Round.{Summand, inputsOf, outputsOf, sumRows, joined, sumReply}
+use Rattle.rounds.specs.Round.{Summand, inputsOf, given, outputsOf, sumRows, joined, sumDistance, sumReply}
 use Rattle.rounds.specs.Spectra.{product}
 
 -- a mask for each box, of its inputs' number of bits
-abbrev pub Fits : List Summand → List ℕ → Type 0
+abbrev pub Fits : (ss : List Summand) (ws : List ℕ) → Type 0
 Fits [] [] = Unit {0}
 Fits [] (w ∷ ws) = ⊥
 Fits (s ∷ ss) [] = ⊥
 Fits (s ∷ ss) (w ∷ ws) = (w < 2 ^ s .inputs) × Fits ss ws
 
 -- the Walsh value of component c of one box
-abbrev pub walshOf : Summand → ℕ → ℕ → ℤ
+abbrev pub walshOf : (s : Summand) (c w : ℕ) → ℤ
 walshOf s c w = walsh (s .inputs) (component (s .rows) c) w
 
 -- the product of the boxes' Walsh values, each at its own mask
-unfoldable pub productAt : List Summand → ℕ → List ℕ → ℤ
+unfoldable pub productAt : (ss : List Summand) (c : ℕ) (ws : List ℕ) → ℤ
 productAt [] c ws = pos 1
 productAt (s ∷ ss) c [] = pos 1
 productAt (s ∷ ss) c (w ∷ ws) = walshOf s c w *ℤ productAt ss c ws
@@ -34,27 +37,47 @@ pub record IsSumPair (ss : List Summand) (i c : ℕ) (ws : List ℕ) (b : ℕ) :
   pub b-high : b < 2
 
 -- masks vs come before masks ws: by the first box's, then the second's, and so on
-abbrev pub Lex : List ℕ → List ℕ → Type 0
+abbrev pub Lex : (vs ws : List ℕ) → Type 0
 Lex [] ws = ⊥
 Lex (v ∷ vs) [] = ⊥
 Lex (v ∷ vs) (w ∷ ws) = (v < w) ⊎ ((v ≡ w) × Lex vs ws)
 
 -- (c′, ws′, b′) comes before (c, ws, b): by the components' order, then the masks', then b
-abbrev pub Before : ℕ → List ℕ → ℕ → ℕ → List ℕ → ℕ → Type 0
+abbrev pub Before : (c′ : ℕ) (ws′ : List ℕ) (b′ c : ℕ) (ws : List ℕ) (b : ℕ) → Type 0
 Before c′ ws′ b′ c ws b = MaskBefore c′ c ⊎ (((c′ ≡ c) × Lex ws′ ws) ⊎ ((c′ ≡ c) × (ws′ ≡ ws) × (b′ < b)))
 
--- What is reported of accepted boxes within the limit i: d and the witness, c, a mask for each box, and b.
-pub record Reported (count : ℕ) (ss : List Summand) (i d : ℕ) : Type 0 where
-  pub c : ℕ
-  pub ws : List ℕ
-  pub b : ℕ
-  pub reply : sumReply count ss i ≡ figures (d ∷ c ∷ (ws ++ (b ∷ [])))
-  -- no component within the limit differs from any affine function of N inputs at fewer of the 2^N inputs
-  pub least : (c′ v b′ : ℕ) → IsPair (inputsOf ss) (outputsOf ss) i c′ v b′ → d ≤ distance (inputsOf ss) (component (sumRows ss) c′) v b′
-  pub is-pair : IsSumPair ss i c ws b
-  pub reached : distance (inputsOf ss) (component (sumRows ss) c) (joined ss ws) b ≡ d
-  pub more-before : (c′ : ℕ) (ws′ : List ℕ) (b′ : ℕ) → IsSumPair ss i c′ ws′ b′ → Before c′ ws′ b′ c ws b
-      → d < distance (inputsOf ss) (component (sumRows ss) c′) (joined ss ws′) b′
-  -- 2^(N − 1) less half the largest product
-  pub product-largest : (c′ : ℕ) → Within i (2 ^ outputsOf ss) c′ → product ss c′ ≤ product ss c
-  pub figure-is : d ≡ 2 ^ (inputsOf ss - 1) - product ss c / 2
+-- the number of the masks in that order: box 1's weighs most
+abbrev pub masksRank : (ss : List Summand) (ws : List ℕ) → ℕ
+masksRank [] ws = 0
+masksRank (s ∷ ss) [] = 0
+masksRank (s ∷ ss) (w ∷ ws) = w * 2 ^ inputsOf ss + masksRank ss ws
+
+-- a pair's number in that order, of its witness: c, a mask for each box, b
+abbrev pub sumRank : (ss : List Summand) (m : ℕ) (p : Candidate) → ℕ
+sumRank ss m p =
+    maskRank m (at (p .witness) 0) * (2 * 2 ^ inputsOf ss) + masksRank ss (drop 1 (p .witness)) * 2 + at (p .witness) (1 + length ss)
+
+module _ (count : ℕ) (handed : List Summand) (i : ℕ) where
+  -- the boxes that are given
+  abbrev ss : List Summand
+  ss = given count handed
+
+  -- What is reported of accepted boxes within the limit i: the figure d and the witness, c, a mask for each box, and b.
+  pub record SumReported : Type 0 where
+    pub d : ℕ
+    pub c : ℕ
+    pub ws : List ℕ
+    pub b : ℕ
+    pub reply : sumReply count handed i ≡ figures (d ∷ c ∷ (ws ++ (b ∷ [])))
+    -- no component within the limit differs from any affine function of N inputs at fewer of the 2^N inputs
+    pub least : (c′ v b′ : ℕ) → IsPair (inputsOf ss) (outputsOf ss) i c′ v b′ → d ≤ sumDistance ss c′ v b′
+    -- the witness is a pair and differs at d of them, and every pair before it at more
+    pub member : IsSumPair ss i c ws b
+    pub reached : sumDistance ss c (joined ss ws) b ≡ d
+    pub before : (c′ : ℕ) (ws′ : List ℕ) (b′ : ℕ) → IsSumPair ss i c′ ws′ b′ → Before c′ ws′ b′ c ws b
+        → d < sumDistance ss c′ (joined ss ws′) b′
+    -- it is the nonlinearity of the sum as one box of N inputs, with its witness: the masks put together come first there too
+    pub as-box : nonlinearity (inputsOf ss) (outputsOf ss) (sumRows ss) i ≡ record { figure = d; witness = c ∷ joined ss ws ∷ b ∷ [] }
+    -- d is 2^(N − 1) less half the largest product; doubled, so that nothing is rounded or cut off
+    pub product-largest : (c′ : ℕ) → Within i (2 ^ outputsOf ss) c′ → product ss c′ ≤ product ss c
+    pub whole : 2 * d + product ss c ≡ 2 ^ inputsOf ss

@@ -9,12 +9,13 @@ ghost use lib.IntN.{natAbs};
 ghost use Prim.Native.Nat.{_+_, _-_, _/_, _^_, _≤_, _<_};
 ghost use lib.ListN.{length};
 ghost use Rattle.boolean.specs.Sums.{each, largestBelow};
-ghost use Rattle.boolean.specs.Functions.{components, valueAt};
+ghost use Rattle.boolean.specs.Functions.{component, components, spectrum, valueAt};
 ghost use Rattle.refusals.specs.Table.{first, Box};
 ghost use Rattle.masks.specs.Masks.{preferred};
 ghost use Rattle.rounds.specs.Round.{boxOf, checksOf, sumChecks, sumReply};
 ghost use Rattle.rounds.specs.Spectra.{peak, product, largestProduct};
-ghost use Rattle.rounds.specs.Calls.{read, leastSum, checksIf, sameIf, inputsIf, sizeIf, Round, foundCandidate, Highest, TopOf, TopIf, WitnessOf};
+ghost use Rattle.rounds.specs.Calls.{handed, read, SumAnswer};
+ghost use Rattle.rounds.specs.Work.{checksIf, sameIf, inputsIf, sizeIf, Round, foundCandidate, Highest, TopOf, TopIf, WitnessOf};
 
 // The inputs and outputs of the four boxes that are handed over.
 pub struct Widths {
@@ -29,24 +30,24 @@ pub struct Widths {
 }
 
 // The first mask of the largest magnitude of a spectrum, and the sign bit of the value there.
-pub struct Top {
-    pub mask: u32,
-    pub sign: u32,
+struct Top {
+    mask: u32,
+    sign: u32,
 }
 
 // A mask for each box, 0 for a box past the number given, and b.
-pub struct Witness {
-    pub w1: u32,
-    pub w2: u32,
-    pub w3: u32,
-    pub w4: u32,
-    pub b: u32,
+struct Witness {
+    w1: u32,
+    w2: u32,
+    w3: u32,
+    w4: u32,
+    b: u32,
 }
 
 // The best component so far, with the product of the boxes' largest magnitudes.
-pub struct Found {
-    pub size: u64,
-    pub c: u32,
+struct Found {
+    size: u64,
+    c: u32,
 }
 
 // The answer of the call: the figure, c, a mask for each box (0 past the number given) and b.
@@ -82,7 +83,8 @@ fn largest(values: &[i32]) -> u32
 // Twice the same of the spectrum of component c of a box, the largest magnitude of a Walsh value, with an array for the spectrum lent.
 fn size_in(n: u32, m: u32, rows: &[u32], c: u32, values: &mut [i32]) -> u32
     requires { ⌜ Box n m (now rows) × (1 ≤ c) × (c < 2 ^ m) × (length (now values) ≡ 2 ^ n) ⌝ }
-    ensures { λ r. ⌜ (r ≡ peak (boxOf n m (now (rows .entry))) c .figure) × (r ≤ 256) ⌝ }
+    ensures reply { λ r. ⌜ (r ≡ peak (boxOf n m (now (rows .entry))) c .figure) × (r ≤ 256) ⌝ }
+    ensures content { λ r. ⌜ now (values .exit) ≡ spectrum n (component (now (rows .entry)) c) ⌝ }
 {
     linear::spectrum_of_component(n, m, rows, c, values);
     2 * largest(values)
@@ -112,8 +114,10 @@ fn product_at(
     rows4: &[u32],
     c: u32,
 ) -> u64
-    requires { ⌜ Round count (widths .m1) (read count widths (now rows1) (now rows2) (now rows3) (now rows4)) × (1 ≤ c) × (c < 2 ^ widths .m1) ⌝ }
-    ensures { λ r. ⌜ r ≡ product (read count widths (now (rows1 .entry)) (now (rows2 .entry)) (now (rows3 .entry)) (now (rows4 .entry))) c ⌝ }
+    requires { ⌜ Round count (widths .m1) (read count widths (now rows1) (now rows2) (now rows3) (now rows4))
+        × (1 ≤ c) × (c < 2 ^ widths .m1) ⌝ }
+    ensures { λ r. ⌜ r
+        ≡ product (read count widths (now (rows1 .entry)) (now (rows2 .entry)) (now (rows3 .entry)) (now (rows4 .entry))) c ⌝ }
 {
     let size1 = size_if(true, widths.n1, widths.m1, rows1, c);
     let size2 = size_if(1 < count, widths.n2, widths.m2, rows2, c);
@@ -148,12 +152,14 @@ fn sweep(
     i: u32,
 ) -> Found
     requires { ⌜ Round count (widths .m1) (read count widths (now rows1) (now rows2) (now rows3) (now rows4)) × (1 ≤ i) ⌝ }
-    ensures { λ r. ⌜ foundCandidate r ≡ largestProduct (read count widths (now (rows1 .entry)) (now (rows2 .entry)) (now (rows3 .entry)) (now (rows4 .entry))) (components (widths .m1) i) ⌝ }
+    ensures { λ r. ⌜ foundCandidate r
+        ≡ largestProduct (read count widths (now (rows1 .entry)) (now (rows2 .entry)) (now (rows3 .entry)) (now (rows4 .entry)))
+        (components (widths .m1) i) ⌝ }
 {
-    let masks = boolean::power_of_two(widths.m1) as u64;
+    let end = boolean::power_of_two(widths.m1) as u64;
     let mut found = Found { size: 0, c: 0 };
     let mut c: u64 = 1;
-    while c < masks {
+    while c < end {
         let mask = c as u32;
         let size = product_at(count, widths, rows1, rows2, rows3, rows4, mask);
         if is_preferred(found, size, mask) {
@@ -188,12 +194,13 @@ fn highest(values: &[i32]) -> Top
 }
 
 // The same of the spectrum of component c of a box, with an array for the spectrum lent.
-fn top_in(n: u32, m: u32, rows: &[u32], c: u32, spectrum: &mut [i32]) -> Top
-    requires { ⌜ Box n m (now rows) × (1 ≤ c) × (c < 2 ^ m) × (length (now spectrum) ≡ 2 ^ n) ⌝ }
-    ensures { λ r. ⌜ TopOf (boxOf n m (now (rows .entry))) c r ⌝ }
+fn top_in(n: u32, m: u32, rows: &[u32], c: u32, array: &mut [i32]) -> Top
+    requires { ⌜ Box n m (now rows) × (1 ≤ c) × (c < 2 ^ m) × (length (now array) ≡ 2 ^ n) ⌝ }
+    ensures reply { λ r. ⌜ TopOf (boxOf n m (now (rows .entry))) c r ⌝ }
+    ensures content { λ r. ⌜ now (array .exit) ≡ spectrum n (component (now (rows .entry)) c) ⌝ }
 {
-    linear::spectrum_of_component(n, m, rows, c, spectrum);
-    highest(spectrum)
+    linear::spectrum_of_component(n, m, rows, c, array);
+    highest(array)
 }
 
 // The same for a box that the sum has, and else the mask 0, with no sign.
@@ -220,8 +227,10 @@ fn witness_at(
     rows4: &[u32],
     c: u32,
 ) -> Witness
-    requires { ⌜ Round count (widths .m1) (read count widths (now rows1) (now rows2) (now rows3) (now rows4)) × (1 ≤ c) × (c < 2 ^ widths .m1) ⌝ }
-    ensures { λ r. ⌜ WitnessOf (read count widths (now (rows1 .entry)) (now (rows2 .entry)) (now (rows3 .entry)) (now (rows4 .entry))) count c r ⌝ }
+    requires { ⌜ Round count (widths .m1) (read count widths (now rows1) (now rows2) (now rows3) (now rows4))
+        × (1 ≤ c) × (c < 2 ^ widths .m1) ⌝ }
+    ensures { λ r. ⌜ WitnessOf
+        (read count widths (now (rows1 .entry)) (now (rows2 .entry)) (now (rows3 .entry)) (now (rows4 .entry))) count c r ⌝ }
 {
     let t1 = top_if(true, widths.n1, widths.m1, rows1, c);
     let t2 = top_if(1 < count, widths.n2, widths.m2, rows2, c);
@@ -257,7 +266,8 @@ fn check_boxes(
     rows4: &[u32],
 ) -> Checked
     requires { ⌜ (1 ≤ count) × (count ≤ 4) ⌝ }
-    ensures { λ r. ⌜ r ≡ first (each (read count widths (now (rows1 .entry)) (now (rows2 .entry)) (now (rows3 .entry)) (now (rows4 .entry))) checksOf) ⌝ }
+    ensures { λ r. ⌜ r
+        ≡ first (each (read count widths (now (rows1 .entry)) (now (rows2 .entry)) (now (rows3 .entry)) (now (rows4 .entry))) checksOf) ⌝ }
 {
     if let Checked::Refused(e) = refusals::check_box(widths.n1, widths.m1, rows1) {
         return Checked::Refused(e);
@@ -301,7 +311,8 @@ pub fn check_sum(
     rows4: &[u32],
     i: u32,
 ) -> Checked
-    ensures { λ r. ⌜ r ≡ first (sumChecks count (read count widths (now (rows1 .entry)) (now (rows2 .entry)) (now (rows3 .entry)) (now (rows4 .entry))) i) ⌝ }
+    ensures { λ r. ⌜ r
+        ≡ first (sumChecks count (handed widths (now (rows1 .entry)) (now (rows2 .entry)) (now (rows3 .entry)) (now (rows4 .entry))) i) ⌝ }
 {
     if !refusals::in_range(1, 4, count) {
         return Checked::Refused(Refusal::BoxCount);
@@ -336,8 +347,8 @@ fn figure_of(inputs: u32, size: u64) -> u32
     (half - size / 2) as u32
 }
 
-// The nonlinearity of the sum of one to four boxes, as a box whose inputs are all their inputs, over its combinations of at most i outputs, with the
-// first pair that reaches it. Boxes past the number given are not read.
+// The nonlinearity of the sum of one to four boxes, as a box whose inputs are all their inputs, over its combinations of at most i
+// outputs, with the first pair that reaches it. Boxes past the number given are not read.
 pub fn sum_nonlinearity(
     count: u32,
     widths: Widths,
@@ -347,7 +358,8 @@ pub fn sum_nonlinearity(
     rows4: &[u32],
     i: u32,
 ) -> LeastSum
-    ensures { λ r. ⌜ leastSum count r ≡ sumReply count (read count widths (now (rows1 .entry)) (now (rows2 .entry)) (now (rows3 .entry)) (now (rows4 .entry))) i ⌝ }
+    ensures { λ r. ⌜ SumAnswer count r
+        (sumReply count (handed widths (now (rows1 .entry)) (now (rows2 .entry)) (now (rows3 .entry)) (now (rows4 .entry))) i) ⌝ }
 {
     let checked = check_sum(count, widths, rows1, rows2, rows3, rows4, i);
     if let Checked::Refused(e) = checked {

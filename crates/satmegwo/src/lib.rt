@@ -1,16 +1,15 @@
-// The calls for C and for everything that speaks C. A slice is a pointer and its number of elements. Every function returns 0 or the number of
-// a refusal, and its figures go to an array that is lent for them.
+// The calls for C and for everything that speaks C. A slice is a pointer and its number of elements. Every function returns 0 or the number
+// of a refusal, and its figures go to an array that is lent for them.
 use boxfile::BoxFile;
 use catalogue::Told;
 use differential::CellList;
 use rounds::Widths;
-ghost use mathlib.Core.Path.{_≡_};
 ghost use mathlib.Core.List.{[], _∷_};
 ghost use Prim.Native.Nat.{_^_};
 ghost use lib.ListN.{length};
 ghost use Rattle.boolean.specs.Sums.{listBelow};
 ghost use Rattle.boolean.specs.Functions.{at, valueAt, component, spectrum, inverse, normalForm};
-ghost use Rattle.refusals.specs.Table.{tableCallChecks, first, replyAfter, contentAfter};
+ghost use Rattle.refusals.specs.Table.{tableCallChecks};
 ghost use Rattle.walsh.specs.Calls.{inverseChecks};
 ghost use Rattle.linear.specs.Calls.{componentChecks};
 ghost use Rattle.linear.specs.Nonlinearity.{nonlinearityReply};
@@ -23,9 +22,9 @@ ghost use Rattle.constructions.specs.Enlargement.{enlargedTable, enlargedRows};
 ghost use Rattle.constructions.specs.BentForm.{bentTable};
 ghost use Rattle.constructions.specs.Calls.{columnChecks, enlargeChecks, bentChecks};
 ghost use Rattle.boxfile.specs.File.{rowsOf};
-ghost use Rattle.rounds.specs.Round.{boxOf, boxes, sumReply};
+ghost use Rattle.rounds.specs.Round.{boxOf, sumReply};
 ghost use Rattle.swaps.specs.Swaps.{raisingReply};
-ghost use Rattle.answers.specs.Answers.{status, lent, figuresAfter};
+ghost use Rattle.answers.specs.Answers.{WroteOut, FiguresOut};
 ghost use Rattle.satmegwo.specs.Exports.{cellsChecks, readBoxChecks, addRecordChecks};
 ghost use Rattle.catalogue.specs.Calls.{checkReply, fetchReply, catalogueChecks, indexChecks, gapFor, gapIndex, removed, added, compacted};
 ghost use Rattle.packing.specs.Packing.{packed as packedForm, unpacked, packChecks, unpackChecks};
@@ -33,8 +32,8 @@ ghost use Rattle.packing.specs.Packing.{packed as packedForm, unpacked, packChe
 // The spectrum of a truth table.
 #[no_mangle]
 pub extern "C" fn satmegwo_spectrum(n: u32, table: &[u8], out: &mut [i32]) -> u32
-    ensures number { λ r. ⌜ r ≡ status (replyAfter (first (tableCallChecks n (now (table .entry)) (length (now (out .entry))))) []) ⌝ }
-    ensures content { λ r. ⌜ now (out .exit) ≡ contentAfter (first (tableCallChecks n (now (table .entry)) (length (now (out .entry))))) (spectrum n (at (now (table .entry)))) (now (out .entry)) ⌝ }
+    ensures { λ r. ⌜ WroteOut (tableCallChecks n (now (table .entry)) (length (now (out .entry))))
+        (spectrum n (at (now (table .entry)))) (now (out .entry)) r (now (out .exit)) ⌝ }
 {
     answers::status_of(walsh::spectrum(n, table, out))
 }
@@ -42,8 +41,8 @@ pub extern "C" fn satmegwo_spectrum(n: u32, table: &[u8], out: &mut [i32]) -> u3
 // The truth table of a spectrum.
 #[no_mangle]
 pub extern "C" fn satmegwo_inverse_spectrum(n: u32, values: &[i32], table: &mut [u8]) -> u32
-    ensures number { λ r. ⌜ r ≡ status (replyAfter (first (inverseChecks n (now (values .entry)) (length (now (table .entry))))) []) ⌝ }
-    ensures content { λ r. ⌜ now (table .exit) ≡ contentAfter (first (inverseChecks n (now (values .entry)) (length (now (table .entry))))) (listBelow (2 ^ n) (λ x. inverse n (valueAt (now (values .entry))) x)) (now (table .entry)) ⌝ }
+    ensures { λ r. ⌜ WroteOut (inverseChecks n (now (values .entry)) (length (now (table .entry))))
+        (listBelow (2 ^ n) (λ x. inverse n (valueAt (now (values .entry))) x)) (now (table .entry)) r (now (table .exit)) ⌝ }
 {
     answers::status_of(walsh::inverse_spectrum(n, values, table))
 }
@@ -57,8 +56,8 @@ pub extern "C" fn satmegwo_component_spectrum(
     c: u32,
     out: &mut [i32],
 ) -> u32
-    ensures number { λ r. ⌜ r ≡ status (replyAfter (first (componentChecks n m (now (rows .entry)) c (length (now (out .entry))))) []) ⌝ }
-    ensures content { λ r. ⌜ now (out .exit) ≡ contentAfter (first (componentChecks n m (now (rows .entry)) c (length (now (out .entry))))) (spectrum n (component (now (rows .entry)) c)) (now (out .entry)) ⌝ }
+    ensures { λ r. ⌜ WroteOut (componentChecks n m (now (rows .entry)) c (length (now (out .entry))))
+        (spectrum n (component (now (rows .entry)) c)) (now (out .entry)) r (now (out .exit)) ⌝ }
 {
     answers::status_of(linear::spectrum_of_component(n, m, rows, c, out))
 }
@@ -72,8 +71,7 @@ pub extern "C" fn satmegwo_nonlinearity(
     i: u32,
     figures: &mut [u32],
 ) -> u32
-    ensures number { λ r. ⌜ r ≡ status (lent (nonlinearityReply n m (now (rows .entry)) i) (length (now (figures .entry)))) ⌝ }
-    ensures content { λ r. ⌜ now (figures .exit) ≡ figuresAfter (lent (nonlinearityReply n m (now (rows .entry)) i) (length (now (figures .entry)))) (now (figures .entry)) ⌝ }
+    ensures { λ r. ⌜ FiguresOut (nonlinearityReply n m (now (rows .entry)) i) (now (figures .entry)) r (now (figures .exit)) ⌝ }
 {
     let room = figures.len();
     if room != 4 {
@@ -93,8 +91,8 @@ pub extern "C" fn satmegwo_add_to_column(
     b: u32,
     out: &mut [u32],
 ) -> u32
-    ensures number { λ r. ⌜ r ≡ status (replyAfter (first (additionChecks n m (now (rows .entry)) j w b (length (now (out .entry))))) []) ⌝ }
-    ensures content { λ r. ⌜ now (out .exit) ≡ contentAfter (first (additionChecks n m (now (rows .entry)) j w b (length (now (out .entry))))) (addedRows j w b (now (rows .entry))) (now (out .entry)) ⌝ }
+    ensures { λ r. ⌜ WroteOut (additionChecks n m (now (rows .entry)) j w b (length (now (out .entry))))
+        (addedRows j w b (now (rows .entry))) (now (out .entry)) r (now (out .exit)) ⌝ }
 {
     answers::status_of(columns::add_to_column(n, m, rows, j, w, b, out))
 }
@@ -102,8 +100,8 @@ pub extern "C" fn satmegwo_add_to_column(
 // One row of the XOR table of a box of at most 16 outputs.
 #[no_mangle]
 pub extern "C" fn satmegwo_xor_row(n: u32, m: u32, rows: &[u32], a: u32, counts: &mut [u16]) -> u32
-    ensures number { λ r. ⌜ r ≡ status (replyAfter (first (rowChecks n m (now (rows .entry)) a (length (now (counts .entry))))) []) ⌝ }
-    ensures content { λ r. ⌜ now (counts .exit) ≡ contentAfter (first (rowChecks n m (now (rows .entry)) a (length (now (counts .entry))))) (xorRow n m (now (rows .entry)) a) (now (counts .entry)) ⌝ }
+    ensures { λ r. ⌜ WroteOut (rowChecks n m (now (rows .entry)) a (length (now (counts .entry))))
+        (xorRow n m (now (rows .entry)) a) (now (counts .entry)) r (now (counts .exit)) ⌝ }
 {
     answers::status_of(differential::xor_row(n, m, rows, a, counts))
 }
@@ -111,8 +109,7 @@ pub extern "C" fn satmegwo_xor_row(n: u32, m: u32, rows: &[u32], a: u32, counts:
 // The largest cell of the XOR table, with a and beta.
 #[no_mangle]
 pub extern "C" fn satmegwo_largest_cell(n: u32, m: u32, rows: &[u32], figures: &mut [u32]) -> u32
-    ensures number { λ r. ⌜ r ≡ status (lent (xorReply n m (now (rows .entry))) (length (now (figures .entry)))) ⌝ }
-    ensures content { λ r. ⌜ now (figures .exit) ≡ figuresAfter (lent (xorReply n m (now (rows .entry))) (length (now (figures .entry)))) (now (figures .entry)) ⌝ }
+    ensures { λ r. ⌜ FiguresOut (xorReply n m (now (rows .entry))) (now (figures .entry)) r (now (figures .exit)) ⌝ }
 {
     answers::give_cell(differential::largest_cell(n, m, rows), figures)
 }
@@ -126,9 +123,10 @@ pub extern "C" fn satmegwo_largest_cells(
     list: &mut [u64],
     figures: &mut [u32],
 ) -> u32
-    ensures number { λ r. ⌜ r ≡ status (replyAfter (first (cellsChecks n m (now (rows .entry)) (length (now (figures .entry))) (length (now (list .entry))))) (length (largestCells n m (now (rows .entry))) ∷ [])) ⌝ }
-    ensures content { λ r. ⌜ now (figures .exit) ≡ contentAfter (first (cellsChecks n m (now (rows .entry)) (length (now (figures .entry))) (length (now (list .entry))))) (length (largestCells n m (now (rows .entry))) ∷ []) (now (figures .entry)) ⌝ }
-    ensures cells { λ r. ⌜ now (list .exit) ≡ listAfter (first (cellsChecks n m (now (rows .entry)) (length (now (figures .entry))) (length (now (list .entry))))) (largestCells n m (now (rows .entry))) (now (list .entry)) ⌝ }
+    ensures count { λ r. ⌜ WroteOut (cellsChecks n m (now (rows .entry)) (length (now (figures .entry))) (length (now (list .entry))))
+        (length (largestCells n m (now (rows .entry))) ∷ []) (now (figures .entry)) r (now (figures .exit)) ⌝ }
+    ensures cells { λ r. ⌜ WroteOut (cellsChecks n m (now (rows .entry)) (length (now (figures .entry))) (length (now (list .entry))))
+        (listAfter (largestCells n m (now (rows .entry))) (now (list .entry))) (now (list .entry)) r (now (list .exit)) ⌝ }
 {
     if figures.len() != 1 {
         return answers::number_for_room(refusals::check_box(n, m, rows));
@@ -148,8 +146,7 @@ pub extern "C" fn satmegwo_autocorrelation(
     i: u32,
     figures: &mut [u32],
 ) -> u32
-    ensures number { λ r. ⌜ r ≡ status (lent (autocorrelationReply n m (now (rows .entry)) i) (length (now (figures .entry)))) ⌝ }
-    ensures content { λ r. ⌜ now (figures .exit) ≡ figuresAfter (lent (autocorrelationReply n m (now (rows .entry)) i) (length (now (figures .entry)))) (now (figures .entry)) ⌝ }
+    ensures { λ r. ⌜ FiguresOut (autocorrelationReply n m (now (rows .entry)) i) (now (figures .entry)) r (now (figures .exit)) ⌝ }
 {
     let room = figures.len();
     if room != 3 {
@@ -168,8 +165,7 @@ pub extern "C" fn satmegwo_dynamic_distance(
     j: u32,
     figures: &mut [u32],
 ) -> u32
-    ensures number { λ r. ⌜ r ≡ status (lent (distanceReply n m (now (rows .entry)) i j) (length (now (figures .entry)))) ⌝ }
-    ensures content { λ r. ⌜ now (figures .exit) ≡ figuresAfter (lent (distanceReply n m (now (rows .entry)) i j) (length (now (figures .entry)))) (now (figures .entry)) ⌝ }
+    ensures { λ r. ⌜ FiguresOut (distanceReply n m (now (rows .entry)) i j) (now (figures .entry)) r (now (figures .exit)) ⌝ }
 {
     let room = figures.len();
     if room != 3 {
@@ -181,8 +177,8 @@ pub extern "C" fn satmegwo_dynamic_distance(
 // The normal form of a truth table.
 #[no_mangle]
 pub extern "C" fn satmegwo_normal_form(n: u32, table: &[u8], out: &mut [u8]) -> u32
-    ensures number { λ r. ⌜ r ≡ status (replyAfter (first (tableCallChecks n (now (table .entry)) (length (now (out .entry))))) []) ⌝ }
-    ensures content { λ r. ⌜ now (out .exit) ≡ contentAfter (first (tableCallChecks n (now (table .entry)) (length (now (out .entry))))) (normalForm n (at (now (table .entry)))) (now (out .entry)) ⌝ }
+    ensures { λ r. ⌜ WroteOut (tableCallChecks n (now (table .entry)) (length (now (out .entry))))
+        (normalForm n (at (now (table .entry)))) (now (out .entry)) r (now (out .exit)) ⌝ }
 {
     answers::status_of(algebraic::normal_form(n, table, out))
 }
@@ -190,8 +186,7 @@ pub extern "C" fn satmegwo_normal_form(n: u32, table: &[u8], out: &mut [u8]) -> 
 // The least degree of the combinations of at most i outputs, with c.
 #[no_mangle]
 pub extern "C" fn satmegwo_degree(n: u32, m: u32, rows: &[u32], i: u32, figures: &mut [u32]) -> u32
-    ensures number { λ r. ⌜ r ≡ status (lent (boxDegreeReply n m (now (rows .entry)) i) (length (now (figures .entry)))) ⌝ }
-    ensures content { λ r. ⌜ now (figures .exit) ≡ figuresAfter (lent (boxDegreeReply n m (now (rows .entry)) i) (length (now (figures .entry)))) (now (figures .entry)) ⌝ }
+    ensures { λ r. ⌜ FiguresOut (boxDegreeReply n m (now (rows .entry)) i) (now (figures .entry)) r (now (figures .exit)) ⌝ }
 {
     let room = figures.len();
     if room != 2 {
@@ -203,8 +198,7 @@ pub extern "C" fn satmegwo_degree(n: u32, m: u32, rows: &[u32], i: u32, figures:
 // Whether every input bit changes every column.
 #[no_mangle]
 pub extern "C" fn satmegwo_complete(n: u32, m: u32, rows: &[u32], figures: &mut [u32]) -> u32
-    ensures number { λ r. ⌜ r ≡ status (lent (completeReply n m (now (rows .entry))) (length (now (figures .entry)))) ⌝ }
-    ensures content { λ r. ⌜ now (figures .exit) ≡ figuresAfter (lent (completeReply n m (now (rows .entry))) (length (now (figures .entry)))) (now (figures .entry)) ⌝ }
+    ensures { λ r. ⌜ FiguresOut (completeReply n m (now (rows .entry))) (now (figures .entry)) r (now (figures .exit)) ⌝ }
 {
     answers::give_verdict(avalanche::is_complete(n, m, rows), figures)
 }
@@ -212,8 +206,7 @@ pub extern "C" fn satmegwo_complete(n: u32, m: u32, rows: &[u32], figures: &mut 
 // Whether n = m and no two rows are equal.
 #[no_mangle]
 pub extern "C" fn satmegwo_bijective(n: u32, m: u32, rows: &[u32], figures: &mut [u32]) -> u32
-    ensures number { λ r. ⌜ r ≡ status (lent (bijectiveReply n m (now (rows .entry))) (length (now (figures .entry)))) ⌝ }
-    ensures content { λ r. ⌜ now (figures .exit) ≡ figuresAfter (lent (bijectiveReply n m (now (rows .entry))) (length (now (figures .entry)))) (now (figures .entry)) ⌝ }
+    ensures { λ r. ⌜ FiguresOut (bijectiveReply n m (now (rows .entry))) (now (figures .entry)) r (now (figures .exit)) ⌝ }
 {
     answers::give_verdict(algebraic::is_bijective(n, m, rows), figures)
 }
@@ -227,8 +220,8 @@ pub extern "C" fn satmegwo_enlarge_column(
     a: u32,
     out: &mut [u8],
 ) -> u32
-    ensures number { λ r. ⌜ r ≡ status (replyAfter (first (columnChecks n (now (table .entry)) k a (length (now (out .entry))))) []) ⌝ }
-    ensures content { λ r. ⌜ now (out .exit) ≡ contentAfter (first (columnChecks n (now (table .entry)) k a (length (now (out .entry))))) (enlargedTable n (now (table .entry)) k a) (now (out .entry)) ⌝ }
+    ensures { λ r. ⌜ WroteOut (columnChecks n (now (table .entry)) k a (length (now (out .entry))))
+        (enlargedTable n (now (table .entry)) k a) (now (out .entry)) r (now (out .exit)) ⌝ }
 {
     answers::status_of(constructions::enlarge_column(n, table, k, a, out))
 }
@@ -242,8 +235,8 @@ pub extern "C" fn satmegwo_enlarge_box(
     k: u32,
     out: &mut [u32],
 ) -> u32
-    ensures number { λ r. ⌜ r ≡ status (replyAfter (first (enlargeChecks n (now (rows .entry)) (now (table .entry)) k (length (now (out .entry))))) []) ⌝ }
-    ensures content { λ r. ⌜ now (out .exit) ≡ contentAfter (first (enlargeChecks n (now (rows .entry)) (now (table .entry)) k (length (now (out .entry))))) (enlargedRows n (now (rows .entry)) (now (table .entry)) k) (now (out .entry)) ⌝ }
+    ensures { λ r. ⌜ WroteOut (enlargeChecks n (now (rows .entry)) (now (table .entry)) k (length (now (out .entry))))
+        (enlargedRows n (now (rows .entry)) (now (table .entry)) k) (now (out .entry)) r (now (out .exit)) ⌝ }
 {
     answers::status_of(constructions::enlarge_box(n, rows, table, k, out))
 }
@@ -256,8 +249,8 @@ pub extern "C" fn satmegwo_bent_function(
     table: &[u8],
     out: &mut [u8],
 ) -> u32
-    ensures number { λ r. ⌜ r ≡ status (replyAfter (first (bentChecks n (now (permutation .entry)) (now (table .entry)) (length (now (out .entry))))) []) ⌝ }
-    ensures content { λ r. ⌜ now (out .exit) ≡ contentAfter (first (bentChecks n (now (permutation .entry)) (now (table .entry)) (length (now (out .entry))))) (bentTable n (now (permutation .entry)) (now (table .entry))) (now (out .entry)) ⌝ }
+    ensures { λ r. ⌜ WroteOut (bentChecks n (now (permutation .entry)) (now (table .entry)) (length (now (out .entry))))
+        (bentTable n (now (permutation .entry)) (now (table .entry))) (now (out .entry)) r (now (out .exit)) ⌝ }
 {
     answers::status_of(constructions::bent_function(n, permutation, table, out))
 }
@@ -265,9 +258,10 @@ pub extern "C" fn satmegwo_bent_function(
 // Reads a box file: the rows go to one array, n and m to another. Neither is written to unless both can be.
 #[no_mangle]
 pub extern "C" fn satmegwo_read_box(file: &[u8], rows: &mut [u32], figures: &mut [u32]) -> u32
-    ensures number { λ r. ⌜ r ≡ status (replyAfter (first (readBoxChecks (now (file .entry)) (length (now (rows .entry))) (length (now (figures .entry))))) (at (now (file .entry)) 0 ∷ at (now (file .entry)) 1 ∷ [])) ⌝ }
-    ensures content { λ r. ⌜ now (figures .exit) ≡ contentAfter (first (readBoxChecks (now (file .entry)) (length (now (rows .entry))) (length (now (figures .entry))))) (at (now (file .entry)) 0 ∷ at (now (file .entry)) 1 ∷ []) (now (figures .entry)) ⌝ }
-    ensures rows { λ r. ⌜ now (rows .exit) ≡ contentAfter (first (readBoxChecks (now (file .entry)) (length (now (rows .entry))) (length (now (figures .entry))))) (rowsOf (now (file .entry)) (at (now (file .entry)) 0)) (now (rows .entry)) ⌝ }
+    ensures widths { λ r. ⌜ WroteOut (readBoxChecks (now (file .entry)) (length (now (rows .entry))) (length (now (figures .entry))))
+        (at (now (file .entry)) 0 ∷ at (now (file .entry)) 1 ∷ []) (now (figures .entry)) r (now (figures .exit)) ⌝ }
+    ensures rows { λ r. ⌜ WroteOut (readBoxChecks (now (file .entry)) (length (now (rows .entry))) (length (now (figures .entry))))
+        (rowsOf (now (file .entry)) (at (now (file .entry)) 0)) (now (rows .entry)) r (now (rows .exit)) ⌝ }
 {
     if figures.len() != 2 {
         return answers::number_for_room(boxfile::check_file(file, rows.len()));
@@ -278,8 +272,8 @@ pub extern "C" fn satmegwo_read_box(file: &[u8], rows: &mut [u32], figures: &mut
     }
 }
 
-// The nonlinearity of the sum of one to four boxes over its combinations of at most i outputs, with c, a mask for each box, and b. The array for the
-// figures is looked at before the sweep, which may be long, and told after the checks.
+// The nonlinearity of the sum of one to four boxes over its combinations of at most i outputs, with c, a mask for each box, and b. The
+// array for the figures is looked at before the sweep, which may be long, and told after the checks.
 #[no_mangle]
 pub extern "C" fn satmegwo_sum_nonlinearity(
     count: u32,
@@ -298,8 +292,8 @@ pub extern "C" fn satmegwo_sum_nonlinearity(
     i: u32,
     figures: &mut [u32],
 ) -> u32
-    ensures number { λ r. ⌜ r ≡ status (lent (sumReply count (boxes count (boxOf n1 m1 (now (rows1 .entry))) (boxOf n2 m2 (now (rows2 .entry))) (boxOf n3 m3 (now (rows3 .entry))) (boxOf n4 m4 (now (rows4 .entry)))) i) (length (now (figures .entry)))) ⌝ }
-    ensures content { λ r. ⌜ now (figures .exit) ≡ figuresAfter (lent (sumReply count (boxes count (boxOf n1 m1 (now (rows1 .entry))) (boxOf n2 m2 (now (rows2 .entry))) (boxOf n3 m3 (now (rows3 .entry))) (boxOf n4 m4 (now (rows4 .entry)))) i) (length (now (figures .entry)))) (now (figures .entry)) ⌝ }
+    ensures { λ r. ⌜ FiguresOut (sumReply count (boxOf n1 m1 (now (rows1 .entry)) ∷ boxOf n2 m2 (now (rows2 .entry))
+        ∷ boxOf n3 m3 (now (rows3 .entry)) ∷ boxOf n4 m4 (now (rows4 .entry)) ∷ []) i) (now (figures .entry)) r (now (figures .exit)) ⌝ }
 {
     let widths = Widths {
         n1,
@@ -322,8 +316,7 @@ pub extern "C" fn satmegwo_sum_nonlinearity(
 // Checks a catalogue: the number of its records.
 #[no_mangle]
 pub extern "C" fn satmegwo_check_catalogue(catalogue: &[u8], figures: &mut [u32]) -> u32
-    ensures number { λ r. ⌜ r ≡ status (lent (checkReply (now (catalogue .entry))) (length (now (figures .entry)))) ⌝ }
-    ensures content { λ r. ⌜ now (figures .exit) ≡ figuresAfter (lent (checkReply (now (catalogue .entry))) (length (now (figures .entry)))) (now (figures .entry)) ⌝ }
+    ensures { λ r. ⌜ FiguresOut (checkReply (now (catalogue .entry))) (now (figures .entry)) r (now (figures .exit)) ⌝ }
 {
     answers::give_number(catalogue::check(catalogue), figures)
 }
@@ -331,9 +324,10 @@ pub extern "C" fn satmegwo_check_catalogue(catalogue: &[u8], figures: &mut [u32]
 // Adds a box file to a catalogue: the index of the new record. The catalogue is written to only where the index can be given too.
 #[no_mangle]
 pub extern "C" fn satmegwo_add_record(catalogue: &mut [u8], file: &[u8], figures: &mut [u32]) -> u32
-    ensures number { λ r. ⌜ r ≡ status (replyAfter (first (addRecordChecks (now (catalogue .entry)) (now (file .entry)) (length (now (figures .entry))))) (gapIndex (gapFor (now (catalogue .entry)) (now (file .entry))) ∷ [])) ⌝ }
-    ensures content { λ r. ⌜ now (figures .exit) ≡ contentAfter (first (addRecordChecks (now (catalogue .entry)) (now (file .entry)) (length (now (figures .entry))))) (gapIndex (gapFor (now (catalogue .entry)) (now (file .entry))) ∷ []) (now (figures .entry)) ⌝ }
-    ensures records { λ r. ⌜ now (catalogue .exit) ≡ contentAfter (first (addRecordChecks (now (catalogue .entry)) (now (file .entry)) (length (now (figures .entry))))) (added (now (catalogue .entry)) (now (file .entry))) (now (catalogue .entry)) ⌝ }
+    ensures index { λ r. ⌜ WroteOut (addRecordChecks (now (catalogue .entry)) (now (file .entry)) (length (now (figures .entry))))
+        (gapIndex (gapFor (now (catalogue .entry)) (now (file .entry))) ∷ []) (now (figures .entry)) r (now (figures .exit)) ⌝ }
+    ensures records { λ r. ⌜ WroteOut (addRecordChecks (now (catalogue .entry)) (now (file .entry)) (length (now (figures .entry))))
+        (added (now (catalogue .entry)) (now (file .entry))) (now (catalogue .entry)) r (now (catalogue .exit)) ⌝ }
 {
     if 1 != figures.len() {
         return answers::number_for_room(catalogue::check_offered(catalogue, file));
@@ -347,8 +341,8 @@ pub extern "C" fn satmegwo_add_record(catalogue: &mut [u8], file: &[u8], figures
 // Removes a record of a catalogue.
 #[no_mangle]
 pub extern "C" fn satmegwo_remove_record(catalogue: &mut [u8], index: u32) -> u32
-    ensures number { λ r. ⌜ r ≡ status (replyAfter (first (indexChecks (now (catalogue .entry)) index)) []) ⌝ }
-    ensures content { λ r. ⌜ now (catalogue .exit) ≡ contentAfter (first (indexChecks (now (catalogue .entry)) index)) (removed (now (catalogue .entry)) index) (now (catalogue .entry)) ⌝ }
+    ensures { λ r. ⌜ WroteOut (indexChecks (now (catalogue .entry)) index)
+        (removed (now (catalogue .entry)) index) (now (catalogue .entry)) r (now (catalogue .exit)) ⌝ }
 {
     answers::status_of(catalogue::remove(catalogue, index))
 }
@@ -356,8 +350,7 @@ pub extern "C" fn satmegwo_remove_record(catalogue: &mut [u8], index: u32) -> u3
 // Where a record of a catalogue lies, and its length.
 #[no_mangle]
 pub extern "C" fn satmegwo_fetch_record(catalogue: &[u8], index: u32, figures: &mut [u32]) -> u32
-    ensures number { λ r. ⌜ r ≡ status (lent (fetchReply (now (catalogue .entry)) index) (length (now (figures .entry)))) ⌝ }
-    ensures content { λ r. ⌜ now (figures .exit) ≡ figuresAfter (lent (fetchReply (now (catalogue .entry)) index) (length (now (figures .entry)))) (now (figures .entry)) ⌝ }
+    ensures { λ r. ⌜ FiguresOut (fetchReply (now (catalogue .entry)) index) (now (figures .entry)) r (now (figures .exit)) ⌝ }
 {
     answers::give_place(catalogue::fetch_status(catalogue, index), figures)
 }
@@ -365,8 +358,8 @@ pub extern "C" fn satmegwo_fetch_record(catalogue: &[u8], index: u32, figures: &
 // Compacts a catalogue.
 #[no_mangle]
 pub extern "C" fn satmegwo_compact_catalogue(catalogue: &mut [u8]) -> u32
-    ensures number { λ r. ⌜ r ≡ status (replyAfter (first (catalogueChecks (now (catalogue .entry)))) []) ⌝ }
-    ensures content { λ r. ⌜ now (catalogue .exit) ≡ contentAfter (first (catalogueChecks (now (catalogue .entry)))) (compacted (now (catalogue .entry))) (now (catalogue .entry)) ⌝ }
+    ensures { λ r. ⌜ WroteOut (catalogueChecks (now (catalogue .entry)))
+        (compacted (now (catalogue .entry))) (now (catalogue .entry)) r (now (catalogue .exit)) ⌝ }
 {
     answers::status_of(catalogue::compact(catalogue))
 }
@@ -374,8 +367,8 @@ pub extern "C" fn satmegwo_compact_catalogue(catalogue: &mut [u8]) -> u32
 // The columns of a box, packed for the mask.
 #[no_mangle]
 pub extern "C" fn satmegwo_pack_columns(n: u32, m: u32, rows: &[u32], packed: &mut [u8]) -> u32
-    ensures number { λ r. ⌜ r ≡ status (replyAfter (first (packChecks n m (now (rows .entry)) (length (now (packed .entry))))) []) ⌝ }
-    ensures content { λ r. ⌜ now (packed .exit) ≡ contentAfter (first (packChecks n m (now (rows .entry)) (length (now (packed .entry))))) (packedForm n m (now (rows .entry))) (now (packed .entry)) ⌝ }
+    ensures { λ r. ⌜ WroteOut (packChecks n m (now (rows .entry)) (length (now (packed .entry))))
+        (packedForm n m (now (rows .entry))) (now (packed .entry)) r (now (packed .exit)) ⌝ }
 {
     answers::status_of(packing::pack(n, m, rows, packed))
 }
@@ -383,17 +376,17 @@ pub extern "C" fn satmegwo_pack_columns(n: u32, m: u32, rows: &[u32], packed: &m
 // The rows of packed columns.
 #[no_mangle]
 pub extern "C" fn satmegwo_unpack_columns(n: u32, m: u32, packed: &[u8], rows: &mut [u32]) -> u32
-    ensures number { λ r. ⌜ r ≡ status (replyAfter (first (unpackChecks n m (now (packed .entry)) (length (now (rows .entry))))) []) ⌝ }
-    ensures content { λ r. ⌜ now (rows .exit) ≡ contentAfter (first (unpackChecks n m (now (packed .entry)) (length (now (rows .entry))))) (unpacked n m (now (packed .entry))) (now (rows .entry)) ⌝ }
+    ensures { λ r. ⌜ WroteOut (unpackChecks n m (now (packed .entry)) (length (now (rows .entry))))
+        (unpacked n m (now (packed .entry))) (now (rows .entry)) r (now (rows .exit)) ⌝ }
 {
     answers::status_of(packing::unpack(n, m, packed, rows))
 }
 
-// The first swap of two unlike rows that raises the nonlinearity over all combinations: 1, both inputs and the new figure, or four zeros for "none".
+// The first swap of two unlike rows that raises the nonlinearity over all combinations: 1, both inputs and the new figure, or four zeros
+// for "none".
 #[no_mangle]
 pub extern "C" fn satmegwo_raising_swap(n: u32, m: u32, rows: &[u32], figures: &mut [u32]) -> u32
-    ensures number { λ r. ⌜ r ≡ status (lent (raisingReply n m (now (rows .entry))) (length (now (figures .entry)))) ⌝ }
-    ensures content { λ r. ⌜ now (figures .exit) ≡ figuresAfter (lent (raisingReply n m (now (rows .entry))) (length (now (figures .entry)))) (now (figures .entry)) ⌝ }
+    ensures { λ r. ⌜ FiguresOut (raisingReply n m (now (rows .entry))) (now (figures .entry)) r (now (figures .exit)) ⌝ }
 {
     let size = figures.len();
     if size != 4 {

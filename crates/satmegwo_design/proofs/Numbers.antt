@@ -1,48 +1,57 @@
--- An operation's answer as a number: what its contract says of the answer holds of the number, and where that is not 0 the design is as it was.
--- Assumes nothing.
+-- An operation's answer as a number: what its contract says of the answer holds of the number. Assumes nothing.
 use Prim.Native.Nat.{ℕ, _^_}
-use mathlib.Core.Path.{_≡_, refl, sym, ap, _∙_, subst}
+use mathlib.Core.Path.{_≡_, refl}
 use mathlib.Core.Bool.{Bool, true, false}
 use mathlib.Core.List.{[], _∷_}
 use lib.Dec.{eqb}
-use Rattle.refusals.specs.Table.{_unless_, first, Reply, refusal, number, written}
-use Rattle.refusals.specs.declared.Refusal.the-variants.{WrittenLength}
+use Rattle.refusals.specs.Table.{_unless_, first, Reply, refusal, number, inRange, written}
+use Rattle.refusals.specs.declared.Refusal.{Refusal}
+use Rattle.refusals.specs.declared.Refusal.the-variants.{InputWidth, OutputWidth, ReadLength, Value, Permutation, Parameter, WrittenLength, NoFunction, ListTooShort, FileLength, BoxCount, OutputWidths, Catalogue, NoRoom, NoRecord, UnusedBit, UnsetMark, NoPlace, PlaceState}
 use Rattle.refusals.specs.declared.Written.{Written}
 use Rattle.refusals.specs.declared.Written.the-variants.{Done, Declined}
 use Rattle.design.specs.declared.Design.{Design}
-use Rattle.design.specs.declared.Tuned.{Tuned}
 use Rattle.design.specs.Model.{State, readChecks}
-use Rattle.design.specs.Calls.{state, Sound}
 use Rattle.answers.specs.Answers.{status, roomNumber}
+use Rattle.satmegwo_design.specs.Exports.{numberSays}
 
-done : status (written Done) ≡ 0
+-- no refusal has the number 0
+says-refusal : (e : Refusal) → numberSays (number e) ≡ refusal (number e)
+says-refusal InputWidth = refl
+says-refusal OutputWidth = refl
+says-refusal ReadLength = refl
+says-refusal Value = refl
+says-refusal Permutation = refl
+says-refusal Parameter = refl
+says-refusal WrittenLength = refl
+says-refusal NoFunction = refl
+says-refusal ListTooShort = refl
+says-refusal FileLength = refl
+says-refusal BoxCount = refl
+says-refusal OutputWidths = refl
+says-refusal Catalogue = refl
+says-refusal NoRoom = refl
+says-refusal NoRecord = refl
+says-refusal UnusedBit = refl
+says-refusal UnsetMark = refl
+says-refusal NoPlace = refl
+says-refusal PlaceState = refl
+
+pub says-answer : (answer : Written) → numberSays (status (written answer)) ≡ written answer
 unfolding status
-done = refl
+says-answer Done = refl
+says-answer (Declined e) = says-refusal e
 
--- r and out: the number and the design of an operation that gave t
-module _ (t : Tuned) {r : ℕ} {out : Design} (h : (out ≡ t .design) × (r ≡ status (written (t .answer)))) where
-  pub number-of-reply : {reply : Reply} → written (t .answer) ≡ reply → r ≡ status reply
-  number-of-reply e = h .1 ∙ ap status e
+-- what a call's contract says, of the number and the design that are handed out
+pub handed-out : (Contract : Reply → Design → Type 0) {said told : Reply} {made out : Design} → (out ≡ made) × (told ≡ said) → Contract said made → Contract told out
+handed-out Contract h c = rw (h .0, h .1) c
 
-  pub sound-out : Sound (t .design) → Sound out
-  sound-out s = subst Sound (sym (h .0)) s
-
-  pub state-out : {s : State} → state (t .design) ≡ s → state out ≡ s
-  state-out e = ap state (h .0) ∙ e
-
-  pub unchanged-out : {old : Design} → ((k : ℕ) → written (t .answer) ≡ refusal k → t .design ≡ old) → (r ≡ 0 → ⊥) → out ≡ old
-  unchanged-out {old} u ne = by-answer (t .answer) (h .1) u
-    where
-      by-answer : (w : Written) → r ≡ status (written w) → ((k : ℕ) → written w ≡ refusal k → t .design ≡ old) → out ≡ old
-      by-answer Done e v = absurd (ne (e ∙ done))
-      by-answer (Declined x) e v = h .0 ∙ v (number x) refl
-
-by-seven : (ok : Bool) → number WrittenLength ≡ roomNumber (first ((WrittenLength unless ok) ∷ []))
+by-seven : (a b : Bool) → number WrittenLength ≡ roomNumber (first ((WrittenLength unless a) ∷ (WrittenLength unless b) ∷ []))
 unfolding first
-by-seven true = refl
-by-seven false = refl
+by-seven true true = refl
+by-seven true false = refl
+by-seven false b = refl
 
 -- reading is refused by 7 alone, so the array for n and m may be looked at first
 pub only-seven : (s : State) (room : ℕ) → number WrittenLength ≡ roomNumber (first (readChecks s room))
 unfolding readChecks
-only-seven s room = by-seven (eqb room (2 ^ s .n))
+only-seven s room = by-seven (inRange 1 8 (s .n)) (eqb room (2 ^ s .n))

@@ -1,18 +1,14 @@
-// The calls on a design, for C and for everything that speaks C. A design goes into each operation by value, and comes out of it beside 0 or the number
-// of a refusal. Any bytes may be handed in as a design: no call reads anything outside it.
+// The calls on a design, for C and for everything that speaks C. A design goes into each operation by value, and comes out of it beside 0 or
+// the number of a refusal. Any bytes may be handed in as a design: no call reads anything outside it. The contracts are those of the crate
+// `design`, with what the number says in place of the answer.
 use design::BoxHeld;
 use design::Design;
 use design::Tuned;
 use refusals::Refusal;
 ghost use mathlib.Core.Path.{_≡_};
-ghost use mathlib.Core.List.{[], _∷_};
-ghost use lib.ListN.{length};
-ghost use Rattle.refusals.specs.Table.{first, replyAfter, contentAfter, written, boxChecks};
-ghost use Rattle.refusals.specs.declared.Checked.the-variants.{Accepted};
-ghost use Rattle.design.specs.Model as model;
-ghost use Rattle.design.specs.Calls.{state, rowsOf, Sound};
-ghost use Rattle.answers.specs.Answers.{status};
-ghost use Rattle.satmegwo_design.specs.Reading.{readDesignChecks};
+ghost use Rattle.refusals.specs.Table.{written};
+ghost use Rattle.design.specs.Calls.{Begun, Swapped, Added, Marked, Returned};
+ghost use Rattle.satmegwo_design.specs.Exports.{numberSays, ReadOut};
 
 // The design after an operation, with 0 or the number of the refusal.
 #[repr(C)]
@@ -23,7 +19,7 @@ pub struct Outcome {
 
 // An operation's answer as a number.
 fn numbered(tuned: Tuned) -> Outcome
-    ensures { λ r. ⌜ (r .design ≡ tuned .design) × (r .status ≡ status (written (tuned .answer))) ⌝ }
+    ensures { λ r. ⌜ (r .design ≡ tuned .design) × (numberSays (r .status) ≡ written (tuned .answer)) ⌝ }
 {
     let design = tuned.design;
     let answer = tuned.answer;
@@ -31,12 +27,10 @@ fn numbered(tuned: Tuned) -> Outcome
     Outcome { design, status }
 }
 
-// A design of this box, with no mark set. Refused, there is no box in it.
+// A design of this box, with no mark set. Refused, it is a design without a box.
 #[no_mangle]
 pub extern "C" fn satmegwo_design_begin(n: u32, m: u32, rows: &[u32]) -> Outcome
-    ensures sound { λ r. ⌜ (first (boxChecks n m (now (rows .entry))) ≡ Accepted → Sound (r .design)) ⌝ }
-    ensures number { λ r. ⌜ r .status ≡ status (replyAfter (first (boxChecks n m (now (rows .entry)))) []) ⌝ }
-    ensures content { λ r. ⌜ state (r .design) ≡ model.begin n m (now (rows .entry)) ⌝ }
+    ensures { λ r. ⌜ Begun n m (now (rows .entry)) (numberSays (r .status)) (r .design) ⌝ }
 {
     numbered(Design::begin(n, m, rows))
 }
@@ -44,10 +38,7 @@ pub extern "C" fn satmegwo_design_begin(n: u32, m: u32, rows: &[u32]) -> Outcome
 // Exchanges the rows of inputs x and y.
 #[no_mangle]
 pub extern "C" fn satmegwo_design_swap(design: Design, x: u32, y: u32) -> Outcome
-    ensures kept { λ r. ⌜ (Sound design → Sound (r .design)) ⌝ }
-    ensures unchanged { λ r. ⌜ ((r .status ≡ 0 → ⊥) → r .design ≡ design) ⌝ }
-    ensures number { λ r. ⌜ (Sound design → r .status ≡ status (replyAfter (first (model.swapChecks (state design) x y)) [])) ⌝ }
-    ensures content { λ r. ⌜ (Sound design → state (r .design) ≡ model.swap (state design) x y) ⌝ }
+    ensures { λ r. ⌜ Swapped design x y (numberSays (r .status)) (r .design) ⌝ }
 {
     numbered(design.swap(x, y))
 }
@@ -55,10 +46,7 @@ pub extern "C" fn satmegwo_design_swap(design: Design, x: u32, y: u32) -> Outcom
 // Adds the affine function (w, b) to column j.
 #[no_mangle]
 pub extern "C" fn satmegwo_design_add(design: Design, j: u32, w: u32, b: u32) -> Outcome
-    ensures kept { λ r. ⌜ (Sound design → Sound (r .design)) ⌝ }
-    ensures unchanged { λ r. ⌜ ((r .status ≡ 0 → ⊥) → r .design ≡ design) ⌝ }
-    ensures number { λ r. ⌜ (Sound design → r .status ≡ status (replyAfter (first (model.addChecks (state design) j w b)) [])) ⌝ }
-    ensures content { λ r. ⌜ (Sound design → state (r .design) ≡ model.add (state design) j w b) ⌝ }
+    ensures { λ r. ⌜ Added design j w b (numberSays (r .status)) (r .design) ⌝ }
 {
     numbered(design.add(j, w, b))
 }
@@ -66,10 +54,7 @@ pub extern "C" fn satmegwo_design_add(design: Design, j: u32, w: u32, b: u32) ->
 // Sets mark k: it keeps the box of this moment.
 #[no_mangle]
 pub extern "C" fn satmegwo_design_mark(design: Design, k: u32) -> Outcome
-    ensures kept { λ r. ⌜ (Sound design → Sound (r .design)) ⌝ }
-    ensures unchanged { λ r. ⌜ ((r .status ≡ 0 → ⊥) → r .design ≡ design) ⌝ }
-    ensures number { λ r. ⌜ r .status ≡ status (replyAfter (first (model.markChecks k)) []) ⌝ }
-    ensures content { λ r. ⌜ state (r .design) ≡ model.mark (state design) k ⌝ }
+    ensures { λ r. ⌜ Marked design k (numberSays (r .status)) (r .design) ⌝ }
 {
     numbered(design.mark(k))
 }
@@ -77,10 +62,7 @@ pub extern "C" fn satmegwo_design_mark(design: Design, k: u32) -> Outcome
 // Brings back the box of mark k; all marks remain.
 #[no_mangle]
 pub extern "C" fn satmegwo_design_return(design: Design, k: u32) -> Outcome
-    ensures kept { λ r. ⌜ (Sound design → Sound (r .design)) ⌝ }
-    ensures unchanged { λ r. ⌜ ((r .status ≡ 0 → ⊥) → r .design ≡ design) ⌝ }
-    ensures number { λ r. ⌜ r .status ≡ status (replyAfter (first (model.returnChecks (state design) k)) []) ⌝ }
-    ensures content { λ r. ⌜ state (r .design) ≡ model.returnTo (state design) k ⌝ }
+    ensures { λ r. ⌜ Returned design k (numberSays (r .status)) (r .design) ⌝ }
 {
     numbered(design.return_to(k))
 }
@@ -88,9 +70,7 @@ pub extern "C" fn satmegwo_design_return(design: Design, k: u32) -> Outcome
 // Reads the box: the rows go to one array, n and m to another. Neither is written to unless both can be.
 #[no_mangle]
 pub extern "C" fn satmegwo_design_read(design: Design, rows: &mut [u32], figures: &mut [u32]) -> u32
-    ensures number { λ r. ⌜ (Sound design → r ≡ status (replyAfter (first (readDesignChecks (state design) (length (now (rows .entry))) (length (now (figures .entry))))) (design .n ∷ design .m ∷ []))) ⌝ }
-    ensures content { λ r. ⌜ (Sound design → now (figures .exit) ≡ contentAfter (first (readDesignChecks (state design) (length (now (rows .entry))) (length (now (figures .entry))))) (design .n ∷ design .m ∷ []) (now (figures .entry))) ⌝ }
-    ensures rows { λ r. ⌜ (Sound design → now (rows .exit) ≡ contentAfter (first (readDesignChecks (state design) (length (now (rows .entry))) (length (now (figures .entry))))) (rowsOf design) (now (rows .entry))) ⌝ }
+    ensures { λ r. ⌜ ReadOut design (now (rows .entry)) (now (figures .entry)) r (now (rows .exit)) (now (figures .exit)) ⌝ }
 {
     if figures.len() != 2 {
         return refusals::number_of(Refusal::WrittenLength);

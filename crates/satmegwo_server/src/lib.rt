@@ -1,15 +1,10 @@
-// The server's calls for C and for everything that speaks C. A server goes into a call by value and comes out of it, so all of it is the caller's memory.
-// A slice is a pointer and its number of elements; a status is 0 or the number of a refusal.
+// The server's calls for C and for everything that speaks C. A server goes into a call by value and comes out of it, so all of it is the
+// caller's memory. A slice is a pointer and its number of elements; a status is 0 or the number of a refusal.
 use server::Asked;
 use server::Server;
-ghost use mathlib.Core.Path.{_≡_};
-ghost use mathlib.Core.List.{[]};
-ghost use lib.ListN.{length};
-ghost use Rattle.refusals.specs.Table.{first, replyAfter};
-ghost use Rattle.server.specs.Model as model;
-ghost use Rattle.server.specs.Calls.{state, answered, Sound};
-ghost use Rattle.answers.specs.Answers.{status, lent, figuresAfter};
-ghost use Rattle.satmegwo_server.specs.Exports.{standingReply};
+ghost use Rattle.server.specs.Calls.{answered, Began, Put, Withdrew, Stepped, Ran};
+ghost use Rattle.answers.specs.Answers.{FiguresOut};
+ghost use Rattle.satmegwo_server.specs.Exports.{standingReply, Numbered, ToldOut};
 
 // The server after a call that may be refused, with the status.
 #[repr(C)]
@@ -21,7 +16,7 @@ pub struct Outcome {
 // A server with no box on any place.
 #[no_mangle]
 pub extern "C" fn satmegwo_server_begin() -> Server
-    ensures { λ r. ⌜ Sound r × (state r ≡ model.start) ⌝ }
+    ensures { λ r. ⌜ Began r ⌝ }
 {
     Server::begin()
 }
@@ -35,9 +30,7 @@ pub extern "C" fn satmegwo_server_put(
     m: u32,
     rows: &[u32],
 ) -> Outcome
-    ensures kept { λ r. ⌜ (Sound server → Sound (r .server)) ⌝ }
-    ensures number { λ r. ⌜ r .status ≡ status (replyAfter (first (model.putChecks (state server) place n m (now (rows .entry)))) []) ⌝ }
-    ensures content { λ r. ⌜ state (r .server) ≡ model.put (state server) place n m (now (rows .entry)) ⌝ }
+    ensures { λ r. ⌜ Numbered (Put server place n m (now (rows .entry))) r ⌝ }
 {
     let tried = server.put(place, n, m, rows);
     let with_box = tried.server;
@@ -51,9 +44,7 @@ pub extern "C" fn satmegwo_server_put(
 // Takes the box off a place.
 #[no_mangle]
 pub extern "C" fn satmegwo_server_withdraw(server: Server, place: u32) -> Outcome
-    ensures kept { λ r. ⌜ (Sound server → Sound (r .server)) ⌝ }
-    ensures number { λ r. ⌜ r .status ≡ status (replyAfter (first (model.heldChecks (state server) place)) []) ⌝ }
-    ensures content { λ r. ⌜ state (r .server) ≡ model.withdraw (state server) place ⌝ }
+    ensures { λ r. ⌜ Numbered (Withdrew server place) r ⌝ }
 {
     let withdrawn = server.withdraw(place);
     let without = withdrawn.server;
@@ -67,7 +58,7 @@ pub extern "C" fn satmegwo_server_withdraw(server: Server, place: u32) -> Outcom
 // Examines one combination of the next unfinished box.
 #[no_mangle]
 pub extern "C" fn satmegwo_server_step(server: Server) -> Server
-    ensures { λ r. ⌜ (Sound server → Sound r × (state r ≡ model.step (state server))) ⌝ }
+    ensures { λ r. ⌜ Stepped server r ⌝ }
 {
     server.step()
 }
@@ -75,15 +66,14 @@ pub extern "C" fn satmegwo_server_step(server: Server) -> Server
 // So many steps, one after the other.
 #[no_mangle]
 pub extern "C" fn satmegwo_server_run(server: Server, budget: u32) -> Server
-    ensures { λ r. ⌜ (Sound server → Sound r × (state r ≡ model.run (state server) budget)) ⌝ }
+    ensures { λ r. ⌜ Ran server budget r ⌝ }
 {
     server.run(budget)
 }
 
 // The figures of an answer to asking, or the number of its refusal.
 fn give_standing(answer: Asked, figures: &mut [u32]) -> u32
-    ensures number { λ r. ⌜ r ≡ status (lent (standingReply (answered answer)) (length (now (figures .entry)))) ⌝ }
-    ensures content { λ r. ⌜ now (figures .exit) ≡ figuresAfter (lent (standingReply (answered answer)) (length (now (figures .entry)))) (now (figures .entry)) ⌝ }
+    ensures { λ r. ⌜ FiguresOut (standingReply (answered answer)) (now (figures .entry)) r (now (figures .exit)) ⌝ }
 {
     match answer {
         Asked::Unfinished => answers::give(&[0u32, 0, 0, 0, 0], figures),
@@ -95,8 +85,7 @@ fn give_standing(answer: Asked, figures: &mut [u32]) -> u32
 // Whether the box on a place is finished, and its nonlinearity with the first pair that reaches it.
 #[no_mangle]
 pub extern "C" fn satmegwo_server_ask(server: Server, place: u32, figures: &mut [u32]) -> u32
-    ensures number { λ r. ⌜ (Sound server → r ≡ status (lent (standingReply (model.ask (state server) place)) (length (now (figures .entry))))) ⌝ }
-    ensures content { λ r. ⌜ (Sound server → now (figures .exit) ≡ figuresAfter (lent (standingReply (model.ask (state server) place)) (length (now (figures .entry)))) (now (figures .entry))) ⌝ }
+    ensures { λ r. ⌜ ToldOut server place (now (figures .entry)) r (now (figures .exit)) ⌝ }
 {
     give_standing(server.ask(place), figures)
 }

@@ -1,101 +1,99 @@
 -- A box that is put on a place, and one of which one combination more was examined. Assumes nothing.
-use Prim.Native.Nat.{ℕ, suc, _+_, _-_, _^_, _<_, _≤_, zero-le}
-use mathlib.Core.Path.{_≡_, refl, sym, ap, _∙_, subst}
+use Prim.Native.Nat.{ℕ, suc, _+_, _-_, _^_, _<_, _≤_}
+use mathlib.Core.Path.{_≡_, sym, ap, ap₂, _∙_, subst}
+use mathlib.Core.Bool.{true}
 use mathlib.Core.List.{List, [], _∷_, _++_}
 use native.Mathlib.Numerals.{add-one}
 use native.Mathlib.Omega.{arith}
-use borrow.Author.Tests.{ltb-true}
-use lib.ListN.{length, getD, set, take, length-take}
+use lib.ListN.{length, getD, set, take, drop, replicate}
 use lib.Pow.{pow-mono}
-use lib.Seq.{take-suc, take-suc-set}
-use Rattle.boolean.specs.Sums.{each}
-use Rattle.boolean.specs.Selection.{Candidate, best, lower, nothing, firstLeast, ranked}
-use Rattle.refusals.specs.Table.{Box}
+use lib.Seq.{take-suc, take-suc-set, drop-set-lt, drop-drop}
+use Rattle.boolean.specs.Selection.{Candidate, best, lower, firstLeast, ranked}
+use Rattle.refusals.specs.Table.{Box, first, boxChecks}
 use Rattle.refusals.specs.declared.Refusal.{Refusal}
 use Rattle.refusals.specs.declared.Checked.{Checked}
 use Rattle.refusals.specs.declared.Checked.the-variants.{Accepted, Refused}
+use Rattle.refusals.proofs.Checks.{box-accepted}
+use Rattle.refusals.proofs.Bounds.{range-high}
 use Rattle.masks.specs.Masks.{outputs}
-use Rattle.linear.specs.declared.Found.{Found}
-use Rattle.linear.specs.Calls.{candidate}
+use Rattle.linear.specs.Work.{candidate}
 use Rattle.linear.specs.Nonlinearity.{pairsOf}
+use Rattle.linear.specs.Work.{candidate}
 use Rattle.linear.proofs.Nearest.{nearestOf}
 use Rattle.server.specs.declared.Place.{Place}
-use Rattle.server.specs.Model.{analysis, among, holds, unfinished, advanced}
-use Rattle.server.specs.Calls.{pairHeld, rowsOf, spot, heldOf, SoundPlace, Unexamined, Examined}
-use Rattle.server.proofs.Examined.{examined-none}
-use Rattle.server.proofs.Places.{spot-box}
-use Rattle.server.proofs.Held.{held-among, held-next}
+use Rattle.server.specs.Model.{heldOf, analysis, Spot, holds, unfinished, advanced}
+use Rattle.server.specs.Calls.{rowsOf, boxOf, spot, filled, foundOf, placeOf, Analysed, SoundSpot, pairAfter, better, oneMore}
+use Rattle.server.proofs.Places.{Left, unfinished-taken, more-left, spot-box}
+use Rattle.server.proofs.Held.{held-next}
 
--- what checks found is one thing
-pub not-both : {k : Checked} {e : Refusal} → k ≡ Refused e → k ≡ Accepted → ⊥
-not-both {k} {e} p q = let z : _≡_ {A = ℕ} 0 1 = cc in omega arith
-
--- a box that is unfinished is one of at most 65535 combinations
-pub left-few : (p : Place) → Unexamined p → p .examined < 65535
-left-few p u =
-    let l = ltb-true (p .examined) (2 ^ p .m - 1) (sym (ap unfinished (spot-box p (u .is-taken))) ∙ u .left) in
-    let h : 2 ^ p .m ≤ 2 ^ 16 = pow-mono (u .sound .narrow) in
-    omega arith
-
--- its rows are within the array
-pub rows-room : (p : Place) → Unexamined p → 2 ^ p .n ≤ length (p .rows)
-rows-room p u = omega (arith, u .sound .box .size, length-take (2 ^ p .n) (p .rows))
-
--- one row more is copied
+-- one row more is copied, and the zeros past it stay
 pub copied : (rows out : List ℕ) (i : ℕ) → i < length rows → i < length out → take i out ≡ take i rows → take (i + 1) (set out i (getD rows i 0)) ≡ take (i + 1) rows
 copied rows out i l k e =
     ap (λ (j : ℕ). take j (set out i (getD rows i 0))) (add-one i) ∙ take-suc-set out i (getD rows i 0) k ∙ ap (λ (xs : List ℕ). xs ++ (getD rows i 0 ∷ [])) e
     ∙ sym (take-suc rows i 0 l) ∙ ap (λ (j : ℕ). take j rows) (sym (add-one i))
 
+pub zeros-past : (out : List ℕ) (i a : ℕ) → i < 256 → drop i out ≡ replicate (256 - i) 0 → drop (i + 1) (set out i a) ≡ replicate (256 - (i + 1)) 0
+zeros-past out i a l e =
+    let one : 256 - i ≡ suc (256 - (i + 1)) = omega arith in
+    drop-set-lt (i + 1) out i a (omega arith) ∙ sym (drop-drop 1 i out) ∙ ap (drop 1) (e ∙ ap (λ (k : ℕ). replicate k 0) one)
+
 -- a box of which nothing was examined
-module _ (n m : ℕ) (rows kept : List ℕ) (b : Box n m rows) (narrow : m ≤ 16) (h : take (length rows) kept ≡ rows) where
-  abbrev put-there : Place
-  put-there = record { taken = 1; n = n; m = m; rows = kept; examined = 0; found = record { count = length rows + 1; c = 0; w = 0; b = 0 } }
+pub fresh-place : (n m : ℕ) (rows kept : List ℕ) → length rows ≡ 2 ^ n → kept ≡ filled rows
+    → record { taken = 1; n = n; m = m; rows = kept; examined = 0; found = record { count = length rows + 1; c = 0; w = 0; b = 0 } } ≡ placeOf (holds (analysis n m rows 0))
+unfolding placeOf analysis
+fresh-place n m rows kept size whole =
+    ap₂ (λ (r : List ℕ) (k : ℕ). record { taken = 1; n = n; m = m; rows = r; examined = 0; found = record { count = k + 1; c = 0; w = 0; b = 0 } }) whole size
 
-  rows-are : take (2 ^ n) kept ≡ rows
-  rows-are = ap (λ (k : ℕ). take k kept) (sym (b .size)) ∙ h
+-- ---- the better of two pairs
+module _ (n m : ℕ) (rows : List ℕ) (held : Candidate) (c : ℕ) where
+  pub better-none : {e : Refusal} → first (boxChecks n m rows) ≡ Refused e → better n m rows held c ≡ held
+  unfolding better
+  better-none h = ap (λ (k : Checked). pairAfter k (best (ranked lower outputs) held (firstLeast (pairsOf n rows c) ∷ [])) held) h
 
-  pub fresh-sound : SoundPlace put-there
-  fresh-sound e = record {
-    box = subst (λ (r : List ℕ). Box n m r) (sym rows-are) b;
-    narrow = narrow;
-    few = zero-le;
-    so-far = ap (λ (k : ℕ). record { figure = k + 1; witness = 0 ∷ 0 ∷ 0 ∷ [] }) (b .size);
-  }
+  pub better-some : first (boxChecks n m rows) ≡ Accepted → better n m rows held c ≡ best (ranked lower outputs) held (nearestOf n rows c)
+  unfolding better
+  better-some h = ap (λ (k : Checked). pairAfter k (best (ranked lower outputs) held (firstLeast (pairsOf n rows c) ∷ [])) held) h
 
-  pub fresh-spot : spot put-there ≡ holds (analysis n m rows 0)
-  unfolding analysis among firstLeast each
-  fresh-spot =
-      spot-box put-there refl ∙ ap (λ (r : List ℕ). holds (record { n = n; m = m; rows = r; examined = 0; found = nothing })) rows-are
-      ∙ ap (λ (cs : List ℕ). holds (record { n = n; m = m; rows = rows; examined = 0; found = firstLeast (each cs (pairsOf n rows)) })) (sym (examined-none m))
+  better-box : Box n m rows → better n m rows held c ≡ best (ranked lower outputs) held (nearestOf n rows c)
+  better-box b = better-some (box-accepted n m rows b)
 
--- one combination more
-module _ (p : Place) (u : Unexamined p) (f : Found)
-    (h : candidate f ≡ best (ranked lower outputs) (candidate (p .found)) (nearestOf (p .n) (rowsOf p) (p .examined + 1))) where
-  abbrev examined-there : Place
-  examined-there = record { taken = 1; n = p .n; m = p .m; rows = p .rows; examined = p .examined + 1; found = f }
+-- ---- one combination more
+module _ (p : Place) (u : unfinished (spot p) ≡ true) where
+  is-taken : p .taken ≡ 1
+  is-taken = unfinished-taken p u
 
-  left : p .examined < 2 ^ p .m - 1
-  left = ltb-true (p .examined) (2 ^ p .m - 1) (sym (ap unfinished (spot-box p (u .is-taken))) ∙ u .left)
+  pub box-left : Left (boxOf p)
+  box-left = more-left (boxOf p) (sym (ap unfinished (spot-box p is-taken)) ∙ u)
 
-  so-far : candidate f ≡ heldOf (p .n) (p .m) (rowsOf p) (suc (p .examined))
-  so-far =
-      held-next (p .n) (p .m) (rowsOf p) (p .examined) left (u .sound .so-far)
-      (h ∙ ap (λ (k : ℕ). best (ranked lower outputs) (candidate (p .found)) (nearestOf (p .n) (rowsOf p) k)) (add-one (p .examined)))
+  -- a box that is unfinished is one of at most 65535 combinations, and its rows are within the array
+  pub left-few : p .examined < 65535
+  left-few =
+      let h : 2 ^ p .m ≤ 2 ^ 16 = pow-mono (range-high 1 16 (p .m) (box-left .outputs)) in
+      omega (arith, box-left .left)
 
-  pub examined-place : Examined p examined-there
-  unfolding analysis
-  examined-place = record {
-    sound = λ e. record {
-      box = u .sound .box;
-      narrow = u .sound .narrow;
-      few = omega (arith, left);
-      so-far = so-far ∙ ap (heldOf (p .n) (p .m) (rowsOf p)) (sym (add-one (p .examined)));
-    };
-    one-more =
-        spot-box examined-there refl
-        ∙ ap (λ (k : ℕ). holds (record { n = p .n; m = p .m; rows = rowsOf p; examined = k; found = pairHeld k f })) (add-one (p .examined))
-        ∙ ap (λ (c : Candidate). holds (record { n = p .n; m = p .m; rows = rowsOf p; examined = suc (p .examined); found = c }))
-        (held-among (p .n) (p .m) (rowsOf p) (suc (p .examined)) f so-far)
-        ∙ sym (ap advanced (spot-box p (u .is-taken)));
-  }
+  pub rows-room : 2 ^ p .n ≤ 256
+  rows-room = let h : 2 ^ p .n ≤ 2 ^ 8 = pow-mono (range-high 1 8 (p .n) (box-left .inputs)) in omega arith
+
+  -- where the place holds what the calls made, so it does then
+  module _ (s : SoundSpot (spot p)) (only : p ≡ placeOf (spot p)) where
+    sound : Analysed (boxOf p)
+    sound = subst SoundSpot (spot-box p is-taken) s
+
+    so-far : better (p .n) (p .m) (rowsOf p) (candidate (p .found)) (p .examined + 1) ≡ heldOf (p .n) (p .m) (rowsOf p) (suc (p .examined))
+    so-far =
+        held-next (p .n) (p .m) (rowsOf p) (p .examined) (box-left .left) (sound .so-far)
+        (better-box (p .n) (p .m) (rowsOf p) (candidate (p .found)) (p .examined + 1) (sound .box)
+        ∙ ap (λ (k : ℕ). best (ranked lower outputs) (candidate (p .found)) (nearestOf (p .n) (rowsOf p) k)) (add-one (p .examined)))
+
+    rows-only : p .rows ≡ filled (rowsOf p)
+    unfolding placeOf
+    rows-only = ap (λ (q : Place). q .rows) (only ∙ ap placeOf (spot-box p is-taken))
+
+    pub one-more-sound : oneMore p ≡ placeOf (advanced (spot p))
+    unfolding oneMore placeOf analysis
+    one-more-sound =
+        ap₂ (λ (t k : ℕ).
+        record { taken = t; n = p .n; m = p .m; rows = p .rows; examined = k; found = foundOf (better (p .n) (p .m) (rowsOf p) (candidate (p .found)) (p .examined + 1)) })
+        is-taken (add-one (p .examined))
+        ∙ ap₂ (λ (r : List ℕ) (c : Candidate). record { taken = 1; n = p .n; m = p .m; rows = r; examined = suc (p .examined); found = foundOf c }) rows-only so-far
+        ∙ sym (ap (λ (x : Spot). placeOf (advanced x)) (spot-box p is-taken))

@@ -28,6 +28,16 @@ module _ (p : ℕ → Bool) where
       go true h rec = ap p (sym e ∙ hit x xs h) ∙ h
       go false h rec = rec (sym (miss x xs h) ∙ e)
 
+  -- what is found is 0, or one of the numbers: at most as large as they are
+  pub found-high : {g : ℕ → ℕ} {most : ℕ} → ((j : ℕ) → g j ≤ most) → (i k : ℕ) → firstWhere p (listFrom i k g) ≤ most
+  unfolding listFrom firstWhere
+  found-high {g} {most} h i zero = omega arith
+  found-high {g} {most} h i (suc k) = go (p (g i)) refl (found-high h (suc i) k)
+    where
+      go : (t : Bool) → p (g i) ≡ t → firstWhere p (listFrom (suc i) k g) ≤ most → firstWhere p (g i ∷ listFrom (suc i) k g) ≤ most
+      go true e rec = omega (arith, hit (g i) (listFrom (suc i) k g) e, h i)
+      go false e rec = omega (arith, miss (g i) (listFrom (suc i) k g) e)
+
   -- where g j passes, one is found, and no later than it
   pub found-by : (g : ℕ → ℕ) (i k j : ℕ) → i ≤ j → j < i + k → p (g j) ≡ true → (h : ℕ) × (i ≤ h) × (h ≤ j) × (firstWhere p (listFrom i k g) ≡ g h)
   unfolding listFrom

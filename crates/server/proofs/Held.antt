@@ -4,18 +4,15 @@ use mathlib.Core.Path.{_≡_, refl, sym, ap, _∙_}
 use mathlib.Core.List.{List, [], _∷_, _++_}
 use native.Mathlib.Omega.{arith}
 use Rattle.boolean.specs.Sums.{listFrom, each}
-use Rattle.boolean.specs.Selection.{Candidate, best, lower, firstLeast, ranked}
+use Rattle.boolean.specs.Selection.{Candidate, best, lower, ranked}
 use Rattle.boolean.proofs.Lists.{each-append, listFrom-more}
 use Rattle.boolean.proofs.Selection.{best-append}
 use Rattle.masks.specs.Masks.{outputs}
 use Rattle.masks.proofs.Fewest.{least-visited}
-use Rattle.linear.specs.declared.Found.{Found}
-use Rattle.linear.specs.Calls.{candidate}
-use Rattle.linear.specs.Nonlinearity.{pairsOf}
+use Rattle.linear.specs.Work.{candidate}
 use Rattle.linear.proofs.Nearest.{blocks, nearestOf, least-le}
-use Rattle.server.specs.Model.{among}
-use Rattle.server.specs.Calls.{pairHeld, heldOf}
-use Rattle.server.proofs.Examined.{examined-none, visit-examined}
+use Rattle.server.specs.Model.{among, heldOf}
+use Rattle.server.proofs.Examined.{visit-examined}
 
 module _ (n m : ℕ) (rows : List ℕ) where
   -- the first nearest pairs of the combinations 1 to k
@@ -42,9 +39,3 @@ module _ (n m : ℕ) (rows : List ℕ) where
           let last : 1 + k ≡ suc k = omega arith in
           ap (λ (cs : List ℕ). each cs (nearestOf n rows)) (listFrom-more 1 k (λ c. c))
           ∙ each-append (listFrom 1 k (λ c. c)) ((1 + k) ∷ []) (nearestOf n rows) ∙ ap (λ (c : ℕ). nearestTo k ++ nearestOf n rows c) last
-
-  -- so it is the best pair among exactly those examined
-  pub held-among : (k : ℕ) (f : Found) → candidate f ≡ heldOf n m rows k → pairHeld k f ≡ among n m rows k
-  unfolding among
-  held-among zero f e = sym (ap (λ (cs : List ℕ). firstLeast (each cs (pairsOf n rows))) (examined-none m))
-  held-among (suc k) f e = e

@@ -1,28 +1,26 @@
--- The places of a server as the model's: read, replaced, and what is known of each. Assumes nothing.
+-- The places of a server as the model's, and the code's value from the model's: read, replaced, and what is known of each. Assumes nothing.
 use Prim.Native.Nat.{ℕ, zero, suc, _-_, _^_, _<_, _≤_}
-use mathlib.Core.Path.{_≡_, refl, sym, ap, _∙_}
-use mathlib.Core.Bool.{Bool, true, false, not}
+use mathlib.Core.Path.{_≡_, refl, sym, ap, ap₂, _∙_, subst}
+use mathlib.Core.Bool.{Bool, true, false, _&&_, false≢true}
 use mathlib.Core.List.{List, [], _∷_}
+use native.Mathlib.Nat.{zero-lt-suc}
 use native.Mathlib.Omega.{arith}
-use borrow.Author.Tests.{ltb-false, eq-eqb, ne-eqb, eqb-true}
+use borrow.Author.Tests.{ltb-true, eq-eqb, ne-eqb, eqb-true}
 use lib.Dec.{ltb, eqb}
-use lib.ListN.{getD, set}
-use lib.Pow.{pow-lt}
-use Rattle.boolean.specs.Selection.{Candidate, shown}
-use Rattle.refusals.specs.Table.{first, inRange, number, _unless_, boxChecksUpTo, Box}
-use Rattle.refusals.specs.declared.Refusal.{Refusal}
-use Rattle.refusals.specs.declared.Refusal.the-variants.{NoPlace, PlaceState}
-use Rattle.refusals.specs.declared.Checked.{Checked}
-use Rattle.refusals.specs.declared.Checked.the-variants.{Accepted, Refused}
-use Rattle.refusals.proofs.Checks.{passed, accepted-after, box-up-to, few-outputs}
-use Rattle.refusals.proofs.Bounds.{range-low, range-high}
-use Rattle.linear.specs.Calls.{candidate}
+use lib.ListN.{getD, set, length, take}
+use Rattle.boolean.specs.Selection.{Candidate}
+use Rattle.refusals.specs.Table.{inRange}
+use Rattle.linear.specs.Work.{candidate}
+use lib.Seq.{take-append-seam}
+use Rattle.boolean.proofs.Every.{both, both-true}
 use Rattle.server.specs.declared.Place.{Place}
 use Rattle.server.specs.declared.Server.{Server}
-use Rattle.server.specs.Model.{Analysis, analysis, put, Spot, empty, holds, State, spotAt, start, withSpot, stateAfter, withdraw, taken, unfinished, heldChecks, putChecks, standing, standingOf, standingAfter, stillUnfinished, finished, declined, ask}
-use Rattle.server.specs.Calls.{pairHeld, rowsOf, spotOf, spot, spots, state, Analysed, SoundPlace, SoundPlaces}
+use Rattle.server.specs.Model.{Analysis, heldOf, Spot, empty, holds, State, spotAt, withSpot, start, taken, more, unfinished}
+use Rattle.server.specs.Calls.{boxOf, spotOf, spot, spots, state, filled, foundOf, placeOf, placesOf, serverOf}
+use Rattle.server.specs.Calls.{SoundSpot, SoundSpots, Sound, Began, withPlace}
+use Rattle.server.proofs.SoFar.{held-so-far}
 
--- what a read past the end would give: an empty place
+-- what a read past the end would give: no box
 abbrev pub nowhere : Place
 nowhere = record { taken = 0; n = 0; m = 0; rows = []; examined = 0; found = record { count = 0; c = 0; w = 0; b = 0 } }
 
@@ -32,27 +30,28 @@ spots-at [] i = refl
 spots-at (p ∷ ps) zero = refl
 spots-at (p ∷ ps) (suc i) = spots-at ps i
 
+-- inside the list it does not matter what a read past the end would give
+pub any-default : {A : Type 0} (l : List A) (i : ℕ) (a b : A) → i < length l → getD l i a ≡ getD l i b
+any-default [] i a b h = absurd (omega arith)
+any-default (x ∷ l) zero a b h = refl
+any-default (x ∷ l) (suc i) a b h = any-default l i a b (omega arith)
+
+pub length-spots : (ps : List Place) → length (spots ps) ≡ length ps
+unfolding spots
+length-spots [] = refl
+length-spots (p ∷ ps) = ap suc (length-spots ps)
+
 pub spots-set : (ps : List Place) (i : ℕ) (p : Place) → spots (set ps i p) ≡ set (spots ps) i (spot p)
 unfolding spots
 spots-set [] i p = refl
 spots-set (q ∷ ps) zero p = refl
 spots-set (q ∷ ps) (suc i) p = ap (λ (l : List Spot). spot q ∷ l) (spots-set ps i p)
 
-pub sound-at : (ps : List Place) (i : ℕ) → SoundPlaces ps → SoundPlace (getD ps i nowhere)
-sound-at [] i h e = absurd (omega arith)
-sound-at (p ∷ ps) zero h e = h .0 e
-sound-at (p ∷ ps) (suc i) h e = sound-at ps i (h .1) e
-
-pub sound-set : (ps : List Place) (i : ℕ) (p : Place) → SoundPlaces ps → SoundPlace p → SoundPlaces (set ps i p)
-sound-set [] i p h k = h
-sound-set (q ∷ ps) zero p h k = (k, h .1)
-sound-set (q ∷ ps) (suc i) p h k = (h .0, sound-set ps i p (h .1) k)
+pub state-set : (ps : List Place) (i last : ℕ) (p : Place) (x : Spot) → spot p ≡ x
+    → state (record { places = set ps i p; last = last }) ≡ record { spots = set (spots ps) i x; last = last }
+state-set ps i last p x e = ap (λ (l : List Spot). record { spots = l; last = last }) (spots-set ps i p ∙ ap (set (spots ps) i) e)
 
 -- ---- one place
--- the box that a place has
-abbrev pub boxOf : Place → Analysis
-boxOf p = record { n = p .n; m = p .m; rows = rowsOf p; examined = p .examined; found = pairHeld (p .examined) (p .found) }
-
 taken-of : (b : Bool) (a : Analysis) → taken (spotOf b a) ≡ b
 taken-of true a = refl
 taken-of false a = refl
@@ -69,124 +68,136 @@ pub spot-box : (p : Place) → p .taken ≡ 1 → spot p ≡ holds (boxOf p)
 unfolding spot
 spot-box p e = ap (λ (b : Bool). spotOf b (boxOf p)) (eq-eqb (p .taken) 1 e)
 
--- whether a combination is left, by the power of two that the code computes
-pub unfinished-box : (p : Place) {masks : ℕ} → p .taken ≡ 1 → masks ≡ 2 ^ p .m → ltb (p .examined) (masks - 1) ≡ unfinished (spot p)
-unfinished-box p e h = ap (λ (k : ℕ). ltb (p .examined) k) (ap (λ (k : ℕ). k - 1) h) ∙ ap unfinished (sym (spot-box p e))
+pub taken-at : (s : Server) (q : ℕ) → eqb ((getD (s .places) (q - 1) nowhere) .taken) 1 ≡ taken (spotAt (state s) q)
+taken-at s q = sym (spot-taken (getD (s .places) (q - 1) nowhere)) ∙ ap taken (sym (spots-at (s .places) (q - 1)))
 
--- ---- asking
-pub ask-refused : (s : State) (q : ℕ) {e : Refusal} → first (heldChecks s q) ≡ Refused e → declined (number e) ≡ ask s q
-unfolding ask
-ask-refused s q h = sym (ap (λ (k : Checked). standingAfter k (spotAt s q)) h)
+-- ---- a box of which a combination is left
+pub record Left (a : Analysis) : Type 0 where
+  pub inputs : inRange 1 8 (a .n) ≡ true
+  pub outputs : inRange 1 16 (a .m) ≡ true
+  pub left : a .examined < 2 ^ a .m - 1
 
-ask-accepted : (s : State) (q : ℕ) → first (heldChecks s q) ≡ Accepted → ask s q ≡ standing (spotAt s q)
-unfolding ask
-ask-accepted s q h = ap (λ (k : Checked). standingAfter k (spotAt s q)) h
+pub more-left : (a : Analysis) → more a ≡ true → Left a
+more-left a h =
+    let t = both (inRange 1 8 (a .n) && inRange 1 16 (a .m)) (ltb (a .examined) (2 ^ a .m - 1)) h in
+    let widths = both (inRange 1 8 (a .n)) (inRange 1 16 (a .m)) (t .0) in
+    record { inputs = widths .0; outputs = widths .1; left = ltb-true (a .examined) _ (t .1) }
 
-standing-unfinished : (x : Spot) → unfinished x ≡ true → standing x ≡ stillUnfinished
-standing-unfinished empty e = refl
-standing-unfinished (holds a) e = ap (λ (b : Bool). standingOf b (a .found)) e
+-- with the widths of a box it is the number examined that says so
+pub more-is : (a : Analysis) → inRange 1 8 (a .n) ≡ true → inRange 1 16 (a .m) ≡ true → more a ≡ ltb (a .examined) (2 ^ a .m - 1)
+more-is a n m = ap (λ (b : Bool). b && ltb (a .examined) (2 ^ a .m - 1)) (both-true (inRange 1 8 (a .n)) (inRange 1 16 (a .m)) n m)
 
-standing-finished : (p : Place) → Analysed p → p .taken ≡ 1 → unfinished (spot p) ≡ false
-    → standing (spot p) ≡ finished (p .found .count ∷ p .found .c ∷ p .found .w ∷ p .found .b ∷ [])
-standing-finished p a e h =
-    ap standing (spot-box p e) ∙ ap (λ (b : Bool). standingOf b (pairHeld (p .examined) (p .found))) left
-    ∙ ap (λ (c : Candidate). finished (shown c)) (held (p .examined) some)
-  where
-    left : ltb (p .examined) (2 ^ p .m - 1) ≡ false
-    left = sym (ap unfinished (spot-box p e)) ∙ h
+-- with other widths none is left
+pub no-inputs : (a : Analysis) → inRange 1 8 (a .n) ≡ false → more a ≡ false
+no-inputs a n = ap (λ (b : Bool). (b && inRange 1 16 (a .m)) && ltb (a .examined) (2 ^ a .m - 1)) n
 
-    some : 0 < p .examined
-    some = omega (arith, ltb-false (p .examined) (2 ^ p .m - 1) left, pow-lt (a .box .m-low))
+and-false : (b : Bool) → (b && false) ≡ false
+and-false true = refl
+and-false false = refl
 
-    held : (k : ℕ) → 0 < k → pairHeld k (p .found) ≡ candidate (p .found)
-    held zero l = absurd (omega arith)
-    held (suc k) l = refl
+pub no-outputs : (a : Analysis) → inRange 1 16 (a .m) ≡ false → more a ≡ false
+no-outputs a m =
+    ap (λ (b : Bool). (inRange 1 8 (a .n) && b) && ltb (a .examined) (2 ^ a .m - 1)) m
+    ∙ ap (λ (b : Bool). b && ltb (a .examined) (2 ^ a .m - 1)) (and-false (inRange 1 8 (a .n)))
 
-module _ (s : Server) (q : ℕ) (h : first (heldChecks (state s) q) ≡ Accepted) where
-  -- a place of the server with a box on it
-  abbrev here : Place
-  here = getD (s .places) (q - 1) nowhere
+-- what is unfinished is a box
+pub unfinished-holds : (x : Spot) → unfinished x ≡ true → (a : Analysis) × (x ≡ holds a) × Left a
+unfinished-holds empty h = absurd (false≢true h)
+unfinished-holds (holds a) h = (a, refl, more-left a h)
 
-  pub held-low : 1 ≤ q
-  unfolding heldChecks
-  held-low = range-low 1 8 q (passed (heldChecks (state s) q) h .0)
+pub unfinished-taken : (p : Place) → unfinished (spot p) ≡ true → p .taken ≡ 1
+unfinished-taken p e =
+    let t = unfinished-holds (spot p) e in
+    eqb-true (p .taken) 1 (sym (spot-taken p) ∙ ap taken (t .1))
 
-  pub held-high : q ≤ 8
-  unfolding heldChecks
-  held-high = range-high 1 8 q (passed (heldChecks (state s) q) h .0)
+-- a box stands on a place of the list
+pub taken-inside : (xs : List Spot) (i : ℕ) → taken (getD xs i empty) ≡ true → i < length xs
+taken-inside [] i e = absurd (false≢true e)
+taken-inside (x ∷ xs) zero e = zero-lt-suc (length xs)
+taken-inside (x ∷ xs) (suc i) e = omega (arith, taken-inside xs i e)
 
-  pub held-taken : here .taken ≡ 1
-  unfolding heldChecks
-  held-taken =
-      eqb-true (here .taken) 1
-      (sym (spot-taken here) ∙ ap taken (sym (spots-at (s .places) (q - 1))) ∙ passed (heldChecks (state s) q) h .1 .0)
+pub unfinished-inside : (xs : List Spot) (i : ℕ) → unfinished (getD xs i empty) ≡ true → i < length xs
+unfinished-inside xs i e = taken-inside xs i (ap taken (unfinished-holds (getD xs i empty) e .1))
 
-  pub ask-unfinished : unfinished (spot here) ≡ true → stillUnfinished ≡ ask (state s) q
-  ask-unfinished e = sym (ask-accepted (state s) q h ∙ ap standing (spots-at (s .places) (q - 1)) ∙ standing-unfinished (spot here) e)
+-- ---- all that the code's value holds
+pub places-set : (xs : List Spot) (i : ℕ) (x : Spot) → placesOf (set xs i x) ≡ set (placesOf xs) i (placeOf x)
+unfolding placesOf
+places-set [] i x = refl
+places-set (y ∷ xs) zero x = refl
+places-set (y ∷ xs) (suc i) x = ap (λ (l : List Place). placeOf y ∷ l) (places-set xs i x)
 
-  pub ask-finished : SoundPlaces (s .places) → unfinished (spot here) ≡ false
-      → finished (here .found .count ∷ here .found .c ∷ here .found .w ∷ here .found .b ∷ []) ≡ ask (state s) q
-  ask-finished sound e =
-      sym (ask-accepted (state s) q h ∙ ap standing (spots-at (s .places) (q - 1))
-      ∙ standing-finished here (sound-at (s .places) (q - 1) sound held-taken) held-taken e)
+pub places-at : (xs : List Spot) (i : ℕ) (d : Place) → i < length xs → getD (placesOf xs) i d ≡ placeOf (getD xs i empty)
+unfolding placesOf
+places-at [] i d l = absurd (omega arith)
+places-at (x ∷ xs) zero d l = refl
+places-at (x ∷ xs) (suc i) d l = places-at xs i d (omega arith)
 
--- ---- the test of a place
-module _ (s : Server) (q : ℕ) where
-  pub taken-at : eqb ((getD (s .places) (q - 1) nowhere) .taken) 1 ≡ taken (spotAt (state s) q)
-  taken-at = sym (spot-taken (getD (s .places) (q - 1) nowhere)) ∙ ap taken (sym (spots-at (s .places) (q - 1)))
+-- a pair of three numbers is held as it is
+pub pair-held : (n m : ℕ) (rows : List ℕ) (k : ℕ) → 1 ≤ m → candidate (foundOf (heldOf n m rows k)) ≡ heldOf n m rows k
+pair-held n m rows zero l = refl
+pair-held n m rows (suc k) l =
+    let t = held-so-far n m rows (suc k) l (omega arith) in
+    ap (λ (p : Candidate). candidate (foundOf p)) (t .holds) ∙ sym (t .holds)
+
+-- the value that is made of what stands on a place stands for it
+pub spot-of : (x : Spot) → SoundSpot x → spot (placeOf x) ≡ x
+unfolding spot placeOf
+spot-of empty h = refl
+spot-of (holds a) h =
+    ap₂ (λ (r : List ℕ) (f : Candidate). holds (record { n = a .n; m = a .m; rows = r; examined = a .examined; found = f }))
+    (ap (λ (k : ℕ). take k (filled (a .rows))) (sym (h .box .size)) ∙ take-append-seam (a .rows) _)
+    (ap (λ (p : Candidate). candidate (foundOf p)) (h .so-far) ∙ pair-held (a .n) (a .m) (a .rows) (a .examined) (h .box .m-low) ∙ sym (h .so-far))
+
+spots-of : (xs : List Spot) → SoundSpots xs → spots (placesOf xs) ≡ xs
+unfolding spots placesOf
+spots-of [] h = refl
+spots-of (x ∷ xs) h = ap₂ (λ (y : Spot) (ys : List Spot). y ∷ ys) (spot-of x (h .0)) (spots-of xs (h .1))
+
+-- the same of a whole server
+pub state-of : (s : State) → SoundSpots (s .spots) → state (serverOf s) ≡ s
+state-of s h = ap (λ (l : List Spot). record { spots = l; last = s .last }) (spots-of (s .spots) h)
+
+-- a server that holds what the model's does, whose boxes are analysed, is sound and stands for it
+pub stands-for : {r : Server} (s : State) → SoundSpots (s .spots) → r ≡ serverOf s → Sound r × (state r ≡ s)
+stands-for {r} s h e =
+    let is : state r ≡ s = ap (λ (t : Server). state t) e ∙ state-of s h in
+    (record { places = subst (λ (t : State). SoundSpots (t .spots)) (sym is) h; only = e ∙ ap serverOf (sym is) }, is)
+
+-- A sound server is a function of what it stands for: of two that stand for the same every field is the same.
+pub holds-only : (s r : Server) → Sound s → Sound r → state s ≡ state r → s ≡ r
+holds-only s r h k e = h .only ∙ ap serverOf e ∙ sym (k .only)
+
+pub sound-at : (xs : List Spot) (i : ℕ) → SoundSpots xs → SoundSpot (getD xs i empty)
+sound-at [] i h = h
+sound-at (x ∷ xs) zero h = h .0
+sound-at (x ∷ xs) (suc i) h = sound-at xs i (h .1)
+
+pub sound-set : (xs : List Spot) (i : ℕ) (x : Spot) → SoundSpots xs → SoundSpot x → SoundSpots (set xs i x)
+sound-set [] i x h k = h
+sound-set (y ∷ xs) zero x h k = (k, h .1)
+sound-set (y ∷ xs) (suc i) x h k = (h .0, sound-set xs i x (h .1) k)
+
+-- what a sound server holds on a place with a box
+pub held-at : (s : Server) → Sound s → (i : ℕ) → i < length (spots (s .places)) → getD (s .places) i nowhere ≡ placeOf (getD (spots (s .places)) i empty)
+held-at s h i l = ap (λ (r : Server). getD (r .places) i nowhere) (h .only) ∙ places-at (spots (s .places)) i nowhere l
 
 -- ---- a place replaced
-pub sound-empty : (p : Place) → (p .taken ≡ 1 → ⊥) → SoundPlace p
-sound-empty p e h = absurd (e h)
+pub with-place-state : (s : Server) (q : ℕ) (x : Spot) → SoundSpot x → state (withPlace s q x) ≡ withSpot (state s) q x
+with-place-state s q x h = state-set (s .places) (q - 1) (s .last) (placeOf x) x (spot-of x h)
 
-pub state-set : (ps : List Place) (i last : ℕ) (p : Place) (x : Spot) → spot p ≡ x
-    → state (record { places = set ps i p; last = last }) ≡ record { spots = set (spots ps) i x; last = last }
-state-set ps i last p x e = ap (λ (l : List Spot). record { spots = l; last = last }) (spots-set ps i p ∙ ap (set (spots ps) i) e)
-
-pub withdraw-refused : (s : State) (q : ℕ) {e : Refusal} → first (heldChecks s q) ≡ Refused e → s ≡ withdraw s q
-unfolding withdraw
-withdraw-refused s q h = sym (ap (λ (k : Checked). stateAfter k (withSpot s q empty) s) h)
-
-pub withdraw-accepted : (s : State) (q : ℕ) → first (heldChecks s q) ≡ Accepted → withSpot s q empty ≡ withdraw s q
-unfolding withdraw
-withdraw-accepted s q h = sym (ap (λ (k : Checked). stateAfter k (withSpot s q empty) s) h)
+pub with-place-of : (s : Server) (q : ℕ) (x : Spot) → Sound s → withPlace s q x ≡ serverOf (withSpot (state s) q x)
+with-place-of s q x h =
+    ap (λ (r : Server). withPlace r q x) (h .only)
+    ∙ ap (λ (ps : List Place). record { places = ps; last = s .last }) (sym (places-set (spots (s .places)) (q - 1) x))
 
 -- ---- no box on any place
 abbrev eight : {A : Type 0} → A → List A
 eight x = x ∷ x ∷ x ∷ x ∷ x ∷ x ∷ x ∷ x ∷ []
 
-module _ (v : Place) (e : v .taken ≡ 1 → ⊥) where
-  pub sound-begins : SoundPlaces (eight v)
-  sound-begins = let h = sound-empty v e in (h, (h, (h, (h, (h, (h, (h, (h, tt))))))))
+pub begins : (v : Place) → v ≡ placeOf empty → Began (record { places = eight v; last = 0 })
+unfolding placesOf start
+begins v e = record { server = ap (λ (p : Place). record { places = eight p; last = 0 }) e }
 
-  pub state-begins : state (record { places = eight v; last = 0 }) ≡ start
-  unfolding spots start
-  state-begins = ap (λ (x : Spot). record { spots = eight x; last = 0 }) (spot-empty v e)
-
--- ---- putting
-pub put-refused : (s : State) (q n m : ℕ) (rows : List ℕ) {e : Refusal} → first (putChecks s q n m rows) ≡ Refused e → s ≡ put s q n m rows
-unfolding put
-put-refused s q n m rows h = sym (ap (λ (k : Checked). stateAfter k (withSpot s q (holds (analysis n m rows 0))) s) h)
-
-pub put-accepted : (s : State) (q n m : ℕ) (rows : List ℕ) → first (putChecks s q n m rows) ≡ Accepted → withSpot s q (holds (analysis n m rows 0)) ≡ put s q n m rows
-unfolding put
-put-accepted s q n m rows h = sym (ap (λ (k : Checked). stateAfter k (withSpot s q (holds (analysis n m rows 0))) s) h)
-
-module _ (s : State) (q n m : ℕ) (rows : List ℕ) (h : first (putChecks s q n m rows) ≡ Accepted) where
-  pub put-low : 1 ≤ q
-  unfolding putChecks
-  put-low = range-low 1 8 q (passed (putChecks s q n m rows) h .0)
-
-  pub put-high : q ≤ 8
-  unfolding putChecks
-  put-high = range-high 1 8 q (passed (putChecks s q n m rows) h .0)
-
-  boxed : first (boxChecksUpTo 16 n m rows) ≡ Accepted
-  unfolding putChecks
-  boxed = accepted-after ((NoPlace unless inRange 1 8 q) ∷ (PlaceState unless not (taken (spotAt s q))) ∷ []) (boxChecksUpTo 16 n m rows) h
-
-  pub put-box : Box n m rows
-  put-box = box-up-to 16 n m rows [] (omega arith) boxed
-
-  pub put-narrow : m ≤ 16
-  put-narrow = few-outputs 16 n m rows [] boxed
+pub sound-start : SoundSpots (start .spots)
+unfolding start
+sound-start = (tt, (tt, (tt, (tt, (tt, (tt, (tt, (tt, tt))))))))

@@ -1,30 +1,35 @@
--- A box that is not withdrawn is finished within 8 × (2^m − 1) steps of being put there, whatever else is called, with the plain call's result.
--- Assumes nothing.
+-- A box that is not withdrawn is finished within 8 × (2^m − 1) steps of being put there, whatever else is called, with the plain call's
+-- result. Assumes nothing.
 use Prim.Native.Nat.{ℕ, zero, suc, _+_, _-_, _*_, _^_, _%_, _<_, _≤_}
 use mathlib.Core.Path.{_≡_, refl, sym, ap, _∙_, subst}
 use mathlib.Core.Logic.{_↔_}
-use mathlib.Core.Bool.{Bool, true, false, not, false≢true}
+use mathlib.Core.Bool.{Bool, true, false, false≢true}
 use mathlib.Core.List.{List, [], _∷_}
 use native.Mathlib.Nat.{le-refl}
 use native.Mathlib.Omega.{arith}
 use native.Mathlib.Decide.{ℕ-discrete, decLt}
 use borrow.Author.Tests.{ltb-true, lt-ltb, le-ltb, eqb-false}
 use lib.Dec.{eqb, ltb}
-use lib.ListN.{length, getD, set, length-set}
+use lib.ListN.{length, getD, set, length-set, List·getD-eq-default}
+use lib.Pow.{pow-lt}
 use lib.Seq.{getD-set-same, getD-set-other}
 use Rattle.boolean.specs.Sums.{listBelow, listFrom, each}
 use Rattle.boolean.specs.Selection.{Candidate, firstLeast, shown}
-use Rattle.boolean.proofs.Lists.{length-listBelow}
-use Rattle.refusals.specs.Table.{first, inRange, figures}
+use Rattle.boolean.proofs.Lists.{length-listBelow, getD-listBelow}
+use Rattle.refusals.specs.Table.{first, inRange, figures, Box}
 use Rattle.refusals.specs.declared.Checked.{Checked}
 use Rattle.refusals.specs.declared.Checked.the-variants.{Accepted, Refused}
 use Rattle.refusals.proofs.Checks.{passed, found, skip, end, limit-accepted, reply-accepted}
 use Rattle.refusals.proofs.Bounds.{range-low, range-high, range-true}
 use Rattle.linear.specs.Nonlinearity.{pairsOf, pairs, nonlinearity, nonlinearityReply}
-use Rattle.server.specs.Model.{analysis, among, Spot, empty, holds, State, start, spotAt, withSpot, taken, more, unfinished, putChecks, heldChecks, stateAfter, put, withdraw, circle, firstWhere, served, advanced, serve, step, run, standing, standingOf, stillUnfinished, finished, standingAfter, ask, Call, puts, asks, withdraws, steps, runs, after, afterAll, stepCount, keeps}
+use Rattle.server.specs.Model.{analysis, among, heldOf, Spot, empty, holds, State, start, spotAt, withSpot, taken, more, unfinished}
+use Rattle.server.specs.Model.{putChecks, heldChecks, stateAfter, put, withdraw, circle, firstWhere, served, advanced, serve, step, run}
+use Rattle.server.specs.Model.{Standing, declined, standing, standingOf, stillUnfinished, finished, standingAfter, ask}
+use Rattle.server.specs.Statements.{Call, puts, asks, withdraws, steps, runs, after, afterAll, stepCount, keeps}
 use Rattle.server.proofs.Examined.{examined-all}
-use Rattle.server.proofs.Places.{put-box}
-use Rattle.server.proofs.Circle.{found-passes, found-by, found-none, somewhere}
+use Rattle.server.proofs.Places.{more-is}
+use Rattle.server.proofs.Checks.{put-low, put-high, put-free, put-box, put-narrow}
+use Rattle.server.proofs.Circle.{found-passes, found-by, found-first, found-none, somewhere}
 
 -- how many combinations a box has
 abbrev total : ℕ → ℕ
@@ -35,9 +40,16 @@ pub among-all : (n m : ℕ) (rows : List ℕ) → among n m rows (total m) ≡ n
 unfolding among nonlinearity pairs
 among-all n m rows = ap (λ (cs : List ℕ). firstLeast (each cs (λ c. pairsOf n rows c))) (examined-all m)
 
--- What is known of place q while its box is not withdrawn: how many combinations were examined, how many places on from the one last served it
--- stands, and that at most `left` steps are left.
-pub record Track (n m : ℕ) (rows : List ℕ) (q : ℕ) (s : State) (left : ℕ) : Type 0 where
+-- and once one was examined it is what is held
+pub held-among : (n m : ℕ) (rows : List ℕ) (k : ℕ) → 1 ≤ k → heldOf n m rows k ≡ among n m rows k
+held-among n m rows zero l = absurd (omega arith)
+held-among n m rows (suc k) l = refl
+
+-- What is known of place q while its box is not withdrawn: how many combinations were examined, how many places on from the one last
+-- served it stands, and that at most `left` steps are left.
+record Track (n m : ℕ) (rows : List ℕ) (q : ℕ) (s : State) (left : ℕ) : Type 0 where
+  pub inputs : inRange 1 8 n ≡ true
+  pub outputs : inRange 1 16 m ≡ true
   pub size : length (s .spots) ≡ 8
   pub low : 1 ≤ q
   pub high : q ≤ 8
@@ -49,9 +61,9 @@ pub record Track (n m : ℕ) (rows : List ℕ) (q : ℕ) (s : State) (left : ℕ
   pub there : (s .last + away) % 8 + 1 ≡ q
   pub bound : count < 2 ^ m - 1 → 8 * (2 ^ m - 1 - count) + away ≤ left + 7
 
-analysis-more : (n m : ℕ) (rows : List ℕ) (k : ℕ) → more (analysis n m rows k) ≡ ltb k (total m)
+analysis-more : (n m : ℕ) (rows : List ℕ) (k : ℕ) → inRange 1 8 n ≡ true → inRange 1 16 m ≡ true → more (analysis n m rows k) ≡ ltb k (total m)
 unfolding analysis
-analysis-more n m rows k = refl
+analysis-more n m rows k = more-is (analysis n m rows k)
 
 analysis-next : (n m : ℕ) (rows : List ℕ) (k : ℕ) → advanced (holds (analysis n m rows k)) ≡ holds (analysis n m rows (suc k))
 unfolding analysis
@@ -61,6 +73,8 @@ module _ {n m : ℕ} {rows : List ℕ} {q : ℕ} where
   -- a finished box has no steps left
   track-done : {s : State} {left : ℕ} (t : Track n m rows q s left) (left′ : ℕ) → (t .count < total m → ⊥) → Track n m rows q s left′
   track-done t left′ h = record {
+    inputs = t .inputs;
+    outputs = t .outputs;
     size = t .size;
     low = t .low;
     high = t .high;
@@ -76,6 +90,8 @@ module _ {n m : ℕ} {rows : List ℕ} {q : ℕ} where
   -- another place is put or withdrawn
   track-other : {s : State} {left : ℕ} → Track n m rows q s left → (p : ℕ) → 1 ≤ p → (p ≡ q → ⊥) → (x : Spot) → Track n m rows q (withSpot s p x) left
   track-other {s} t p l h x = record {
+    inputs = t .inputs;
+    outputs = t .outputs;
     size = length-set (s .spots) (p - 1) x ∙ t .size;
     low = t .low;
     high = t .high;
@@ -89,7 +105,7 @@ module _ {n m : ℕ} {rows : List ℕ} {q : ℕ} where
   }
 
   track-put : {s : State} {left : ℕ} → Track n m rows q s left → (p n′ m′ : ℕ) (rows′ : List ℕ) → Track n m rows q (put s p n′ m′ rows′) left
-  unfolding put putChecks
+  unfolding put
   track-put {s} {left} t p n′ m′ rows′ = go (first (putChecks s p n′ m′ rows′)) refl
     where
       new : State
@@ -97,9 +113,8 @@ module _ {n m : ℕ} {rows : List ℕ} {q : ℕ} where
 
       go : (k : Checked) → first (putChecks s p n′ m′ rows′) ≡ k → Track n m rows q (stateAfter k new s) left
       go Accepted e =
-          let ok = passed (putChecks s p n′ m′ rows′) e in
-          track-other t p (range-low 1 8 p (ok .0))
-          (λ same. false≢true (sym (ap (λ (x : Spot). not (taken x)) (ap (spotAt s) same ∙ t .spot)) ∙ ok .1 .0)) (holds (analysis n′ m′ rows′ 0))
+          track-other t p (put-low s p n′ m′ rows′ e)
+          (λ same. false≢true (sym (put-free s p n′ m′ rows′ e) ∙ ap taken (ap (spotAt s) same ∙ t .spot))) (holds (analysis n′ m′ rows′ 0))
       go (Refused r) e = t
 
   track-withdraw : {s : State} {left : ℕ} → Track n m rows q s left → (p : ℕ) → (p ≡ q → ⊥) → Track n m rows q (withdraw s p) left
@@ -115,6 +130,8 @@ module _ {n m : ℕ} {rows : List ℕ} {q : ℕ} where
     served-other : (i ≡ q - 1 → ⊥) → (away : ℕ) → away < 8 → (suc i + away) % 8 + 1 ≡ q
         → (t .count < total m → 8 * (total m - t .count) + away ≤ left′ + 7) → Track n m rows q (serve s (suc i)) left′
     served-other h away near there bound = record {
+      inputs = t .inputs;
+      outputs = t .outputs;
       size = length-set (s .spots) i _ ∙ t .size;
       low = t .low;
       high = t .high;
@@ -129,6 +146,8 @@ module _ {n m : ℕ} {rows : List ℕ} {q : ℕ} where
 
     served-this : i ≡ q - 1 → t .count < total m → left ≤ left′ + 1 → Track n m rows q (serve s (suc i)) left′
     served-this e l h = record {
+      inputs = t .inputs;
+      outputs = t .outputs;
       size = length-set (s .spots) i _ ∙ t .size;
       low = t .low;
       high = t .high;
@@ -155,7 +174,7 @@ module _ {n m : ℕ} {rows : List ℕ} {q : ℕ} where
       place k = (s .last + k) % 8 + 1
 
       is-test : test q ≡ ltb (t .count) (total m)
-      is-test = ap unfinished (t .spot) ∙ analysis-more n m rows (t .count)
+      is-test = ap unfinished (t .spot) ∙ analysis-more n m rows (t .count) (t .inputs) (t .outputs)
 
       -- one was found at a place in the circle no farther on
       unfinished-step : t .count < total m → (h : ℕ) × (0 ≤ h) × (h ≤ t .away) × (firstWhere test (listFrom 0 8 place) ≡ place h)
@@ -247,8 +266,10 @@ size-start = length-listBelow 8 (λ i. empty)
 module _ (n m : ℕ) (rows : List ℕ) (q : ℕ) where
   -- putting examines none, and 8 steps for each combination are left
   track-begins : (s : State) → length (s .spots) ≡ 8 → first (putChecks s q n m rows) ≡ Accepted → Track n m rows q (put s q n m rows) (8 * total m)
-  unfolding put putChecks
+  unfolding put
   track-begins s h e = subst (λ (k : Checked). Track n m rows q (stateAfter k new s) (8 * total m)) (sym e) record {
+    inputs = range-true 1 8 n (box .n-low) (box .n-high);
+    outputs = range-true 1 16 m (box .m-low) (put-narrow s q n m rows e);
     size = length-set (s .spots) (q - 1) _ ∙ h;
     low = low;
     high = high;
@@ -264,14 +285,14 @@ module _ (n m : ℕ) (rows : List ℕ) (q : ℕ) where
       new : State
       new = withSpot s q (holds (analysis n m rows 0))
 
-      ok : (inRange 1 8 q ≡ true) × (not (taken (spotAt s q)) ≡ true)
-      ok = let p = passed (putChecks s q n m rows) e in (p .0, p .1 .0)
+      box : Box n m rows
+      box = put-box s q n m rows e
 
       low : 1 ≤ q
-      low = range-low 1 8 q (ok .0)
+      low = put-low s q n m rows e
 
       high : q ≤ 8
-      high = range-high 1 8 q (ok .0)
+      high = put-high s q n m rows e
 
       a : (j : ℕ) × (j < 8) × ((s .last + j) % 8 + 1 ≡ q)
       a = somewhere (s .last) q low high
@@ -285,8 +306,8 @@ module _ (n m : ℕ) (rows : List ℕ) (q : ℕ) where
   unfolding ask
   ask-held s x l h e k = ap (λ (r : Checked). standingAfter r (spotAt s q)) (held-accepted s l h (ap taken e ∙ k)) ∙ ap standing e
 
-  -- After the box was put, and calls none of which withdraws it: k of its combinations were examined, and what is held of it is the best pair
-  -- among exactly those.
+  -- After the box was put, and calls none of which withdraws it: k of its combinations were examined, and what is held of it is the best
+  -- pair among exactly those.
   module _ (before calls : List Call) (accepted : first (putChecks (afterAll start before) q n m rows) ≡ Accepted) (kept : keeps q calls ≡ true) where
     abbrev then : State
     then = afterAll (put (afterAll start before) q n m rows) calls
@@ -308,15 +329,23 @@ module _ (n m : ℕ) (rows : List ℕ) (q : ℕ) where
     answer : ask then q ≡ standing (holds (analysis n m rows examined))
     answer = ask-held then (holds (analysis n m rows examined)) (track .low) (track .high) held refl
 
+    is-more : (k : ℕ) → more (analysis n m rows k) ≡ ltb k (total m)
+    is-more k = analysis-more n m rows k (track .inputs) (track .outputs)
+
     standing-more : (k : ℕ) → k < total m → standing (holds (analysis n m rows k)) ≡ stillUnfinished
+    standing-more k l = ap (λ (t : Bool). standingOf t (analysis n m rows k .found)) (is-more k ∙ lt-ltb k (total m) l)
+
+    -- once all were examined, what is held is the plain call's
+    found-all : (k : ℕ) → k ≡ total m → analysis n m rows k .found ≡ nonlinearity n m rows m
     unfolding analysis
-    standing-more k l = ap (λ (t : Bool). standingOf t (among n m rows k)) (lt-ltb k (total m) l)
+    found-all k e =
+        let some : 1 ≤ k = omega (arith, pow-lt (range-low 1 16 m (track .outputs))) in
+        held-among n m rows k some ∙ ap (among n m rows) e ∙ among-all n m rows
 
     standing-all : (k : ℕ) → k ≡ total m → standing (holds (analysis n m rows k)) ≡ finished (shown (nonlinearity n m rows m))
-    unfolding analysis
     standing-all k e =
-        ap (λ (t : Bool). standingOf t (among n m rows k)) (le-ltb k (total m) (omega arith))
-        ∙ ap (λ (c : Candidate). finished (shown c)) (ap (among n m rows) e ∙ among-all n m rows)
+        ap (λ (t : Bool). standingOf t (analysis n m rows k .found)) (is-more k ∙ le-ltb k (total m) (omega arith))
+        ∙ ap (λ (c : Candidate). finished (shown c)) (found-all k e)
 
     -- asking says "unfinished" exactly until all were examined
     pub unfinished-until : (ask then q ≡ stillUnfinished) ↔ (examined < 2 ^ m - 1)
@@ -357,7 +386,39 @@ module _ (n m : ℕ) (rows : List ℕ) (q : ℕ) where
         all (yes l) = absurd (omega (arith, end .bound l))
         all (no l) = omega (arith, end .few)
 
+    -- what asking answers once, it answers later
+    pub result-kept : (given : List ℕ) → ask then q ≡ finished given → (later : List Call) → keeps q later ≡ true → ask (afterAll then later) q ≡ finished given
+    result-kept given h later k = go (decLt examined (total m))
+      where
+        is-unfinished : Standing → Bool
+        is-unfinished (declined j) = false
+        is-unfinished stillUnfinished = true
+        is-unfinished (finished given) = false
+
+        go : Dec (examined < total m) → ask (afterAll then later) q ≡ finished given
+        go (yes l) = absurd (false≢true (sym (ap is-unfinished h) ∙ ap is-unfinished (unfinished-until .1 l)))
+        go (no l) = let all : examined ≡ total m = omega (arith, examined-few) in keeps-result later k all ∙ sym (result-then all) ∙ h
+
 -- ---- the other promises
+-- every place is empty at the start
+pub begins-empty : (q : ℕ) → spotAt start q ≡ empty
+unfolding start
+begins-empty q = go (decLt (q - 1) 8)
+  where
+    go : Dec (q - 1 < 8) → getD (listBelow 8 (λ i. empty)) (q - 1) empty ≡ empty
+    go (yes l) = getD-listBelow 8 (λ i. empty) (q - 1) empty l
+    go (no l) =
+        let far : length (listBelow 8 (λ i. empty)) ≤ q - 1 = omega (arith, length-listBelow 8 (λ i. empty)) in
+        List·getD-eq-default (listBelow 8 (λ i. empty)) empty far
+
+-- a step serves the first unfinished place in the circle
+pub step-serves : (s : State) (k : ℕ) → k < 8 → unfinished (spotAt s ((s .last + k) % 8 + 1)) ≡ true
+    → ((h : ℕ) → h < k → unfinished (spotAt s ((s .last + h) % 8 + 1)) ≡ false)
+    → step s ≡ serve s ((s .last + k) % 8 + 1)
+unfolding step served circle listBelow
+step-serves s k l e none =
+    ap (serve s) (found-first (λ p. unfinished (spotAt s p)) (λ k. (s .last + k) % 8 + 1) 0 8 k (omega arith) (omega arith) e (λ h a b. none h b))
+
 -- the plain call with the limit m gives that figure and witness
 pub plain-reply : (s : State) (n m : ℕ) (rows : List ℕ) (q : ℕ) → first (putChecks s q n m rows) ≡ Accepted
     → nonlinearityReply n m rows m ≡ figures (shown (nonlinearity n m rows m))
@@ -365,10 +426,14 @@ plain-reply s n m rows q h =
     let b = put-box s q n m rows h in
     sym (reply-accepted (limit-accepted n m rows m (record { box = b; i-low = b .m-low; i-high = le-refl m })) (shown (nonlinearity n m rows m)))
 
--- with none unfinished a step does nothing
+-- with none unfinished no place is served, and a step does nothing
+pub served-none : (s : State) → ((p : ℕ) → unfinished (spotAt s p) ≡ false) → served s ≡ 0
+unfolding served circle listBelow
+served-none s h = found-none (λ p. unfinished (spotAt s p)) (λ k. (s .last + k) % 8 + 1) 0 8 (λ k a b. h ((s .last + k) % 8 + 1))
+
 pub step-idle : (s : State) → ((p : ℕ) → unfinished (spotAt s p) ≡ false) → step s ≡ s
-unfolding step served circle listBelow
-step-idle s h = ap (serve s) (found-none (λ p. unfinished (spotAt s p)) (λ k. (s .last + k) % 8 + 1) 0 8 (λ k a b. h ((s .last + k) % 8 + 1)))
+unfolding step
+step-idle s h = ap (serve s) (served-none s h)
 
 -- a withdrawn place is empty again
 pub withdrawn-empty : (s : State) (q : ℕ) → length (s .spots) ≡ 8 → first (heldChecks s q) ≡ Accepted → spotAt (withdraw s q) q ≡ empty

@@ -1,19 +1,16 @@
 -- A step of the server: which place it serves, and what it leaves; and steps one after the other. Assumes nothing.
-use Prim.Native.Nat.{ℕ, zero, suc, _+_, _-_, _%_, _<_, _≤_, zero-le}
-use mathlib.Core.Path.{_≡_, refl, sym, ap, _∙_}
+use Prim.Native.Nat.{ℕ, suc, _+_, _-_, _%_, _<_, zero-le}
+use mathlib.Core.Path.{_≡_, refl, sym, ap, _∙_, subst}
 use mathlib.Core.Bool.{Bool, true, false}
-use native.Mathlib.Numerals.{add-one}
 use native.Mathlib.Omega.{arith}
 use native.Mathlib.Decide.{ℕ-discrete}
-use borrow.Author.Tests.{eqb-true}
 use lib.ListN.{getD, set}
 use Rattle.boolean.specs.Sums.{listBelow}
-use Rattle.server.specs.declared.Place.{Place}
 use Rattle.server.specs.declared.Server.{Server}
-use Rattle.server.specs.Model.{Spot, empty, holds, State, taken, spotAt, unfinished, circle, served, advanced, serve, step, run}
-use Rattle.server.specs.Calls.{spot, spots, state, Sound, Unexamined, Examined}
+use Rattle.server.specs.Model.{analysis, Spot, empty, holds, State, spotAt, unfinished, circle, served, advanced, serve, step}
+use Rattle.server.specs.Calls.{spot, spots, state, SoundSpot, SoundSpots}
 use Rattle.server.proofs.Circle.{found-first, found-none, found-passes}
-use Rattle.server.proofs.Places.{nowhere, spots-at, spot-taken, sound-at, state-set}
+use Rattle.server.proofs.Places.{nowhere, spots-at, more-left, sound-at, sound-set}
 
 -- the index of the place that stands k on in the circle, as the code computes it
 abbrev pub index : ℕ → ℕ → ℕ
@@ -60,56 +57,36 @@ module _ (s : Server) where
   unfolding Passed served circle listBelow test place
   served-none p = sym (found-none test place 0 8 (λ h a b. p h (omega arith)))
 
-  -- what is served is unfinished
-  served-left : (i : ℕ) → served (state s) ≡ suc i → unfinished (spot (getD (s .places) i nowhere)) ≡ true
-  unfolding served
-  served-left i e =
-      let one : i ≡ suc i - 1 = omega arith in
-      ap unfinished (sym (spots-at (s .places) i)) ∙ ap (λ (j : ℕ). unfinished (getD (spots (s .places)) j empty)) one
-      ∙ found-passes (λ p. unfinished (spotAt (state s) p)) (circle (s .last)) i e
+-- ---- a step
+pub step-none : (s : State) → served s ≡ 0 → step s ≡ s
+unfolding step
+step-none s e = ap (serve s) e
 
-  unfinished-taken : (p : Place) → unfinished (spot p) ≡ true → p .taken ≡ 1
-  unfinished-taken p e = eqb-true (p .taken) 1 (sym (spot-taken p) ∙ is-taken (spot p) e)
-    where
-      is-taken : (x : Spot) → unfinished x ≡ true → taken x ≡ true
-      is-taken empty h = h
-      is-taken (holds a) h = refl
+pub step-some : (s : State) (q : ℕ) → q ≡ served s → (q ≡ 0 → ⊥)
+    → step s ≡ record { spots = set (s .spots) (q - 1) (advanced (spotAt s q)); last = q }
+unfolding step
+step-some s q e h =
+    let one : suc (q - 1) ≡ q = omega arith in
+    ap (serve s) (sym (one ∙ e)) ∙ ap (λ (l : ℕ). record { spots = set (s .spots) (q - 1) (advanced (spotAt s q)); last = l }) one
 
-  pub served-unexamined : (q : ℕ) → (q ≡ 0 → ⊥) → q ≡ served (state s) → Sound s → Unexamined (getD (s .places) (q - 1) nowhere)
-  served-unexamined q h e sound =
-      let more : suc (q - 1) ≡ q = omega arith in
-      let left = served-left (q - 1) (sym (more ∙ e)) in
-      let t = unfinished-taken (getD (s .places) (q - 1) nowhere) left in
-      record { is-taken = t; sound = sound-at (s .places) (q - 1) sound t; left = left }
+-- what is served is unfinished, and stays a box that is analysed
+pub served-left : (s : State) (q : ℕ) → q ≡ served s → (q ≡ 0 → ⊥) → unfinished (spotAt s q) ≡ true
+unfolding served
+served-left s q e h =
+    let one : suc (q - 1) ≡ q = omega arith in
+    ap (λ (p : ℕ). unfinished (spotAt s p)) (sym one)
+    ∙ found-passes (λ p. unfinished (spotAt s p)) (circle (s .last)) (q - 1) (sym (one ∙ e))
 
-  pub step-none : 0 ≡ served (state s) → state s ≡ step (state s)
-  unfolding step
-  step-none e = ap (serve (state s)) e
+pub sound-advanced : (x : Spot) → SoundSpot x → unfinished x ≡ true → SoundSpot (advanced x)
+unfolding analysis
+sound-advanced empty h u = h
+sound-advanced (holds a) h u = record { box = h .box; narrow = h .narrow; few = omega (arith, more-left a u .left); so-far = refl }
 
-  pub step-some : (q : ℕ) (r : Place) → (q ≡ 0 → ⊥) → q ≡ served (state s) → Examined (getD (s .places) (q - 1) nowhere) r
-      → state (record { places = set (s .places) (q - 1) r; last = q }) ≡ step (state s)
-  unfolding step
-  step-some q r h e x =
-      let more : q ≡ suc (q - 1) = omega arith in
-      state-set (s .places) (q - 1) q r (advanced (getD (spots (s .places)) (q - 1) empty)) (x .one-more ∙ ap advanced (sym (spots-at (s .places) (q - 1))))
-      ∙ ap (λ (l : ℕ). record { spots = set (spots (s .places)) (q - 1) (advanced (getD (spots (s .places)) (q - 1) empty)); last = l }) more
-      ∙ ap (serve (state s)) (sym more ∙ e)
-
--- ---- steps one after the other
-pub run-none : (s : State) → s ≡ run s 0
-unfolding run
-run-none s = refl
-
-pub run-more : (s : State) (k : ℕ) {t : State} → t ≡ run s k → step t ≡ run s (k + 1)
-unfolding run
-run-more s k e = ap step e ∙ ap (run s) (sym (add-one k))
-
--- where none is unfinished, the steps that are left change nothing
-pub run-idle : (s : State) (j k : ℕ) {t : State} → t ≡ run s j → t ≡ step t → j ≤ k → t ≡ run s k
-unfolding run
-run-idle s j zero e idle l = let none : j ≡ 0 = omega arith in e ∙ ap (run s) none
-run-idle s j (suc k) {t} e idle l = go (ℕ-discrete j (suc k)) (λ h. run-idle s j k e idle h)
+pub sound-step : (s : State) → SoundSpots (s .spots) → SoundSpots (step s .spots)
+sound-step s h = go (ℕ-discrete (served s) 0)
   where
-    go : Dec (j ≡ suc k) → (j ≤ k → t ≡ run s k) → t ≡ step (run s k)
-    go (yes q) rec = e ∙ ap (run s) q
-    go (no q) rec = idle ∙ ap step (rec (omega arith))
+    go : Dec (served s ≡ 0) → SoundSpots (step s .spots)
+    go (yes e) = subst (λ (t : State). SoundSpots (t .spots)) (sym (step-none s e)) h
+    go (no e) =
+        subst (λ (t : State). SoundSpots (t .spots)) (sym (step-some s (served s) refl e))
+        (sound-set (s .spots) _ _ h (sound-advanced (spotAt s (served s)) (sound-at (s .spots) _ h) (served-left s (served s) refl e)))

@@ -1,36 +1,42 @@
--- What the code's server and its answers stand for, and what holds of a server that its own calls made.
+-- What the code's server and its answers stand for, all that the code's values hold, and the outcome of each call: its contract, in
+-- Rattle and for C, and what the theorems on calls assume.
 use Prim.Native.Nat.{ℕ, zero, suc, _+_, _-_, _^_, _≤_}
 use mathlib.Core.Path.{_≡_}
 use mathlib.Core.Bool.{Bool, true, false}
-use mathlib.Core.List.{List, [], _∷_}
+use mathlib.Core.List.{List, [], _∷_, _++_}
 use lib.Dec.{eqb}
-use lib.ListN.{take}
-use Rattle.boolean.specs.Selection.{Candidate, nothing}
-use Rattle.refusals.specs.Table.{Box, number}
+use lib.ListN.{take, length, getD, set, replicate}
+use Rattle.boolean.specs.Functions.{at}
+use Rattle.boolean.specs.Selection.{Candidate, best, lower, firstLeast, ranked}
+use Rattle.refusals.specs.Table.{Box, boxChecks, Reply, first, replyAfter, number}
+use Rattle.refusals.specs.declared.Checked.{Checked}
+use Rattle.refusals.specs.declared.Checked.the-variants.{Accepted, Refused}
+use Rattle.masks.specs.Masks.{outputs}
 use Rattle.linear.specs.declared.Found.{Found}
-use Rattle.linear.specs.Calls.{candidate}
+use Rattle.linear.specs.Work.{candidate}
+use Rattle.linear.specs.Nonlinearity.{pairsOf}
 use Rattle.server.specs.declared.Place.{Place}
 use Rattle.server.specs.declared.Server.{Server}
 use Rattle.server.specs.declared.Asked.{Asked}
 use Rattle.server.specs.declared.Asked.the-variants.{Unfinished, Finished, Declined}
-use Rattle.server.specs.Model.{Analysis, among, Spot, empty, holds, State, Standing, declined, stillUnfinished, finished, advanced, unfinished}
+use Rattle.server.specs.Model.{Analysis, heldOf, analysis, Spot, empty, holds, State, start, putChecks, heldChecks}
+use Rattle.server.specs.Model.{served, step, Standing, declined, stillUnfinished, finished, ask}
 
--- the best pair that is held: none before a combination was examined
-abbrev pub pairHeld : ℕ → Found → Candidate
-pairHeld zero f = nothing
-pairHeld (suc k) f = candidate f
-
+-- ---- what the code's values stand for
 -- a box's rows, the first 2^n of the array
 abbrev pub rowsOf : Place → List ℕ
 rowsOf p = take (2 ^ p .n) (p .rows)
 
-abbrev pub spotOf : Bool → Analysis → Spot
+abbrev pub boxOf : Place → Analysis
+boxOf p = record { n = p .n; m = p .m; rows = rowsOf p; examined = p .examined; found = candidate (p .found) }
+
+abbrev pub spotOf : (taken : Bool) (a : Analysis) → Spot
 spotOf true a = holds a
 spotOf false a = empty
 
 -- what stands on a place: a box where `taken` is 1, and else none
 unfoldable pub spot : Place → Spot
-spot p = spotOf (eqb (p .taken) 1) (record { n = p .n; m = p .m; rows = rowsOf p; examined = p .examined; found = pairHeld (p .examined) (p .found) })
+spot p = spotOf (eqb (p .taken) 1) (boxOf p)
 
 unfoldable pub spots : List Place → List Spot
 unfolding spot
@@ -47,38 +53,115 @@ answered Unfinished = stillUnfinished
 answered (Finished count c w b) = finished (count ∷ c ∷ w ∷ b ∷ [])
 answered (Declined e) = declined (number e)
 
--- What the code keeps of the pairs of k combinations: the best of them, and before the first a count that no pair has.
-abbrev pub heldOf : ℕ → ℕ → List ℕ → ℕ → Candidate
-heldOf n m rows zero = record { figure = 2 ^ n + 1; witness = 0 ∷ 0 ∷ 0 ∷ [] }
-heldOf n m rows (suc k) = among n m rows (suc k)
+-- ---- all that the code's values hold
+-- the array for the most rows that a box has: the rows, then zeros
+abbrev pub filled : List ℕ → List ℕ
+filled rows = rows ++ replicate (256 - length rows) 0
 
--- a box that was accepted, and the best pair of exactly the combinations that were examined
-pub record Analysed (p : Place) : Type 0 where
-  pub box : Box (p .n) (p .m) (rowsOf p)
-  pub narrow : p .m ≤ 16
-  pub few : p .examined ≤ 2 ^ p .m - 1
-  pub so-far : candidate (p .found) ≡ heldOf (p .n) (p .m) (rowsOf p) (p .examined)
+abbrev pub foundOf : Candidate → Found
+foundOf p = record { count = p .figure; c = at (p .witness) 0; w = at (p .witness) 1; b = at (p .witness) 2 }
 
--- a place is empty, or has such a box
-abbrev pub SoundPlace : Place → Type 0
-SoundPlace p = p .taken ≡ 1 → Analysed p
+-- of a box its widths and rows, how many of its combinations were examined and what is held of those; of an empty place zeros
+unfoldable pub placeOf : Spot → Place
+placeOf empty = record { taken = 0; n = 0; m = 0; rows = replicate 256 0; examined = 0; found = record { count = 0; c = 0; w = 0; b = 0 } }
+placeOf (holds a) =
+    record { taken = 1; n = a .n; m = a .m; rows = filled (a .rows); examined = a .examined; found = foundOf (a .found) }
 
-abbrev pub SoundPlaces : List Place → Type 0
-SoundPlaces [] = Unit {0}
-SoundPlaces (p ∷ ps) = SoundPlace p × SoundPlaces ps
+unfoldable pub placesOf : List Spot → List Place
+unfolding placeOf
+placesOf [] = []
+placesOf (x ∷ xs) = placeOf x ∷ placesOf xs
 
--- a server that its own calls made: it begins so, and each call keeps it so
-abbrev pub Sound : Server → Type 0
-Sound s = SoundPlaces (s .places)
+-- the code's value, from what it stands for
+abbrev pub serverOf : State → Server
+serverOf s = record { places = placesOf (s .spots); last = s .last }
 
--- What the functions behind the calls ask and leave.
+-- ---- a server that its own calls made: it begins so, and each call keeps it so
+-- a box that was accepted, and what is held of exactly the combinations that were examined
+pub record Analysed (a : Analysis) : Type 0 where
+  pub box : Box (a .n) (a .m) (a .rows)
+  pub narrow : a .m ≤ 16
+  pub few : a .examined ≤ 2 ^ a .m - 1
+  pub so-far : a .found ≡ heldOf (a .n) (a .m) (a .rows) (a .examined)
 
--- a box of which a combination is left, and what one combination more makes of it
-pub record Unexamined (p : Place) : Type 0 where
-  pub is-taken : p .taken ≡ 1
-  pub sound : Analysed p
-  pub left : unfinished (spot p) ≡ true
+abbrev pub SoundSpot : Spot → Type 0
+SoundSpot empty = Unit {0}
+SoundSpot (holds a) = Analysed a
 
-pub record Examined (p r : Place) : Type 0 where
-  pub sound : SoundPlace r
-  pub one-more : spot r ≡ advanced (spot p)
+abbrev pub SoundSpots : List Spot → Type 0
+SoundSpots [] = Unit {0}
+SoundSpots (x ∷ xs) = SoundSpot x × SoundSpots xs
+
+-- each place is empty or has such a box, and the value holds nothing else
+pub record Sound (s : Server) : Type 0 where
+  pub places : SoundSpots (spots (s .places))
+  pub only : s ≡ serverOf (state s)
+
+-- ---- the outcome of each call
+-- an empty server
+pub record Began (r : Server) : Type 0 where
+  pub server : r ≡ serverOf start
+
+-- the server with another place at an index, and with another thing on a place
+abbrev pub replaced : (s : Server) (i : ℕ) (p : Place) → Server
+replaced s i p = record { places = set (s .places) i p; last = s .last }
+
+abbrev pub withPlace : (s : Server) (place : ℕ) (x : Spot) → Server
+withPlace s place x = replaced s (place - 1) (placeOf x)
+
+-- what a call leaves whose checks found this
+abbrev pub serverAfter : (k : Checked) (new old : Server) → Server
+serverAfter Accepted new old = new
+serverAfter (Refused e) new old = old
+
+-- Putting a box on a place, of every server: what is said, and the server that is left. A refusal leaves it as it was.
+pub record Put (self : Server) (place n m : ℕ) (rows : List ℕ) (said : Reply) (r : Server) : Type 0 where
+  pub reply : said ≡ replyAfter (first (putChecks (state self) place n m rows)) []
+  pub server : r ≡ serverAfter (first (putChecks (state self) place n m rows)) (withPlace self place (holds (analysis n m rows 0))) self
+
+-- taking the box off a place, of every server
+pub record Withdrew (self : Server) (place : ℕ) (said : Reply) (r : Server) : Type 0 where
+  pub reply : said ≡ replyAfter (first (heldChecks (state self) place)) []
+  pub server : r ≡ serverAfter (first (heldChecks (state self) place)) (withPlace self place empty) self
+
+-- asking, of every server
+pub record Told (self : Server) (place : ℕ) (said : Standing) : Type 0 where
+  pub standing : said ≡ ask (state self) place
+
+-- What is held after combination c: the better of the pair that was held and that combination's first nearest pair, and where they are as
+-- good the one of fewer outputs. What is no box, which only a server that was made up can have, keeps its pair.
+abbrev pub pairAfter : (k : Checked) (new old : Candidate) → Candidate
+pairAfter Accepted new old = new
+pairAfter (Refused e) new old = old
+
+unfoldable pub better : (n m : ℕ) (rows : List ℕ) (held : Candidate) (c : ℕ) → Candidate
+unfolding first best firstLeast pairsOf
+better n m rows held c =
+    pairAfter (first (boxChecks n m rows)) (best (ranked lower outputs) held (firstLeast (pairsOf n rows c) ∷ [])) held
+
+-- a place of which one combination more was examined
+unfoldable pub oneMore : Place → Place
+unfolding better
+oneMore p = record {
+  taken = p .taken;
+  n = p .n;
+  m = p .m;
+  rows = p .rows;
+  examined = p .examined + 1;
+  found = foundOf (better (p .n) (p .m) (rowsOf p) (candidate (p .found)) (p .examined + 1));
+}
+
+-- the server after a step that serves place i + 1, or none
+abbrev pub serverServed : (s : Server) (place : ℕ) → Server
+serverServed s zero = s
+serverServed s (suc i) = record { places = set (s .places) i (oneMore (getD (s .places) i (placeOf empty))); last = suc i }
+
+-- A step, of every server; and of one that its own calls made, that it holds then what the model says, and nothing else.
+pub record Stepped (self r : Server) : Type 0 where
+  pub server : r ≡ serverServed self (served (state self))
+  pub stands : Sound self → r ≡ serverOf (step (state self))
+
+-- so many steps, one after the other
+pub data Ran (self : Server) : (budget : ℕ) (r : Server) → Type 0 where
+  none : Ran self 0 self
+  more : {k : ℕ} {t r : Server} → Ran self k t → Stepped t r → Ran self (suc k) r

@@ -1,9 +1,9 @@
--- Document 02 §14, "Several boxes under analysis": what the server holds, what each call makes of it and answers, and any calls one after the other.
--- Places are counted from 1.
+-- Document 02 §14, "Several boxes under analysis": what the server holds, and what each call makes of it and answers. Places are counted
+-- from 1.
 use Prim.Native.Nat.{ℕ, zero, suc, _+_, _-_, _%_, _^_}
-use mathlib.Core.Bool.{Bool, true, false, not}
+use mathlib.Core.Bool.{Bool, true, false, not, _&&_}
 use mathlib.Core.List.{List, [], _∷_}
-use lib.Dec.{ltb, leb, eqb}
+use lib.Dec.{ltb, leb}
 use lib.ListN.{getD, set}
 use Rattle.boolean.specs.Sums.{listBelow, each, keep}
 use Rattle.boolean.specs.Functions.{components}
@@ -14,8 +14,8 @@ use Rattle.refusals.specs.declared.Checked.{Checked}
 use Rattle.refusals.specs.declared.Checked.the-variants.{Accepted, Refused}
 use Rattle.linear.specs.Nonlinearity.{pairsOf}
 
--- A box under analysis: its widths and rows, how many of its combinations were examined, and the best pair among exactly those. They are examined in
--- ascending order, so that the number says which.
+-- A box under analysis: its widths and rows, how many of its combinations were examined, and the best pair among exactly those. They are
+-- examined in ascending order, so that the number says which.
 pub record Analysis : Type 0 where
   pub n : ℕ
   pub m : ℕ
@@ -24,19 +24,24 @@ pub record Analysis : Type 0 where
   pub found : Candidate
 
 -- the combinations that were examined, where k were: 1 to k, in the order in which a box's combinations come, fewest outputs first
-unfoldable pub examinedOf : ℕ → ℕ → List ℕ
+unfoldable pub examinedOf : (m k : ℕ) → List ℕ
 unfolding keep components
 examinedOf m k = keep (λ c. leb c k) (components m m)
 
 -- the first pair of the fewest differing inputs among exactly those
-unfoldable pub among : ℕ → ℕ → List ℕ → ℕ → Candidate
+unfoldable pub among : (n m : ℕ) (rows : List ℕ) (k : ℕ) → Candidate
 unfolding firstLeast each examinedOf pairsOf
 among n m rows k = firstLeast (each (examinedOf m k) (λ c. pairsOf n rows c))
 
+-- what is held of them: that pair, and before the first combination a count that no pair has
+abbrev pub heldOf : (n m : ℕ) (rows : List ℕ) (k : ℕ) → Candidate
+heldOf n m rows zero = record { figure = 2 ^ n + 1; witness = 0 ∷ 0 ∷ 0 ∷ [] }
+heldOf n m rows (suc k) = among n m rows (suc k)
+
 -- a box of which k combinations were examined
-unfoldable pub analysis : ℕ → ℕ → List ℕ → ℕ → Analysis
+unfoldable pub analysis : (n m : ℕ) (rows : List ℕ) (k : ℕ) → Analysis
 unfolding among
-analysis n m rows k = record { n = n; m = m; rows = rows; examined = k; found = among n m rows k }
+analysis n m rows k = record { n = n; m = m; rows = rows; examined = k; found = heldOf n m rows k }
 
 -- what stands on a place
 pub data Spot : Type 0 where
@@ -53,20 +58,21 @@ unfolding listBelow
 start = record { spots = listBelow 8 (λ i. empty); last = 0 }
 
 -- what stands on place p
-abbrev pub spotAt : State → ℕ → Spot
+abbrev pub spotAt : (s : State) (p : ℕ) → Spot
 spotAt s p = getD (s .spots) (p - 1) empty
 
 -- the server with another thing on place p
-abbrev pub withSpot : State → ℕ → Spot → State
+abbrev pub withSpot : (s : State) (p : ℕ) (x : Spot) → State
 withSpot s p x = record { spots = set (s .spots) (p - 1) x; last = s .last }
 
 abbrev pub taken : Spot → Bool
 taken empty = false
 taken (holds a) = true
 
--- a box is unfinished until all its combinations, 1 to 2^m − 1, were examined
+-- A box is unfinished until all its combinations, 1 to 2^m − 1, were examined. (What has other widths than a box that may be put here has
+-- none to examine. No call puts it on a place, but a server that was made up may hold it.)
 abbrev pub more : Analysis → Bool
-more a = ltb (a .examined) (2 ^ a .m - 1)
+more a = (inRange 1 8 (a .n) && inRange 1 16 (a .m)) && ltb (a .examined) (2 ^ a .m - 1)
 
 abbrev pub unfinished : Spot → Bool
 unfinished empty = false
@@ -74,38 +80,38 @@ unfinished (holds a) = more a
 
 -- ---- the checks
 -- a box has at most sixteen outputs here
-unfoldable pub putChecks : State → ℕ → ℕ → ℕ → List ℕ → List Check
+unfoldable pub putChecks : (s : State) (p n m : ℕ) (rows : List ℕ) → List Check
 putChecks s p n m rows = (NoPlace unless inRange 1 8 p) ∷ (PlaceState unless not (taken (spotAt s p))) ∷ boxChecksUpTo 16 n m rows
 
-unfoldable pub heldChecks : State → ℕ → List Check
+unfoldable pub heldChecks : (s : State) (p : ℕ) → List Check
 heldChecks s p = (NoPlace unless inRange 1 8 p) ∷ (PlaceState unless taken (spotAt s p)) ∷ []
 
 -- a refusal leaves the server as it was
-abbrev pub stateAfter : Checked → State → State → State
+abbrev pub stateAfter : (k : Checked) (new old : State) → State
 stateAfter Accepted new old = new
 stateAfter (Refused e) new old = old
 
 -- ---- the calls
 -- putting examines no combination
-unfoldable pub put : State → ℕ → ℕ → ℕ → List ℕ → State
+unfoldable pub put : (s : State) (p n m : ℕ) (rows : List ℕ) → State
 unfolding first putChecks analysis
 put s p n m rows = stateAfter (first (putChecks s p n m rows)) (withSpot s p (holds (analysis n m rows 0))) s
 
-unfoldable pub withdraw : State → ℕ → State
+unfoldable pub withdraw : (s : State) (p : ℕ) → State
 unfolding first heldChecks
 withdraw s p = stateAfter (first (heldChecks s p)) (withSpot s p empty) s
 
 -- the places in a circle, from the one after the place last served
-unfoldable pub circle : ℕ → List ℕ
+unfoldable pub circle : (last : ℕ) → List ℕ
 unfolding listBelow
 circle last = listBelow 8 (λ k. (last + k) % 8 + 1)
 
 -- the first number that passes the test, and 0 where there is none
-unfoldable pub firstWhere : (ℕ → Bool) → List ℕ → ℕ
+unfoldable pub firstWhere : (p : ℕ → Bool) (xs : List ℕ) → ℕ
 firstWhere p [] = 0
 firstWhere p (x ∷ xs) = elim (p x) [ true ↦ x | false ↦ firstWhere p xs ]
 
--- the place that a step serves: the first in the circle whose box is unfinished
+-- the place that a step serves: the first in the circle whose box is unfinished, and 0 where there is none
 unfoldable pub served : State → ℕ
 unfolding circle firstWhere
 served s = firstWhere (λ p. unfinished (spotAt s p)) (circle (s .last))
@@ -116,7 +122,7 @@ advanced empty = empty
 advanced (holds a) = holds (analysis (a .n) (a .m) (a .rows) (suc (a .examined)))
 
 -- the server after a step that serves place i + 1, or none
-abbrev pub serve : State → ℕ → State
+abbrev pub serve : (s : State) (place : ℕ) → State
 serve s zero = s
 serve s (suc i) = record { spots = set (s .spots) i (advanced (getD (s .spots) i empty)); last = suc i }
 
@@ -125,7 +131,7 @@ unfolding served
 step s = serve s (served s)
 
 -- so many steps, one after the other
-unfoldable pub run : State → ℕ → State
+unfoldable pub run : (s : State) (budget : ℕ) → State
 unfolding step
 run s zero = s
 run s (suc k) = step (run s k)
@@ -137,57 +143,19 @@ pub data Standing : Type 0 where
   finished : List ℕ → Standing
 
 -- whether more is to be examined, and what is held
-abbrev pub standingOf : Bool → Candidate → Standing
+abbrev pub standingOf : (left : Bool) (found : Candidate) → Standing
 standingOf true found = stillUnfinished
 standingOf false found = finished (shown found)
 
+-- (`heldChecks` refuses an empty place before its standing is looked at: what this says of it is never answered.)
 abbrev pub standing : Spot → Standing
 standing empty = stillUnfinished
 standing (holds a) = standingOf (more a) (a .found)
 
-abbrev pub standingAfter : Checked → Spot → Standing
+abbrev pub standingAfter : (k : Checked) (x : Spot) → Standing
 standingAfter Accepted x = standing x
 standingAfter (Refused e) x = declined (number e)
 
-unfoldable pub ask : State → ℕ → Standing
+unfoldable pub ask : (s : State) (p : ℕ) → Standing
 unfolding first heldChecks
 ask s p = standingAfter (first (heldChecks s p)) (spotAt s p)
-
--- ---- any calls, one after the other
-pub data Call : Type 0 where
-  puts : ℕ → ℕ → ℕ → List ℕ → Call
-  asks : ℕ → Call
-  withdraws : ℕ → Call
-  steps : Call
-  runs : ℕ → Call
-
-unfoldable pub after : State → Call → State
-unfolding put withdraw step run
-after s (puts p n m rows) = put s p n m rows
-after s (asks p) = s
-after s (withdraws p) = withdraw s p
-after s steps = step s
-after s (runs k) = run s k
-
-unfoldable pub afterAll : State → List Call → State
-unfolding after
-afterAll s [] = s
-afterAll s (c ∷ cs) = afterAll (after s c) cs
-
--- how many steps calls make
-unfoldable pub stepCount : List Call → ℕ
-stepCount [] = 0
-stepCount (puts p n m rows ∷ cs) = stepCount cs
-stepCount (asks p ∷ cs) = stepCount cs
-stepCount (withdraws p ∷ cs) = stepCount cs
-stepCount (steps ∷ cs) = suc (stepCount cs)
-stepCount (runs k ∷ cs) = k + stepCount cs
-
--- none of the calls withdraws the box of place q
-unfoldable pub keeps : ℕ → List Call → Bool
-keeps q [] = true
-keeps q (puts p n m rows ∷ cs) = keeps q cs
-keeps q (asks p ∷ cs) = keeps q cs
-keeps q (withdraws p ∷ cs) = elim (eqb p q) [ true ↦ false | false ↦ keeps q cs ]
-keeps q (steps ∷ cs) = keeps q cs
-keeps q (runs k ∷ cs) = keeps q cs

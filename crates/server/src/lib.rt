@@ -5,19 +5,22 @@ use refusals::Refusal;
 use refusals::Written;
 ghost use mathlib.Core.Path.{_≡_};
 ghost use mathlib.Core.List.{[], _∷_};
+ghost use mathlib.Core.Bool.{true};
 ghost use Prim.Native.Nat.{_≤_, _<_};
-ghost use lib.ListN.{length, take};
+ghost use lib.ListN.{length};
+ghost use Rattle.boolean.specs.Sums.{AnyContent};
 ghost use Rattle.boolean.specs.Selection.{best, lower, firstLeast, ranked};
-ghost use Rattle.refusals.specs.Table.{Box, first, replyAfter, written};
+ghost use Rattle.refusals.specs.Table.{Box, first, written};
 ghost use Rattle.walsh.specs.Work.{Spectra};
 ghost use Rattle.masks.specs.Masks.{outputs};
 ghost use Rattle.linear.specs.Nonlinearity.{pairsOf};
-ghost use Rattle.linear.specs.Calls.{candidate, Swept};
+ghost use Rattle.linear.specs.Work.{candidate, Swept};
 ghost use Rattle.server.specs.Model as model;
-ghost use Rattle.server.specs.Calls.{spot, state, answered, Sound, SoundPlace, Unexamined, Examined};
+ghost use Rattle.server.specs.Calls.{spot, state, answered, filled, foundOf, placeOf, replaced, better, oneMore};
+ghost use Rattle.server.specs.Calls.{Began, Put, Withdrew, Told, Stepped, Ran};
 
-// A place: a box with the number of its combinations that were examined and the best pair among exactly those, or, where `taken` is not 1, none. A
-// caller in C may hand in any number, so it is no bool.
+// A place: a box with the number of its combinations that were examined and the best pair among exactly those, or, where `taken` is not
+// 1, none. A caller in C may hand in any number, so it is no bool.
 #[repr(C)]
 pub struct Place {
     pub taken: u32,
@@ -50,7 +53,7 @@ pub enum Asked {
 
 // An empty place.
 fn vacant() -> Place
-    ensures { λ r. ⌜ (r .taken ≡ 1 → ⊥) ⌝ }
+    ensures { λ r. ⌜ r ≡ placeOf model.empty ⌝ }
 {
     let found = Found {
         count: 0,
@@ -70,15 +73,19 @@ fn vacant() -> Place
     }
 }
 
-// Whether a box stands there of which a combination is left.
+// Whether a box stands there of which a combination is left. A server that was made up may hold widths that no box has here: it is not
+// served for them, so that every server is soon done.
 fn unfinished(p: Place) -> bool
-    ensures { λ r. ⌜ (SoundPlace p → r ≡ model.unfinished (spot p)) ⌝ }
+    ensures { λ r. ⌜ r ≡ model.unfinished (spot p) ⌝ }
 {
     if p.taken != 1 {
         return false;
     }
+    if !refusals::in_range(1, 8, p.n) {
+        return false;
+    }
     let m = p.m;
-    if 16 < m {
+    if !refusals::in_range(1, 16, m) {
         return false;
     }
     let masks = boolean::power_of_two(m) as u32;
@@ -88,7 +95,7 @@ fn unfinished(p: Place) -> bool
 // The rows of a box, in an array for the most rows that a box has.
 fn padded(rows: &[u32]) -> [u32; 256]
     requires { ⌜ length (now rows) ≤ 256 ⌝ }
-    ensures { λ r. ⌜ take (length (now (rows .entry))) r ≡ now (rows .entry) ⌝ }
+    ensures { λ r. ⌜ r ≡ filled (now (rows .entry)) ⌝ }
 {
     let mut out = [0u32; 256];
     let mut i = 0;
@@ -101,8 +108,8 @@ fn padded(rows: &[u32]) -> [u32; 256]
 
 // A box of which no combination was examined, with a count that no pair has.
 fn fresh(n: u32, m: u32, rows: &[u32]) -> Place
-    requires { ⌜ Box n m (now rows) × (m ≤ 16) ⌝ }
-    ensures { λ r. ⌜ SoundPlace r × (spot r ≡ model.holds (model.analysis n m (now (rows .entry)) 0)) ⌝ }
+    requires { ⌜ Box n m (now rows) ⌝ }
+    ensures { λ r. ⌜ r ≡ placeOf (model.holds (model.analysis n m (now (rows .entry)) 0)) ⌝ }
 {
     let found = Found {
         count: rows.len() as u32 + 1,
@@ -133,16 +140,22 @@ fn with_arrays(
     values: &mut [i32],
 ) -> Found
     requires { ⌜ Swept n m (now rows) (now table) (now values) × Spectra (now fixed) ⌝ }
-    ensures { λ r. ⌜ candidate r ≡ best (ranked lower outputs) (candidate found) (firstLeast (pairsOf n (now (rows .entry)) c) ∷ []) ⌝ }
+    ensures pair { λ r. ⌜
+        candidate r ≡ best (ranked lower outputs) (candidate found) (firstLeast (pairsOf n (now (rows .entry)) c) ∷ [])
+        ⌝ }
+    ensures work { λ r. ⌜
+        AnyContent (now (table .entry)) (now (table .exit)) × AnyContent (now (values .entry)) (now (values .exit))
+        ⌝ }
 {
     linear::component_spectrum(fixed, n, m, rows, c, table, values);
     linear::with_spectrum(found, n, m, rows, c, values)
 }
 
-// The best pair so far, or the first nearest pair of component c. What is no box is left alone: a server that was not made by its calls may hold anything.
+// The better of the best pair so far and the first nearest pair of component c. What is no box is left alone: a server that was not made
+// by its calls may hold anything.
 fn with_component(fixed: &[i32; 2048], found: Found, n: u32, m: u32, rows: &[u32], c: u32) -> Found
     requires { ⌜ Spectra (now fixed) ⌝ }
-    ensures { λ r. ⌜ (Box n m (now (rows .entry)) → candidate r ≡ best (ranked lower outputs) (candidate found) (firstLeast (pairsOf n (now (rows .entry)) c) ∷ [])) ⌝ }
+    ensures { λ r. ⌜ r ≡ foundOf (better n m (now (rows .entry)) (candidate found) c) ⌝ }
 {
     if let Checked::Refused(_) = refusals::check_box(n, m, rows) {
         return found;
@@ -165,7 +178,7 @@ fn with_component(fixed: &[i32; 2048], found: Found, n: u32, m: u32, rows: &[u32
 // The next combination of an unfinished box is examined.
 fn examine(fixed: &[i32; 2048], p: Place) -> Place
     requires { ⌜ Spectra (now fixed) ⌝ }
-    ensures { λ r. ⌜ (Unexamined p → Examined p r) ⌝ }
+    ensures { λ r. ⌜ (model.unfinished (spot p) ≡ true → r ≡ oneMore p) ⌝ }
 {
     let n = p.n;
     let k = p.examined;
@@ -183,13 +196,14 @@ fn examine(fixed: &[i32; 2048], p: Place) -> Place
     if all.len() < size {
         return p;
     }
-    let found = with_component(fixed, old, n, m, &all[..size], k + 1);
+    let next = k + 1;
+    let found = with_component(fixed, old, n, m, &all[..size], next);
     Place {
         taken: 1,
         n,
         m,
         rows,
-        examined: k + 1,
+        examined: next,
         found,
     }
 }
@@ -197,11 +211,21 @@ fn examine(fixed: &[i32; 2048], p: Place) -> Place
 impl Server {
     // No box on any place.
     pub fn begin() -> Self
-        ensures { λ r. ⌜ Sound r × (state r ≡ model.start) ⌝ }
+        ensures { λ r. ⌜ Began r ⌝ }
     {
         let none = vacant();
         let places = [none; 8];
         Server { places, last: 0 }
+    }
+
+    // The server with another place at an index.
+    fn with_place(self, i: usize, p: Place) -> Self
+        requires { ⌜ i < 8 ⌝ }
+        ensures { λ r. ⌜ r ≡ replaced self i p ⌝ }
+    {
+        let mut server = self;
+        server.places[i] = p;
+        server
     }
 
     // The checks of asking and withdrawing: a place of the server, and a box on it.
@@ -221,7 +245,7 @@ impl Server {
 
     // Whether a box is finished, and its nonlinearity with the first pair that reaches it.
     pub fn ask(self, place: u32) -> Asked
-        ensures { λ r. ⌜ (Sound self → answered r ≡ model.ask (state self) place) ⌝ }
+        ensures { λ r. ⌜ Told self place (answered r) ⌝ }
     {
         if let Checked::Refused(e) = self.check_held(place) {
             return Asked::Declined(e);
@@ -242,9 +266,7 @@ impl Server {
 
     // Takes the box off a place.
     pub fn withdraw(self, place: u32) -> Served
-        ensures kept { λ r. ⌜ (Sound self → Sound (r .server)) ⌝ }
-        ensures reply { λ r. ⌜ written (r .answer) ≡ replyAfter (first (model.heldChecks (state self) place)) [] ⌝ }
-        ensures content { λ r. ⌜ state (r .server) ≡ model.withdraw (state self) place ⌝ }
+        ensures { λ r. ⌜ Withdrew self place (written (r .answer)) (r .server) ⌝ }
     {
         if let Checked::Refused(reason) = self.check_held(place) {
             return Served {
@@ -253,8 +275,8 @@ impl Server {
             };
         }
         let i = (place - 1) as usize;
-        let mut cleared = self;
-        cleared.places[i] = vacant();
+        let none = vacant();
+        let cleared = self.with_place(i, none);
         Served {
             server: cleared,
             answer: Written::Done,
@@ -278,9 +300,7 @@ impl Server {
 
     // Puts a box on a place. No combination of it is examined yet.
     pub fn put(self, place: u32, n: u32, m: u32, rows: &[u32]) -> Served
-        ensures kept { λ r. ⌜ (Sound self → Sound (r .server)) ⌝ }
-        ensures reply { λ r. ⌜ written (r .answer) ≡ replyAfter (first (model.putChecks (state self) place n m (now (rows .entry)))) [] ⌝ }
-        ensures content { λ r. ⌜ state (r .server) ≡ model.put (state self) place n m (now (rows .entry)) ⌝ }
+        ensures { λ r. ⌜ Put self place n m (now (rows .entry)) (written (r .answer)) (r .server) ⌝ }
     {
         if let Checked::Refused(e) = self.check_put(place, n, m, rows) {
             return Served {
@@ -289,8 +309,8 @@ impl Server {
             };
         }
         let i = (place - 1) as usize;
-        let mut filled = self;
-        filled.places[i] = fresh(n, m, rows);
+        let with_box = fresh(n, m, rows);
+        let filled = self.with_place(i, with_box);
         Served {
             server: filled,
             answer: Written::Done,
@@ -299,7 +319,7 @@ impl Server {
 
     // The next place after the one last served, in a circle, whose box is unfinished, and 0 where there is none.
     fn next_place(self) -> u32
-        ensures { λ r. ⌜ (r ≤ 8) × (Sound self → r ≡ model.served (state self)) ⌝ }
+        ensures { λ r. ⌜ (r ≤ 8) × (r ≡ model.served (state self)) ⌝ }
     {
         let start = self.last % 8;
         let mut k = 0;
@@ -318,20 +338,20 @@ impl Server {
     // Examines one combination of the box on a place, whose turn it is.
     fn serve(self, fixed: &[i32; 2048], place: u32) -> Self
         requires { ⌜ Spectra (now fixed) × (0 < place) × (place ≤ 8) ⌝ }
-        ensures { λ r. ⌜ (Sound self → place ≡ model.served (state self) → Sound r × (state r ≡ model.step (state self))) ⌝ }
+        ensures { λ r. ⌜ (place ≡ model.served (state self) → Stepped self r) ⌝ }
     {
         let before = place - 1;
         let i = before as usize;
         let here = self.places[i];
-        let mut server = self;
-        server.places[i] = examine(fixed, here);
+        let examined = examine(fixed, here);
+        let mut server = self.with_place(i, examined);
         server.last = place;
         server
     }
 
     // Examines one combination, not examined before, of the next unfinished box; with none unfinished it does nothing.
     pub fn step(self) -> Self
-        ensures { λ r. ⌜ (Sound self → Sound r × (state r ≡ model.step (state self))) ⌝ }
+        ensures { λ r. ⌜ Stepped self r ⌝ }
     {
         let turn = self.next_place();
         if turn == 0 {
@@ -343,7 +363,7 @@ impl Server {
 
     // So many steps, one after the other. It stops where none is unfinished, since a step then does nothing.
     pub fn run(self, budget: u32) -> Self
-        ensures { λ r. ⌜ (Sound self → Sound r × (state r ≡ model.run (state self) budget)) ⌝ }
+        ensures { λ r. ⌜ Ran self budget r ⌝ }
     {
         let fixed = walsh::spectra();
         let mut server = self;

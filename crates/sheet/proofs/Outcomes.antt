@@ -1,13 +1,13 @@
 -- What comes of a line, from what its call replied. Assumes nothing.
-use Prim.Native.Nat.{ℕ}
+use Prim.Native.Nat.{ℕ, _≤_, _<_}
 use Prim.Native.String.{String}
-use mathlib.Core.Path.{_≡_, ap, _∙_}
+use mathlib.Core.Path.{_≡_, sym, ap, _∙_}
 use mathlib.Core.List.{List, [], _∷_, _++_, append-assoc, append-nil}
-use borrow.Author.Tests.{eq-eqb, ne-eqb}
+use borrow.Author.Tests.{le-leb, lt-leb, eq-eqb, ne-eqb}
 use Rattle.boolean.specs.Sums.{each}
 use Rattle.refusals.specs.Table.{Reply, figures, refusal}
 use Rattle.texts.specs.Text.{bytes, spaced, line}
-use Rattle.sheet.specs.Sheet.{numbers, limited, decided, prints, stops, outcome, yesOrNo, bicLine}
+use Rattle.sheet.specs.Sheet.{numbers, limited, decided, prints, stops, outcome, yesOrNo, sheetLimit, bicLine}
 use Rattle.avalanche.specs.Calls.{distanceReply}
 
 -- a line without figures is its word and the line's end
@@ -49,6 +49,15 @@ module _ (word : String) (ask : ℕ → Reply) {i limit : ℕ} (same : i ≡ lim
   pub limited-shown : {given : List ℕ} → ask i ≡ figures given → outcome (limited word (ask limit) limit) ≡ prints (line (bytes word) (given ++ (i ∷ [])))
   unfolding outcome
   limited-shown h = rw (← same, h, ← same)
+
+-- the limit on combinations, up to 16 outputs and above
+pub limit-all : (m : ℕ) → m ≤ 16 → m ≡ sheetLimit m
+unfolding sheetLimit
+limit-all m h = sym (rw (le-leb m 16 h))
+
+pub limit-four : (m : ℕ) → 16 < m → 4 ≡ sheetLimit m
+unfolding sheetLimit
+limit-four m h = sym (rw (lt-leb m 16 h))
 
 -- the sixth line: with m = 1 there is no figure, and else it shows one
 module _ (n m : ℕ) (rows : List ℕ) where

@@ -1,5 +1,5 @@
 -- The whole sheet, from what reading the file replied. Assumes nothing.
-use Prim.Native.Nat.{ℕ, _+_, _^_, _≤_}
+use Prim.Native.Nat.{ℕ, _+_}
 use mathlib.Core.Path.{_≡_, refl, sym, ap, _∙_}
 use mathlib.Core.List.{List, [], _∷_, _++_}
 use native.Mathlib.Omega.{arith}
@@ -11,12 +11,12 @@ use Rattle.refusals.specs.Table.{first, figures, refusal, replyAfter, contentAf
 use Rattle.refusals.specs.declared.Checked.{Checked}
 use Rattle.refusals.specs.declared.Checked.the-variants.{Accepted, Refused}
 use Rattle.refusals.proofs.Checks.{content-accepted}
-use Rattle.boxfile.specs.File.{rowsOf, fileChecks}
-use Rattle.boxfile.specs.Work.{Room}
+use Rattle.boxfile.specs.File.{rowsOf, fileChecks, roomOf, fileFound}
+use Rattle.boxfile.proofs.FileRoom.{room-same}
 use Rattle.texts.specs.Text.{bytes, line}
 use Rattle.texts.proofs.Lengths.{line-few}
 use Rattle.sheet.specs.Sheet.{untilRefused, sheetLines, fileReply, sheetText}
-use Rattle.sheet.specs.Work.{Printed}
+use Rattle.sheet.specs.Work.{Printed, SheetWritten}
 
 -- a call that replied figures was accepted, and these are what it gives
 pub reply-figures : (k : Checked) {given shows : List ℕ} → replyAfter k given ≡ figures shows → (k ≡ Accepted) × (shows ≡ given)
@@ -24,18 +24,22 @@ reply-figures Accepted h = (refl, cc)
 reply-figures (Refused e) h = (cc, cc)
 
 module _ (file : List ℕ) where
-  -- the reply with a room that suits the file's checks
-  pub reply-with-room : {room : ℕ} → Room file room → replyAfter (first (fileChecks file room)) (at file 0 ∷ at file 1 ∷ []) ≡ fileReply file
+  pub read-accepted : {shows : List ℕ} → fileReply file ≡ figures shows → (fileFound file ≡ Accepted) × (shows ≡ at file 0 ∷ at file 1 ∷ [])
   unfolding fileReply
-  reply-with-room t = ap (λ (k : Checked). replyAfter k (at file 0 ∷ at file 1 ∷ [])) (t .same)
+  read-accepted h = reply-figures (fileFound file) h
 
-  pub read-accepted : {shows : List ℕ} → fileReply file ≡ figures shows → (first (fileChecks file (2 ^ at file 0)) ≡ Accepted) × (shows ≡ at file 0 ∷ at file 1 ∷ [])
-  unfolding fileReply
-  read-accepted h = reply-figures (first (fileChecks file (2 ^ at file 0))) h
+  -- what the checks find with the room that the file asks for, and with it the reply and the rows
+  module _ {room : ℕ} (asked : room ≡ roomOf file) where
+    found-with-room : first (fileChecks file room) ≡ fileFound file
+    found-with-room = ap (λ (k : ℕ). first (fileChecks file k)) asked ∙ room-same file
 
-  pub rows-with-room : {room : ℕ} {shows : List ℕ} → Room file room → fileReply file ≡ figures shows → (old : List ℕ)
-      → contentAfter (first (fileChecks file room)) (rowsOf file (at file 0)) old ≡ rowsOf file (at file 0)
-  rows-with-room t h old = sym (content-accepted (t .same ∙ read-accepted h .0) (rowsOf file (at file 0)) old)
+    pub reply-with-room : replyAfter (first (fileChecks file room)) (at file 0 ∷ at file 1 ∷ []) ≡ fileReply file
+    unfolding fileReply
+    reply-with-room = ap (λ (k : Checked). replyAfter k (at file 0 ∷ at file 1 ∷ [])) found-with-room
+
+    pub rows-with-room : {shows : List ℕ} → fileReply file ≡ figures shows → (old : List ℕ)
+        → contentAfter (first (fileChecks file room)) (rowsOf file (at file 0)) old ≡ rowsOf file (at file 0)
+    rows-with-room h old = sym (content-accepted (found-with-room ∙ read-accepted h .0) (rowsOf file (at file 0)) old)
 
   -- the sheet of a refused file, and of one that is read
   pub sheet-refused : {k : ℕ} → fileReply file ≡ refusal k → sheetText file ≡ line (bytes "refused") (k ∷ [])
@@ -48,18 +52,19 @@ module _ (file : List ℕ) where
   sheet-read h = rw (h, sheetText)
 
   -- the text that the sheet stands in from its start on
-  abbrev pub Sheet : ℕ → List ℕ → List ℕ → Type 0
-  Sheet r old new = (r ≡ length (sheetText file)) × (r ≤ 332) × (new ≡ sets old 0 (sheetText file))
-
   pub wrote-refused : (old : List ℕ) {k r : ℕ} {new : List ℕ} → fileReply file ≡ refusal k → r ≡ 0 + length (line (bytes "refused") (k ∷ []))
-      → new ≡ sets old 0 (line (bytes "refused") (k ∷ [])) → Sheet r old new
+      → new ≡ sets old 0 (line (bytes "refused") (k ∷ [])) → SheetWritten file old r new
   wrote-refused old {k} {r} h p q =
       let whole = sheet-refused h in
-      (omega (arith, ap length whole), omega (arith, line-few (bytes "refused") (k ∷ [])), q ∙ ap (sets old 0) (sym whole))
+      record {
+        size = omega (arith, ap length whole);
+        inside = omega (arith, line-few (bytes "refused") (k ∷ []));
+        text = q ∙ ap (sets old 0) (sym whole);
+      }
 
   pub wrote-box : (old : List ℕ) {n m : ℕ} {rows : List ℕ} {next r : ℕ} {middle new : List ℕ} → fileReply file ≡ figures (n ∷ m ∷ []) → rows ≡ rowsOf file (at file 0)
       → next ≡ 0 + length (line (bytes "box") (n ∷ m ∷ [])) → middle ≡ sets old 0 (line (bytes "box") (n ∷ m ∷ []))
-      → Printed (sheetLines n m rows) 306 next middle r new → Sheet r old new
+      → Printed (sheetLines n m rows) 306 next middle r new → SheetWritten file old r new
   wrote-box old {n} {m} {rows} h rows-are p q t =
       let widths = read-accepted h .1 in
       let n-is : n ≡ at file 0 = ap (λ (l : List ℕ). getD l 0 0) widths in
@@ -68,8 +73,9 @@ module _ (file : List ℕ) where
       let both = stored-more (stored-more (stored-none 0 old) (line (bytes "box") (n ∷ m ∷ [])) p q) (untilRefused (sheetLines n m rows)) (t .place) (t .text) in
       let whole : line (bytes "box") (n ∷ m ∷ []) ++ untilRefused (sheetLines n m rows) ≡ sheetText file =
       ap (λ (ls : _). line (bytes "box") (n ∷ m ∷ []) ++ untilRefused ls) lines ∙ sym (sheet-read h) in
-      let long = line-few (bytes "box") (n ∷ m ∷ []) in (
-        omega (arith, both .place, ap length whole),
-        omega (arith, t .place, t .short),
-        both .stored ∙ ap (sets old 0) whole,
-      )
+      let long = line-few (bytes "box") (n ∷ m ∷ []) in
+      record {
+        size = omega (arith, both .place, ap length whole);
+        inside = omega (arith, t .place, t .short);
+        text = both .stored ∙ ap (sets old 0) whole;
+      }

@@ -1,33 +1,30 @@
 -- What can be relied on of the sheets. Assumes nothing.
 use Prim.Native.Nat.{ℕ, _+_, _*_, _^_, _≤_, _<_}
 use mathlib.Core.Path.{_≡_, refl, sym, ap, ap₂, _∙_}
-use mathlib.Core.Bool.{Bool, true, false, cond}
+use mathlib.Core.Bool.{Bool, true, false}
 use mathlib.Core.List.{List, [], _∷_, _++_, List·Memᴰ, List·Memᴰ·not-nil}
 use native.Mathlib.Nat.{le-refl}
 use native.Mathlib.Omega.{arith}
-use borrow.Author.Tests.{eqb-false, ne-eqb, le-leb, leb-false}
+use borrow.Author.Tests.{eqb-false, ne-eqb, le-leb, leb-true, leb-false}
 use lib.Dec.{eqb, leb, lit≤}
 use lib.ListN.{length, take}
 use lib.Pow.{pow-mono}
-use lib.Seq.{getD-take, length-take-le}
+use lib.Seq.{getD-take, length-take-le, take-all}
 use Rattle.boolean.specs.Sums.{each}
 use Rattle.boolean.specs.Functions.{at}
-use Rattle.boolean.specs.Selection.{shown}
 use Rattle.boolean.proofs.Selection.{of-cons}
-use Rattle.refusals.specs.Table.{first, inRange, boxChecks, limitChecks, Box, figures, refusal, asFigure}
+use Rattle.refusals.specs.Table.{first, inRange, boxChecks, limitChecks, Box, figures, refusal}
 use Rattle.refusals.specs.declared.Checked.the-variants.{Accepted}
 use Rattle.refusals.proofs.Bounds.{range-high, range-true}
 use Rattle.refusals.proofs.Checks.{found, found-after, skip, stop, end, box-accepted, limit-accepted, reply-refused, reply-accepted}
-use Rattle.linear.specs.Nonlinearity.{nonlinearity, nonlinearityReply}
-use Rattle.differential.specs.XorTable.{largestCell}
-use Rattle.avalanche.specs.Avalanche.{boxAutocorrelation, dynamicDistance, complete}
+use Rattle.linear.specs.Nonlinearity.{nonlinearityReply}
 use Rattle.avalanche.specs.Calls.{distanceChecks, autocorrelationReply}
-use Rattle.algebraic.specs.Algebraic.{boxDegree, bijective}
 use Rattle.algebraic.specs.Calls.{boxDegreeReply}
 use Rattle.boxfile.specs.File.{rowsOf, readChecks, fileChecks, fileFound}
 use Rattle.boxfile.proofs.FileRows.{box-of-file}
 use Rattle.texts.specs.Text.{bytes, line}
-use Rattle.sheet.specs.Sheet.{Line, prints, stops, outcome, yesOrNo, untilRefused, sheetLimit, bicLine, sheetLines, fileReply, sheetText}
+use Rattle.sheet.specs.Sheet.{Line, prints, stops, outcome, untilRefused, sheetLimit, bicLine, sheetLines, fileReply, sheetText}
+use Rattle.sheet.specs.Statements.{bicText, textsOf, longNumber}
 use Rattle.sheet.proofs.Outcomes.{numbers-shown, limited-shown, decided-shown}
 use Rattle.sheet.proofs.Printing.{until-prints}
 use Rattle.sheet.proofs.Sheets.{read-accepted, sheet-refused, sheet-read}
@@ -36,7 +33,6 @@ use Rattle.sheet.proofs.Sheets.{read-accepted, sheet-refused, sheet-rea
 
 -- the box of a file that is read is accepted
 box-read : (file : List ℕ) {shows : List ℕ} → fileReply file ≡ figures shows → Box (at file 0) (at file 1) (rowsOf file (at file 0))
-unfolding fileFound
 box-read file h = box-of-file file (read-accepted file h .0)
 
 -- the limit of the sheet is one that a box of m outputs has
@@ -62,19 +58,6 @@ print-each : {ls : List Line} {texts : List (List ℕ)} → Print ls texts → (
 print-each none l i = absurd (List·Memᴰ·not-nil i)
 print-each (more h t) l i = of-cons (λ (k : Line). outcome k ≡ stops → ⊥) (λ e. let z : _≡_ {A = ℕ} 0 1 = cc in omega arith) (λ j. print-each t l j) i
 
--- the texts of a box's lines after the first, where no figure is refused
-abbrev pub textsOf : ℕ → ℕ → List ℕ → List (List ℕ)
-textsOf n m rows =
-    line (bytes "nonlinearity") (shown (nonlinearity n m rows (sheetLimit m)) ++ (sheetLimit m ∷ []))
-    ∷ line (bytes "xor") (shown (largestCell n m rows))
-    ∷ line (bytes "autocorrelation") (shown (boxAutocorrelation n m rows (sheetLimit m)) ++ (sheetLimit m ∷ []))
-    ∷ line (bytes "sac") (shown (dynamicDistance n m rows 1 1))
-    ∷ cond (eqb m 1) (line (bytes "bic none") []) (line (bytes "bic") (shown (dynamicDistance n m rows 2 1)))
-    ∷ line (bytes "degree") (shown (boxDegree n m rows (sheetLimit m)) ++ (sheetLimit m ∷ []))
-    ∷ line (bytes "complete" ++ yesOrNo (asFigure (complete n m rows))) []
-    ∷ line (bytes "bijective" ++ yesOrNo (asFigure (bijective n m rows))) []
-    ∷ []
-
 module _ (n m : ℕ) (rows : List ℕ) (b : Box n m rows) where
   all-accepted : first (boxChecks n m rows) ≡ Accepted
   all-accepted = box-accepted n m rows b
@@ -90,14 +73,11 @@ module _ (n m : ℕ) (rows : List ℕ) (b : Box n m rows) where
   order-accepted i j i-low i-high j-low j-high =
       sym (found-after (boxChecks n m rows) all-accepted (skip (range-true 1 m i i-low i-high) (skip (range-true 1 n j j-low j-high) end)))
 
-  abbrev bicText : List ℕ
-  bicText = cond (eqb m 1) (line (bytes "bic none") []) (line (bytes "bic") (shown (dynamicDistance n m rows 2 1)))
-
-  bic-printed : outcome (bicLine n m rows) ≡ prints bicText
+  bic-printed : outcome (bicLine n m rows) ≡ prints (bicText n m rows)
   unfolding outcome
   bic-printed = by (eqb m 1) refl
     where
-      by : (one : Bool) → eqb m 1 ≡ one → outcome (bicLine n m rows) ≡ prints bicText
+      by : (one : Bool) → eqb m 1 ≡ one → outcome (bicLine n m rows) ≡ prints (bicText n m rows)
       by true e = rw e
       by false e =
           let two : 2 ≤ m = omega (arith, b .m-low, eqb-false m 1 e) in
@@ -132,10 +112,6 @@ nine-lines file h =
 
 -- ---- a file that is too long
 
--- the number of a file that is longer than that of any box: what n and m say, and else 10
-abbrev pub longNumber : ℕ → ℕ → ℕ
-longNumber n m = cond (inRange 1 8 n) (cond (inRange 1 32 m) 10 2) 1
-
 -- no box has a file of 1,027 bytes or more
 too-long : (file : List ℕ) → 1027 ≤ length file → inRange 1 8 (at file 0) ≡ true → eqb (length file) (2 + 4 * 2 ^ at file 0) ≡ false
 too-long file long h =
@@ -145,7 +121,7 @@ too-long file long h =
 
 -- A file of 1,027 bytes or more is refused, and by its first two bytes alone.
 pub long-file-refused : (file : List ℕ) → 1027 ≤ length file → fileReply file ≡ refusal (longNumber (at file 0) (at file 1))
-unfolding fileReply fileChecks readChecks
+unfolding fileReply fileFound fileChecks readChecks
 long-file-refused file long = by (inRange 1 8 (at file 0)) (inRange 1 32 (at file 1)) refl refl
   where
     two : leb 2 (length file) ≡ true
@@ -162,13 +138,18 @@ long-file-refused file long = by (inRange 1 8 (at file 0)) (inRange 1 32 (at fil
         let inputs : longNumber (at file 0) (at file 1) ≡ 1 = rw p in
         sym (reply-refused (sym (found (skip two (stop p)))) _) ∙ ap refusal (sym inputs)
 
--- What a file of 1,027 bytes or more has past them changes nothing: the program may stop reading there.
-pub only-the-start-matters : (file : List ℕ) → 1027 ≤ length file → sheetText (take 1027 file) ≡ sheetText file
-only-the-start-matters file long =
-    let start = take 1027 file in
-    let start-long : 1027 ≤ length start = omega (arith, length-take-le 1027 file long) in
-    let n-same : at start 0 ≡ at file 0 = getD-take 1027 file 0 0 (omega arith) in
-    let m-same : at start 1 ≡ at file 1 = getD-take 1027 file 1 0 (omega arith) in
-    sheet-refused start (long-file-refused start start-long)
-    ∙ ap₂ (λ (n m : ℕ). line (bytes "refused") (longNumber n m ∷ [])) n-same m-same
-    ∙ sym (sheet-refused file (long-file-refused file long))
+-- What a file of 1,027 bytes or more has past them changes nothing: a program that reads so many bytes of a file, or more, has read enough of any file.
+pub enough-is-read : (file : List ℕ) (k : ℕ) → 1027 ≤ k → sheetText (take k file) ≡ sheetText file
+enough-is-read file k low = by (leb (length file) k) refl
+  where
+    by : (t : Bool) → leb (length file) k ≡ t → sheetText (take k file) ≡ sheetText file
+    by true e = ap sheetText (take-all k file (leb-true (length file) k e))
+    by false e =
+        let more : k < length file = leb-false (length file) k e in
+        let start = take k file in
+        let start-long : 1027 ≤ length start = omega (arith, length-take-le k file (omega arith)) in
+        let n-same : at start 0 ≡ at file 0 = getD-take k file 0 0 (omega arith) in
+        let m-same : at start 1 ≡ at file 1 = getD-take k file 1 0 (omega arith) in
+        sheet-refused start (long-file-refused start start-long)
+        ∙ ap₂ (λ (n m : ℕ). line (bytes "refused") (longNumber n m ∷ [])) n-same m-same
+        ∙ sym (sheet-refused file (long-file-refused file (omega arith)))

@@ -1,16 +1,16 @@
 -- Document 01, "One sheet in full": the lines of the sheet of a box file, each with what its call replies, and where the sheet stops.
-use Prim.Native.Nat.{ℕ, _^_}
+use Prim.Native.Nat.{ℕ}
 use Prim.Native.String.{String}
 use mathlib.Core.Bool.{cond}
 use mathlib.Core.List.{List, [], _∷_, _++_}
 use lib.Dec.{eqb, leb}
 use Rattle.boolean.specs.Functions.{at}
-use Rattle.refusals.specs.Table.{Reply, figures, refusal, replyAfter, first}
+use Rattle.refusals.specs.Table.{Reply, figures, refusal, replyAfter}
 use Rattle.linear.specs.Nonlinearity.{nonlinearityReply}
 use Rattle.differential.specs.Calls.{xorReply}
 use Rattle.avalanche.specs.Calls.{autocorrelationReply, distanceReply, completeReply}
 use Rattle.algebraic.specs.Calls.{boxDegreeReply, bijectiveReply}
-use Rattle.boxfile.specs.File.{rowsOf, fileChecks}
+use Rattle.boxfile.specs.File.{rowsOf, fileFound}
 use Rattle.texts.specs.Text.{bytes, line}
 
 -- A line of the sheet: how it shows the reply of its call.
@@ -54,11 +54,11 @@ unfoldable pub sheetLimit : ℕ → ℕ
 sheetLimit m = cond (leb m 16) m 4
 
 -- the sixth line: the dynamic distance of order (2, 1); with m = 1 there is none
-abbrev pub bicLine : ℕ → ℕ → List ℕ → Line
+abbrev pub bicLine : (n m : ℕ) (rows : List ℕ) → Line
 bicLine n m rows = cond (eqb m 1) (fixed "bic none") (numbers "bic" (distanceReply n m rows 2 1))
 
 -- the lines after the first, in the document's order
-unfoldable pub sheetLines : ℕ → ℕ → List ℕ → List Line
+unfoldable pub sheetLines : (n m : ℕ) (rows : List ℕ) → List Line
 sheetLines n m rows =
     limited "nonlinearity" (nonlinearityReply n m rows (sheetLimit m)) (sheetLimit m)
     ∷ numbers "xor" (xorReply n m rows)
@@ -71,9 +71,9 @@ sheetLines n m rows =
     ∷ []
 
 -- what reading the file into an array that is as long as its rows replies: n and m, or the number of the refusal
-unfoldable pub fileReply : List ℕ → Reply
-unfolding fileChecks
-fileReply file = replyAfter (first (fileChecks file (2 ^ at file 0))) (at file 0 ∷ at file 1 ∷ [])
+unfoldable pub fileReply : (file : List ℕ) → Reply
+unfolding fileFound
+fileReply file = replyAfter (fileFound file) (at file 0 ∷ at file 1 ∷ [])
 
 -- The whole sheet of a file: the line of the widths and the lines of its box; a refused file has one line, and no other.
 unfoldable pub sheetText : List ℕ → List ℕ

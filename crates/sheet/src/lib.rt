@@ -8,10 +8,10 @@ use refusals::Verdict;
 ghost use mathlib.Core.Path.{_≡_};
 ghost use Prim.Native.Nat.{_+_, _≤_};
 ghost use lib.ListN.{length, drop};
-ghost use lib.Seq.{sets};
-ghost use Rattle.sheet.specs.Sheet.{sheetLimit, sheetLines, sheetText};
-ghost use Rattle.boxfile.specs.Work.{Room};
-ghost use Rattle.sheet.specs.Work.{Printed};
+ghost use Rattle.boolean.specs.Sums.{AnyContent};
+ghost use Rattle.boxfile.specs.File.{roomOf};
+ghost use Rattle.sheet.specs.Sheet.{sheetLimit, sheetLines};
+ghost use Rattle.sheet.specs.Work.{Printed, SheetWritten};
 
 // The limit on combinations with which the sheet asks for its figures: all outputs up to 16 of them, and 4 above.
 fn limit_of(m: u32) -> u32
@@ -134,8 +134,9 @@ fn write_from_nonlinearity(n: u32, m: u32, rows: &[u32], text: &mut [u8], at: us
 
 // The sheet of a file, whose rows are read to an array that has room for them.
 fn write_read(file: &[u8], rows: &mut [u32], text: &mut [u8]) -> usize
-    requires { ⌜ Room (now file) (length (now rows)) × (332 ≤ length (now text)) ⌝ }
-    ensures { λ r. ⌜ (r ≡ length (sheetText (now (file .entry)))) × (r ≤ 332) × (now (text .exit) ≡ sets (now (text .entry)) 0 (sheetText (now (file .entry)))) ⌝ }
+    requires { ⌜ (length (now rows) ≡ roomOf (now file)) × (332 ≤ length (now text)) ⌝ }
+    ensures { λ r. ⌜ SheetWritten (now (file .entry)) (now (text .entry)) r (now (text .exit))
+        × AnyContent (now (rows .entry)) (now (rows .exit)) ⌝ }
 {
     let answer = boxfile::read_box(file, rows);
     let BoxFile::Read { n, m } = answer else {
@@ -150,7 +151,7 @@ fn write_read(file: &[u8], rows: &mut [u32], text: &mut [u8]) -> usize
 
 // Writes the sheet of a box file at the start of the lent text, and answers how many bytes it has.
 pub fn write_sheet(file: &[u8], text: &mut [u8; 332]) -> usize
-    ensures { λ r. ⌜ (r ≡ length (sheetText (now (file .entry)))) × (r ≤ 332) × (now (text .exit) ≡ sets (now (text .entry)) 0 (sheetText (now (file .entry)))) ⌝ }
+    ensures { λ r. ⌜ SheetWritten (now (file .entry)) (now (text .entry)) r (now (text .exit)) ⌝ }
 {
     let mut rows = [0u32; 256];
     let size = boxfile::room_of(file);

@@ -2,13 +2,15 @@
 // Then it writes the inverse of some values that are given here.
 use libc::STDOUT_FILENO;
 use refusals::Written;
+ghost use mathlib.Core.Path.{_≡_};
 ghost use Prim.Native.Nat.{_≤_};
 ghost use lib.ListN.{length};
+ghost use Rattle.spectra.specs.Reading.{lineEnd, widthOf, digitOf, digitsOf};
 
 // Where the line that starts at `from` ends.
 fn line_end(text: &[u8], from: usize) -> usize
     requires { ⌜ from ≤ length (now text) ⌝ }
-    ensures { λ r. ⌜ (from ≤ r) × (r ≤ length (now (text .entry))) ⌝ }
+    ensures { λ r. ⌜ (r ≡ lineEnd (now (text .entry)) from) × (from ≤ r) × (r ≤ length (now (text .entry))) ⌝ }
 {
     let mut at = from;
     while at < text.len() {
@@ -22,7 +24,7 @@ fn line_end(text: &[u8], from: usize) -> usize
 
 // The largest width whose tables are no longer than this; 0 where there is none, and 8 at most.
 fn width_of(length: usize) -> u32
-    ensures { λ r. ⌜ r ≤ 8 ⌝ }
+    ensures { λ r. ⌜ r ≡ widthOf length ⌝ }
 {
     let mut n: u32 = 0;
     while n < 8 {
@@ -35,12 +37,16 @@ fn width_of(length: usize) -> u32
 }
 
 // A digit's value; what is no digit has a value above 1 too.
-fn digit(byte: u8) -> u8 {
+fn digit(byte: u8) -> u8
+    ensures { λ r. ⌜ r ≡ digitOf byte ⌝ }
+{
     if byte < b'0' { 255 } else { byte - b'0' }
 }
 
+// The values of as many digits as the table has places.
 fn read_digits(text: &[u8], table: &mut [u8])
     requires { ⌜ length (now table) ≤ length (now text) ⌝ }
+    ensures { λ _. ⌜ now (table .exit) ≡ digitsOf (now (text .entry)) (length (now (table .entry))) ⌝ }
 {
     let mut x = 0;
     while x < table.len() {
@@ -130,8 +136,8 @@ fn show_lines(text: &[u8]) {
     }
 }
 
-// Document 01's cases 4, 5 and 6, in the values of document 02's Request 9; values that no sum could hold, a value above half of the inputs, the
-// doubled values of case 4, and a width and a length that are refused.
+// Document 01's cases 4, 5 and 6, in the values of document 02's Request 9; values that no sum could hold, a value above half of the
+// inputs, the doubled values of case 4, and a width and a length that are refused.
 fn show_values() {
     show_function(2, &[1i32, 1, 1, -1]);
     show_function(2, &[1i32, 1, 1, 1]);

@@ -9,10 +9,10 @@ use Rattle.boolean.specs.Functions.{swapped}
 use Rattle.boolean.specs.Selection.{Candidate, shown}
 use Rattle.refusals.specs.Table.{Box, figures, refusal}
 use Rattle.refusals.proofs.Checks.{limit-accepted, reply-accepted}
-use Rattle.linear.specs.Calls.{candidate}
+use Rattle.linear.specs.Work.{candidate}
 use Rattle.linear.specs.Nonlinearity.{nonlinearity, nonlinearityReply}
 use Rattle.linear.specs.declared.Found.{Found}
-use Rattle.linear.proofs.Theorems.{reached}
+use Rattle.linear.proofs.Theorems.{nonlinearity-reached}
 use Rattle.swaps.specs.Swaps.{Swap, figureOf, swaps, shownSwap, raised}
 use Rattle.swaps.specs.Calls.{SearchedIn}
 use Rattle.swaps.specs.declared.Searched.{Searched}

@@ -12,11 +12,11 @@ use Rattle.boolean.specs.Functions.{at, component, distance, Within, swapped}
 use Rattle.boolean.specs.Selection.{Candidate}
 use Rattle.boolean.proofs.Members.{if-kept}
 use Rattle.refusals.specs.Table.{Box}
-use Rattle.linear.specs.Calls.{candidate}
+use Rattle.linear.specs.Work.{candidate}
 use Rattle.linear.specs.Nonlinearity.{nonlinearity}
 use Rattle.linear.specs.Statements.{IsPair}
 use Rattle.linear.specs.declared.Found.{Found}
-use Rattle.linear.proofs.Theorems.{least, reached}
+use Rattle.linear.proofs.Theorems.{nonlinearity-least, nonlinearity-reached}
 use Rattle.swaps.specs.Swaps.{Swap, figureOf, swapAt, firstOf, raises}
 use Rattle.swaps.specs.Calls.{Tried, Passed, moves}
 use Rattle.swaps.proofs.Apart.{pair-stays}
@@ -29,7 +29,7 @@ module _ {n m : ℕ} {rows : List ℕ} (box : Box n m rows) {present : Found} (p
 
   pub witness : IsPair n m m (present .c) (present .w) (present .b) × (figureOf n m rows ≡ distance n (component rows (present .c)) (present .w) (present .b))
   witness =
-      let t = reached n m rows m (box .m-low) (box .m-low) in
+      let t = nonlinearity-reached n m rows m (box .m-low) (box .m-low) in
       let same = present-is ∙ t .4 in
       let p : t .0 ≡ present .c = sym (ap (λ (p : Candidate). at (p .witness) 0) same) in
       let q : t .1 ≡ present .w = sym (ap (λ (p : Candidate). at (p .witness) 1) same) in
@@ -57,7 +57,7 @@ module _ {n m : ℕ} {rows : List ℕ} (box : Box n m rows) {present : Found} (p
     unfolding raises
     pair-fails hl hh e =
         let t = witness in
-        let near = least n m (swapped rows low high) m (present .c) (present .w) (present .b) (t .0) in
+        let near = nonlinearity-least n m (swapped rows low high) m (present .c) (present .w) (present .b) (t .0) in
         let stays = pair-stays n rows (box .size) (present .c) (present .w) (present .b) (t .0 .b-high) low high hl hh e in
         le-ltb (figureOf n m rows) (figureOf n m (swapped rows low high)) (omega (arith, t .1))
 

@@ -3,9 +3,10 @@
 use mathlib.Core.Path.{_≡_, refl, sym, ap, ap₂, _∙_}
 use mathlib.Core.Logic.{_↔_, _⊎_, inl, inr}
 use mathlib.Core.Bool.{Bool, true, false}
-use mathlib.Core.List.{List, [], _∷_, List·Memᴰ, List·Memᴰ·not-nil}
+use mathlib.Core.List.{List, [], _∷_, List·Memᴰ, List·Memᴰ·tail, List·Memᴰ·not-nil}
 use Prim.Native.Nat.{ℕ, suc, _+_, _*_, _-_, _^_, _<_, _≤_}
 use native.Mathlib.Nat.{mul-le-mul-right, suc-mul}
+use native.Mathlib.Decide.{decLt}
 use native.Mathlib.Omega.{arith}
 use borrow.Author.Tests.{ltb-true, ltb-false, le-ltb, eqb-true}
 use lib.Bits.{bitXor}
@@ -21,7 +22,7 @@ use Rattle.refusals.specs.Table.{Box, boxChecksUpTo, first, figures}
 use Rattle.refusals.specs.declared.Checked.the-variants.{Accepted}
 use Rattle.refusals.proofs.Checks.{box-up-to, reply-accepted}
 use Rattle.swaps.specs.Swaps.{Swap, figureOf, figureAfter, swapAt, swapsFrom, swapsBy, swaps, raises, firstOf, shownSwap, raised, raisingReply}
-use Rattle.swaps.specs.Statements.{IsSwap, rowDistance, Before, FirstRaising}
+use Rattle.swaps.specs.Statements.{IsSwap, rowDistance, Before, InOrder, FirstRaising}
 use Rattle.swaps.proofs.Firsts.{first-takes, first-skips, first-none, none-first, first-is}
 use Rattle.swaps.proofs.Members.{mem-swapsFrom, mem-swapsBy, mem-swaps, in-swaps, first-mem}
 
@@ -41,6 +42,26 @@ module _ (n : ℕ) (rows : List ℕ) where
   before-rank t s p q (inr (inl l)) =
       omega (arith, ap (λ (d : ℕ). d * (2 ^ n * 2 ^ n)) (l .0), suc-mul (t .low) (2 ^ n), mul-le-mul-right (2 ^ n) (l .1))
   before-rank t s p q (inr (inr l)) = omega (arith, ap (λ (d : ℕ). d * (2 ^ n * 2 ^ n)) (l .0), ap (λ (d : ℕ). d * 2 ^ n) (l .1))
+
+  -- and back: of two numbers the lower is that of the swap that comes before
+  rank-before : (t s : Swap) → s .low < 2 ^ n → s .high < 2 ^ n → rank t < rank s → Before rows t s
+  rank-before t s p q l =
+      by-distance (decLt (rowDistance rows t) (rowDistance rows s)) (decLt (rowDistance rows s) (rowDistance rows t))
+    where
+      not-after : Before rows s t → Before rows t s
+      not-after b = absurd (omega (arith, before-rank s t p q b))
+
+      by-low : rowDistance rows t ≡ rowDistance rows s → Dec (t .low < s .low) → Dec (s .low < t .low) → Before rows t s
+      by-low d (yes h) k = inr (inl (d, h))
+      by-low d (no h) (yes k) = not-after (inr (inl (sym d, k)))
+      by-low d (no h) (no k) =
+          let e : t .low ≡ s .low = omega arith in
+          inr (inr (d, e, omega (arith, ap (λ (z : ℕ). z * (2 ^ n * 2 ^ n)) d, ap (λ (z : ℕ). z * 2 ^ n) e)))
+
+      by-distance : Dec (rowDistance rows t < rowDistance rows s) → Dec (rowDistance rows s < rowDistance rows t) → Before rows t s
+      by-distance (yes h) k = inl h
+      by-distance (no h) (yes k) = not-after (inl k)
+      by-distance (no h) (no k) = by-low (omega arith) (decLt (t .low) (s .low)) (decLt (s .low) (t .low))
 
   mem-swapAt : (d low high : ℕ) (s : Swap) → List·Memᴰ s (swapAt rows d low high) → (s .low ≡ low) × (s .high ≡ high) × (rowDistance rows s ≡ d)
   unfolding swapAt
@@ -80,7 +101,7 @@ module _ (n : ℕ) (rows : List ℕ) where
       let u = mem-swapsFrom n 0 rows d l s k in
       omega (arith, ap (λ (z : ℕ). z * (2 ^ n * 2 ^ n)) (u .3), ap (λ (z : ℕ). z * 2 ^ n) (u .0), u .2, suc-mul l (2 ^ n)))
 
-  pub ascending-swaps : (m : ℕ) → Ascending rank (swaps n m rows)
+  ascending-swaps : (m : ℕ) → Ascending rank (swaps n m rows)
   unfolding swaps
   ascending-swaps m =
       ascending-blocks 0 (2 ^ n * 2 ^ n) (λ d. d) rank (listFrom 1 m (λ d. d)) (swapsBy n rows)
@@ -88,6 +109,20 @@ module _ (n : ℕ) (rows : List ℕ) where
       (λ d k s j.
       let u = mem-swapsBy n m rows d s j in
       omega (arith, ap (λ (z : ℕ). z * (2 ^ n * 2 ^ n)) (u .2), both-below (s .low) (s .high) (omega (arith, u .0, u .1)) (u .1), suc-mul d (2 ^ n * 2 ^ n)))
+
+  in-order : (list : List Swap) → ((s : Swap) → List·Memᴰ s list → IsSwap n rows s) → Ascending rank list → InOrder rows list
+  in-order [] h a = tt
+  in-order (s ∷ list) h a = (
+    λ t k.
+        let u = h t (List·Memᴰ·tail k) in
+        let low : t .low < 2 ^ n = omega (arith, u .ordered, u .inside) in
+        rank-before s t low (u .inside) (a .0 t k),
+    in-order list (λ t k. h t (List·Memᴰ·tail k)) (a .1),
+  )
+
+  -- "Swaps are ordered by how many bits the two rows differ in, then by the lower input, then by the higher.": the list that is searched is
+  pub swaps-in-order : (m : ℕ) → InOrder rows (swaps n m rows)
+  swaps-in-order m = in-order (swaps n m rows) (mem-swaps n m rows) (ascending-swaps m)
 
 -- ---- the reply of an accepted box
 module _ (n m : ℕ) (rows : List ℕ) (accepted : first (boxChecksUpTo 8 n m rows) ≡ Accepted) where

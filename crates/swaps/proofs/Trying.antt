@@ -13,7 +13,7 @@ use Rattle.boolean.specs.Functions.{Within, swapped}
 use Rattle.boolean.specs.Selection.{firstLeast}
 use Rattle.boolean.proofs.Components.{whole-within}
 use Rattle.refusals.specs.Table.{Box}
-use Rattle.linear.specs.Calls.{Swept}
+use Rattle.linear.specs.Work.{Swept}
 use Rattle.linear.specs.Nonlinearity.{pairsOf}
 use Rattle.linear.specs.declared.Found.{Found}
 use Rattle.linear.proofs.Theorems.{component-least, component-reached}

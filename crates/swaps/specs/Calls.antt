@@ -9,7 +9,7 @@ use lib.ListN.{length}
 use Rattle.boolean.specs.Bits.{affine}
 use Rattle.boolean.specs.Functions.{Within}
 use Rattle.refusals.specs.Table.{Reply, figures, refusal, number, Box}
-use Rattle.linear.specs.Calls.{candidate}
+use Rattle.linear.specs.Work.{candidate}
 use Rattle.linear.specs.Nonlinearity.{nonlinearity}
 use Rattle.linear.specs.declared.Found.{Found}
 use Rattle.swaps.specs.Swaps.{Swap, figureOf, firstOf, raises}

@@ -10,14 +10,15 @@ ghost use lib.Bits.{bitXor};
 ghost use lib.Count.{ones};
 ghost use lib.ListN.{length};
 ghost use Rattle.boolean.specs.Functions.{component, swapped, Within};
+ghost use Rattle.boolean.specs.Sums.{AnyContent};
 ghost use Rattle.refusals.specs.Table.{figures, Box};
 ghost use Rattle.walsh.specs.Work.{Spectra};
 ghost use Rattle.linear.specs.Nonlinearity.{nonlinearity};
-ghost use Rattle.linear.specs.Calls.{candidate, Swept};
+ghost use Rattle.linear.specs.Work.{candidate, Swept};
 ghost use Rattle.swaps.specs.Swaps.{figureOf, swapAt, swapsFrom, swapsBy, swaps, raised, raisingReply};
 ghost use Rattle.swaps.specs.Calls.{raisingSwap, moves, Searching, Tried, Passed, SearchedIn};
 
-// The answer of the call.
+// The answer of the call: both inputs and the new figure, none, or a refusal.
 pub enum RaisingSwap {
     Raised { low: u32, high: u32, figure: u32 },
     NoSwap,
@@ -25,11 +26,11 @@ pub enum RaisingSwap {
 }
 
 // What a part of the search found, and the component to try first next time.
-pub struct Searched {
-    pub found: bool,
-    pub low: usize,
-    pub high: usize,
-    pub hint: u32,
+struct Searched {
+    found: bool,
+    low: usize,
+    high: usize,
+    hint: u32,
 }
 
 // The rows after a swap.
@@ -42,8 +43,8 @@ fn write_swapped(rows: &[u32], low: usize, high: usize, out: &mut [u32])
     out[high] = rows[low];
 }
 
-// 0, where the nonlinearity is above a count. Or else a component with a pair of that count or less, found as soon as there is one: the component
-// `hint` is tried before the others.
+// 0, where the nonlinearity is above a count. Or else a component with a pair of that count or less, found as soon as there is one: the
+// component `hint` is tried before the others. The two arrays are lent to work in.
 fn reaching(
     fixed: &[i32; 2048],
     n: u32,
@@ -55,7 +56,8 @@ fn reaching(
     out: &mut [i32],
 ) -> u32
     requires { ⌜ Swept n m (now rows) (now bits) (now out) × Spectra (now fixed) × Within m (2 ^ m) hint × (m ≤ 8) ⌝ }
-    ensures { λ r. ⌜ Tried n m (now (rows .entry)) count r ⌝ }
+    ensures { λ r. ⌜ Tried n m (now (rows .entry)) count r
+        × AnyContent (now (bits .entry)) (now (bits .exit)) × AnyContent (now (out .entry)) (now (out .exit)) ⌝ }
 {
     if linear::component_count(fixed, n, m, rows, hint, bits, out) <= count {
         return hint;
@@ -78,8 +80,8 @@ fn differing(a: u32, b: u32) -> u32
     u32::count_ones(a ^ b)
 }
 
-// Whether a swap takes the present pair apart: it agrees at both inputs, and its component's values there are unlike. No other swap raises the
-// nonlinearity.
+// Whether a swap takes the present pair apart: it agrees at both inputs, and its component's values there are unlike. No other swap raises
+// the nonlinearity.
 fn pair_moves(rows: &[u32], pair: Found, low: usize, high: usize) -> bool
     requires { ⌜ (low < length (now rows)) × (high < length (now rows)) × (length (now rows) ≤ 256) ⌝ }
     ensures { λ r. ⌜ r ≡ moves (component (now (rows .entry)) (pair .c)) (pair .w) (pair .b) low high ⌝ }
@@ -100,8 +102,8 @@ fn pair_moves(rows: &[u32], pair: Found, low: usize, high: usize) -> bool
     at_low != at_high
 }
 
-// One swap, if its rows differ in d bits: 0 where it raises the nonlinearity, or else the component to try first next time. The test that turns most
-// swaps down comes first.
+// One swap, if its rows differ in d bits: 0 where it raises the nonlinearity, or else the component to try first next time. The test that
+// turns most swaps down comes first.
 fn try_swap(
     fixed: &[i32; 2048],
     n: u32,
@@ -116,8 +118,11 @@ fn try_swap(
     bits: &mut [u8],
     out: &mut [i32],
 ) -> u32
-    requires { ⌜ Searching n m (now rows) pair (now work) (now bits) (now out) × Spectra (now fixed) × Within m (2 ^ m) hint × (low < 2 ^ n) × (high < 2 ^ n) ⌝ }
-    ensures { λ r. ⌜ Passed n m (now (rows .entry)) (swapAt (now (rows .entry)) d low high) low high r ⌝ }
+    requires { ⌜ Searching n m (now rows) pair (now work) (now bits) (now out) × Spectra (now fixed) × Within m (2 ^ m) hint
+        × (low < 2 ^ n) × (high < 2 ^ n) ⌝ }
+    ensures { λ r. ⌜ Passed n m (now (rows .entry)) (swapAt (now (rows .entry)) d low high) low high r
+        × AnyContent (now (work .entry)) (now (work .exit)) × AnyContent (now (bits .entry)) (now (bits .exit))
+        × AnyContent (now (out .entry)) (now (out .exit)) ⌝ }
 {
     if !pair_moves(rows, pair, low, high) {
         return hint;
@@ -144,8 +149,11 @@ fn search_from(
     bits: &mut [u8],
     out: &mut [i32],
 ) -> Searched
-    requires { ⌜ Searching n m (now rows) pair (now work) (now bits) (now out) × Spectra (now fixed) × Within m (2 ^ m) start × (low < 2 ^ n) ⌝ }
-    ensures { λ r. ⌜ SearchedIn n m (now (rows .entry)) (swapsFrom n (now (rows .entry)) d low) r ⌝ }
+    requires { ⌜ Searching n m (now rows) pair (now work) (now bits) (now out) × Spectra (now fixed) × Within m (2 ^ m) start
+        × (low < 2 ^ n) ⌝ }
+    ensures { λ r. ⌜ SearchedIn n m (now (rows .entry)) (swapsFrom n (now (rows .entry)) d low) r
+        × AnyContent (now (work .entry)) (now (work .exit)) × AnyContent (now (bits .entry)) (now (bits .exit))
+        × AnyContent (now (out .entry)) (now (out .exit)) ⌝ }
 {
     let mut hint = start;
     let mut high = low + 1;
@@ -184,7 +192,9 @@ fn search_by(
     out: &mut [i32],
 ) -> Searched
     requires { ⌜ Searching n m (now rows) pair (now work) (now bits) (now out) × Spectra (now fixed) × Within m (2 ^ m) start ⌝ }
-    ensures { λ r. ⌜ SearchedIn n m (now (rows .entry)) (swapsBy n (now (rows .entry)) d) r ⌝ }
+    ensures { λ r. ⌜ SearchedIn n m (now (rows .entry)) (swapsBy n (now (rows .entry)) d) r
+        × AnyContent (now (work .entry)) (now (work .exit)) × AnyContent (now (bits .entry)) (now (bits .exit))
+        × AnyContent (now (out .entry)) (now (out .exit)) ⌝ }
 {
     let mut hint = start;
     let mut low = 0;
@@ -217,7 +227,9 @@ fn search(
     out: &mut [i32],
 ) -> Searched
     requires { ⌜ Searching n m (now rows) pair (now work) (now bits) (now out) × Spectra (now fixed) × Within m (2 ^ m) start ⌝ }
-    ensures { λ r. ⌜ SearchedIn n m (now (rows .entry)) (swaps n m (now (rows .entry))) r ⌝ }
+    ensures { λ r. ⌜ SearchedIn n m (now (rows .entry)) (swaps n m (now (rows .entry))) r
+        × AnyContent (now (work .entry)) (now (work .exit)) × AnyContent (now (bits .entry)) (now (bits .exit))
+        × AnyContent (now (out .entry)) (now (out .exit)) ⌝ }
 {
     let mut hint = start;
     let mut d = 1;
@@ -240,7 +252,8 @@ fn search(
 // The answer for a swap that was found. (The rows after it are a box, so they have a nonlinearity.)
 fn finish(n: u32, m: u32, rows: &[u32], low: usize, high: usize, other: &mut [u32]) -> RaisingSwap
     requires { ⌜ Box n m (now rows) × (length (now other) ≡ 2 ^ n) × (low < 2 ^ n) × (high < 2 ^ n) ⌝ }
-    ensures { λ r. ⌜ raisingSwap r ≡ figures (1 ∷ low ∷ high ∷ figureOf n m (swapped (now (rows .entry)) low high) ∷ []) ⌝ }
+    ensures { λ r. ⌜ (raisingSwap r ≡ figures (1 ∷ low ∷ high ∷ figureOf n m (swapped (now (rows .entry)) low high) ∷ []))
+        × (now (other .exit) ≡ swapped (now (rows .entry)) low high) ⌝ }
 {
     write_swapped(rows, low, high, other);
     let later = linear::nonlinearity(n, m, other, m);
@@ -285,8 +298,9 @@ fn search_box(n: u32, m: u32, rows: &[u32], pair: Found) -> RaisingSwap
     finish(n, m, rows, low, high, &mut later[..size])
 }
 
-// The first swap of two unlike rows that raises the nonlinearity over all combinations: by the number of bits in which the rows differ, the lower
-// input, then the higher.
+// The first swap of two unlike rows that raises the nonlinearity over all combinations, by the number of bits in which the rows differ, the
+// lower input, then the higher; or that there is none. At most eight outputs are taken. (An accepted box has a nonlinearity, so the branch
+// without one is never taken.)
 pub fn raising_swap(n: u32, m: u32, rows: &[u32]) -> RaisingSwap
     ensures { λ r. ⌜ raisingSwap r ≡ raisingReply n m (now (rows .entry)) ⌝ }
 {

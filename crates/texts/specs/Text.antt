@@ -13,7 +13,7 @@ bytes empty = []
 bytes (c then s) = code c ∷ bytes s
 
 -- the decimal digits of n, of at most d digits
-unfoldable pub within : ℕ → ℕ → List ℕ
+unfoldable pub within : (d n : ℕ) → List ℕ
 within zero n = []
 within (suc d) n = elim (ltb n 10) [ true ↦ ((48 + n) ∷ []) | false ↦ (within d (n / 10) ++ ((48 + n % 10) ∷ [])) ]
 
@@ -30,6 +30,6 @@ unfolding each
 spaced figures = each figures spacedFigure
 
 -- a line: the word, the figures, each after a space, and the line's end
-unfoldable pub line : List ℕ → List ℕ → List ℕ
+unfoldable pub line : (word figures : List ℕ) → List ℕ
 unfolding spaced
 line word figures = word ++ spaced figures ++ bytes "\n"

@@ -40,7 +40,8 @@ fn put_figure(out: &mut [u8], at: usize, figure: u32) -> usize
 // Figures, each after a space, and the place after them.
 fn put_figures(out: &mut [u8], at: usize, figures: &[u32]) -> usize
     requires { ⌜ at + 11 * length (now figures) ≤ length (now out) ⌝ }
-    ensures { λ r. ⌜ (r ≡ at + length (spaced (now (figures .entry)))) × (now (out .exit) ≡ sets (now (out .entry)) at (spaced (now (figures .entry)))) ⌝ }
+    ensures { λ r. ⌜ (r ≡ at + length (spaced (now (figures .entry))))
+        × (now (out .exit) ≡ sets (now (out .entry)) at (spaced (now (figures .entry)))) ⌝ }
 {
     let mut next = at;
     let mut i = 0;
@@ -54,7 +55,8 @@ fn put_figures(out: &mut [u8], at: usize, figures: &[u32]) -> usize
 // A line of a word and figures, and the place after it.
 pub fn put_line(out: &mut [u8], at: usize, word: &[u8], figures: &[u32]) -> usize
     requires { ⌜ at + length (now word) + 11 * length (now figures) + 1 ≤ length (now out) ⌝ }
-    ensures { λ r. ⌜ (r ≡ at + length (line (now (word .entry)) (now (figures .entry)))) × (now (out .exit) ≡ sets (now (out .entry)) at (line (now (word .entry)) (now (figures .entry)))) ⌝ }
+    ensures { λ r. ⌜ (r ≡ at + length (line (now (word .entry)) (now (figures .entry))))
+        × (now (out .exit) ≡ sets (now (out .entry)) at (line (now (word .entry)) (now (figures .entry)))) ⌝ }
 {
     let after_word = put_bytes(out, at, word);
     let end = put_figures(out, after_word, figures);

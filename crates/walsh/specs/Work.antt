@@ -8,7 +8,7 @@ use Rattle.boolean.specs.Functions.{valueAt, approximation}
 use Rattle.refusals.specs.Table.{Table}
 
 -- the function of three inputs with the number t: its value at x is bit x of t, counted from 0
-unfoldable pub numbered : ℕ → ℕ → ℕ
+unfoldable pub numbered : (t x : ℕ) → ℕ
 numbered t x = t / 2 ^ x % 2
 
 -- the fixed table's rule: entry 8t + w is the spectrum value at w of the function with the number t
@@ -16,9 +16,10 @@ pub record Spectra (fixed : List ℤ) : Type 0 where
   pub rule : (k : ℕ) → k < 2048 → valueAt fixed k ≡ approximation 3 (numbered (k / 8)) (k % 8)
 
 -- the array, with the four entries of the fixed table from one place on written to it from the other place on
-unfoldable pub withFour : List ℤ → ℕ → List ℤ → ℕ → List ℤ
+unfoldable pub withFour : (out : List ℤ) (to : ℕ) (fixed : List ℤ) (from : ℕ) → List ℤ
 withFour out to fixed from =
-    set (set (set (set out to (valueAt fixed from)) (to + 1) (valueAt fixed (from + 1))) (to + 2) (valueAt fixed (from + 2))) (to + 3) (valueAt fixed (from + 3))
+    set (set (set (set out to (valueAt fixed from)) (to + 1) (valueAt fixed (from + 1))) (to + 2) (valueAt fixed (from + 2)))
+    (to + 3) (valueAt fixed (from + 3))
 
 -- an accepted truth table, and an array that is as long
 pub record Ready (n : ℕ) (table : List ℕ) (out : List ℤ) : Type 0 where

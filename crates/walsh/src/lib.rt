@@ -1,4 +1,5 @@
-// The spectrum of a truth table, and the truth table of a spectrum. A spectrum holds the linear approximation values: each is half of the Walsh value.
+// The spectrum of a truth table, and the truth table of a spectrum. A spectrum holds the linear approximation values: each is half of the
+// Walsh value.
 mod fixed;
 
 use refusals::Checked;
@@ -14,8 +15,8 @@ ghost use Rattle.boolean.specs.Bits.{dot};
 ghost use Rattle.boolean.specs.Sums.{countBelow, listBelow, every};
 ghost use Rattle.boolean.specs.Functions.{at, valueAt, signBit, inverse};
 ghost use Rattle.boolean.specs.Functions as functions;
-ghost use Rattle.refusals.specs.Table.{tableCallChecks, first, replyAfter, contentAfter, written, Table};
-ghost use Rattle.walsh.specs.Calls.{inverseLengths, functionCheck, inverseChecks};
+ghost use Rattle.refusals.specs.Table.{first, Wrote, written, Table};
+ghost use Rattle.walsh.specs.Calls.{inverseLengths, functionCheck, SpectrumCalled, InverseCalled};
 ghost use Rattle.walsh.specs.Work.{numbered, withFour, Spectra, Ready, Halves, Crossed, Summable, Invertible};
 
 // A byte as an index.
@@ -68,7 +69,8 @@ fn by_table(fixed: &[i32; 2048], table: &[u8], out: &mut [i32])
 // One spectrum value by its definition: the number of inputs where the table equals w·x, less half of all inputs.
 fn value(table: &[u8], w: u32) -> i32
     requires { ⌜ length (now table) ≤ 256 ⌝ }
-    ensures { λ r. ⌜ r ≡ pos (countBelow (length (now (table .entry))) (λ x. eqb (at (now (table .entry)) x) (dot w x))) -ℤ pos (length (now (table .entry)) / 2) ⌝ }
+    ensures { λ r. ⌜ r ≡ pos (countBelow (length (now (table .entry))) (λ x. eqb (at (now (table .entry)) x) (dot w x)))
+        -ℤ pos (length (now (table .entry)) / 2) ⌝ }
 {
     let size = table.len() as u32;
     let mut count: u32 = 0;
@@ -159,7 +161,7 @@ fn transform_of_four(values: &mut [i32])
     butterfly(values, 2);
 }
 
-// The same of eight values.
+// The transform of eight values: that of each half, and then the halves crossed.
 fn transform_of_eight(values: &mut [i32])
     requires { ⌜ Summable 3 (now values) ⌝ }
     ensures { λ _. ⌜ now (values .exit) ≡ listBelow (2 ^ 3) (λ w. functions.transform 3 (valueAt (now (values .entry))) w) ⌝ }
@@ -169,7 +171,8 @@ fn transform_of_eight(values: &mut [i32])
     butterfly(values, 4);
 }
 
-// The same of sixteen. The lengths are written out, so that all of it compiles to sums and differences, with neither a loop nor a call.
+// The transform of sixteen values, likewise. The lengths are written out, so that all of it compiles to sums and differences, with neither
+// a loop nor a call.
 fn transform_of_sixteen(values: &mut [i32])
     requires { ⌜ Summable 4 (now values) ⌝ }
     ensures { λ _. ⌜ now (values .exit) ≡ listBelow (2 ^ 4) (λ w. functions.transform 4 (valueAt (now (values .entry))) w) ⌝ }
@@ -179,8 +182,8 @@ fn transform_of_sixteen(values: &mut [i32])
     butterfly(values, 8);
 }
 
-// The Walsh-Hadamard transform of any integers that are small enough, in place. Halves are cut until sixteen values are left, or, where there
-// were fewer, until one is left, which is its own transform.
+// The Walsh-Hadamard transform of any integers that are small enough, in place. Halves are cut until sixteen values are left, or, where
+// there were fewer, until one is left, which is its own transform.
 pub fn transform(n: u32, values: &mut [i32])
     requires { ⌜ Summable n (now values) ⌝ }
     ensures { λ _. ⌜ now (values .exit) ≡ listBelow (2 ^ n) (λ w. functions.transform n (valueAt (now (values .entry))) w) ⌝ }
@@ -197,8 +200,7 @@ pub fn transform(n: u32, values: &mut [i32])
 
 // The spectrum of a truth table.
 pub fn spectrum(n: u32, table: &[u8], out: &mut [i32]) -> Written
-    ensures reply { λ r. ⌜ written r ≡ replyAfter (first (tableCallChecks n (now (table .entry)) (length (now (out .entry))))) [] ⌝ }
-    ensures content { λ r. ⌜ now (out .exit) ≡ contentAfter (first (tableCallChecks n (now (table .entry)) (length (now (out .entry))))) (functions.spectrum n (at (now (table .entry)))) (now (out .entry)) ⌝ }
+    ensures { λ r. ⌜ SpectrumCalled n (now (table .entry)) (now (out .entry)) r (now (out .exit)) ⌝ }
 {
     if let Checked::Refused(e) = refusals::check_table_call(n, table, out.len()) {
         return Written::Declined(e);
@@ -281,8 +283,8 @@ fn check_lengths(n: u32, count: usize, room: usize) -> Checked
 // the transform is 2^(n−1) or −2^(n−1) everywhere.
 fn invert(n: u32, values: &[i32], work: &mut [i32], table: &mut [u8]) -> Written
     requires { ⌜ Invertible n (now values) (now work) (now table) ⌝ }
-    ensures reply { λ r. ⌜ written r ≡ replyAfter (first (functionCheck n (now (values .entry)))) [] ⌝ }
-    ensures content { λ r. ⌜ now (table .exit) ≡ contentAfter (first (functionCheck n (now (values .entry)))) (listBelow (2 ^ n) (λ x. inverse n (valueAt (now (values .entry))) x)) (now (table .entry)) ⌝ }
+    ensures inverted { λ r. ⌜ Wrote (functionCheck n (now (values .entry))) []
+        (listBelow (2 ^ n) (λ x. inverse n (valueAt (now (values .entry))) x)) (now (table .entry)) (written r) (now (table .exit)) ⌝ }
     ensures transformed { λ r. ⌜ now (work .exit) ≡ listBelow (2 ^ n) (λ x. functions.transform n (valueAt (now (values .entry))) x) ⌝ }
 {
     copy(values, work);
@@ -297,8 +299,7 @@ fn invert(n: u32, values: &[i32], work: &mut [i32], table: &mut [u8]) -> Written
 // The truth table of a spectrum, or the refusal where no function has the values. Values outside −2^(n−1) to 2^(n−1) are refused
 // before any are added.
 pub fn inverse_spectrum(n: u32, values: &[i32], table: &mut [u8]) -> Written
-    ensures reply { λ r. ⌜ written r ≡ replyAfter (first (inverseChecks n (now (values .entry)) (length (now (table .entry))))) [] ⌝ }
-    ensures content { λ r. ⌜ now (table .exit) ≡ contentAfter (first (inverseChecks n (now (values .entry)) (length (now (table .entry))))) (listBelow (2 ^ n) (λ x. inverse n (valueAt (now (values .entry))) x)) (now (table .entry)) ⌝ }
+    ensures { λ r. ⌜ InverseCalled n (now (values .entry)) (now (table .entry)) r (now (table .exit)) ⌝ }
 {
     if let Checked::Refused(e) = check_lengths(n, values.len(), table.len()) {
         return Written::Declined(e);

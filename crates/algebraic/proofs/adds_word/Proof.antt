@@ -1,6 +1,5 @@
 -- `algebraic::adds_word` meets its contract: past the inputs the word is 0, which is even everywhere. Assumes nothing.
-use mathlib.Core.Path.{refl, sym, ap, _∙_, subst}
-use mathlib.Core.List.{List}
+use mathlib.Core.Path.{refl, ap, _∙_, subst}
 use Prim.Native.Nat.{ℕ}
 use native.Mathlib.Omega.{arith}
 use borrow.Author.Needs.{needs}
@@ -8,7 +7,7 @@ use lib.ListN.{List·getD-eq-default}
 use Rattle.boolean.specs.Bits.{dot}
 use Rattle.boolean.specs.Functions.{at}
 use Rattle.boolean.proofs.Dots.{dot-zero}
-use Rattle.algebraic.specs.Calls.{PutIn}
+use Rattle.algebraic.specs.Work.{PutIn}
 use Rattle.algebraic.proofs.adds_word.Statement.{statement}
 use Rattle.algebraic.proofs.adds_word.Tie as tie
 

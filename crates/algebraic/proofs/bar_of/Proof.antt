@@ -1,19 +1,16 @@
--- `algebraic::bar_of` meets its contract: the count of ones says which case it is. Assumes nothing.
-use mathlib.Core.Path.{refl}
-use mathlib.Core.Logic.{inl, inr}
+-- `algebraic::bar_of` meets its contract: the count of ones says which case it is.
+use mathlib.Core.Path.{sym}
 use native.Mathlib.Omega.{arith}
 use borrow.Author.Needs.{needs}
+use Rattle.algebraic.proofs.Preferring.{bar-single, bar-several}
 use Rattle.algebraic.proofs.bar_of.Statement.{statement}
 use Rattle.algebraic.proofs.bar_of.Tie as tie
 
-add-result : tie.Need-add-result
-add-result c = search needs
-
 returns : tie.Need-returns
-returns c = inr (refl, c .if1 .taken)
+returns c = sym (bar-single _ _ (c .if1 .taken))
 
 returns-2 : tie.Need-returns-2
-returns-2 c = inl (omega arith)
+returns-2 c = sym (bar-several _ _ (omega (arith, c .if1 .left)))
 
 pub bar-of-spec : {M : Type 1} → statement M
-bar-of-spec = tie.close (tie.spec add-result returns returns-2)
+bar-of-spec = tie.close (tie.spec (λ c. search needs) returns returns-2)

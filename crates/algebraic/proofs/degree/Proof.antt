@@ -46,7 +46,7 @@ weakest-of-requires c κs = let l = within (c .before .before) in (l .box, l .i-
 returns-2 : tie.Need-returns-2
 returns-2 c =
     let swept = c .before .before in
-    ap (λ (k : Candidate). figures (shown k)) (swept .weakest-of .ensures) ∙ reply-accepted (accepted (swept .before .before .before)) _
+    ap (λ (k : Candidate). figures (shown k)) (swept .weakest-of .ensures .0) ∙ reply-accepted (accepted (swept .before .before .before)) _
 
 pub degree-spec : {M : Type 1} → statement M
 degree-spec =

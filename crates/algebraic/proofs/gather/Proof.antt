@@ -1,13 +1,13 @@
 -- `algebraic::gather` meets its contract: each turn passes one input of the table or puts it after those gathered. Assumes nothing.
-use mathlib.Core.Path.{_≡_, refl, sym, ap, _∙_, subst}
+use mathlib.Core.Path.{refl, sym, _∙_, subst}
 use mathlib.Core.Logic.{⊎-elim}
-use mathlib.Core.Bool.{Bool, true, false}
-use Prim.Native.Nat.{ℕ, _+_, _-_, _<_, _≤_}
+use mathlib.Core.Bool.{Bool}
+use Prim.Native.Nat.{_+_, _-_}
 use native.Mathlib.Omega.{arith}
 use borrow.Author.Needs.{needs}
 use lib.ListN.{set, length-take}
 use Rattle.boolean.specs.Functions.{at}
-use Rattle.algebraic.specs.Calls.{PutIn}
+use Rattle.algebraic.specs.Work.{PutIn}
 use Rattle.algebraic.proofs.Gathering.{Gathering, gathering-none, gathering-passed, gathering-put, gathering-all, gathering-full, zeroes, none-zero}
 use Rattle.algebraic.proofs.gather.Statement.{statement}
 use Rattle.algebraic.proofs.gather.Tie as tie

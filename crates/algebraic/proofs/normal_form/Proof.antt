@@ -1,5 +1,5 @@
 -- `algebraic::normal_form` meets its contract: what the checks found says which case it is, in the reply and in the array. Assumes nothing.
-use mathlib.Core.List.{List, []}
+use mathlib.Core.List.{List}
 use mathlib.Core.Path.{_≡_, sym, _∙_}
 use Prim.Native.Nat.{ℕ, _^_, _≤_}
 use native.Mathlib.Omega.{arith}
@@ -10,7 +10,8 @@ use lib.Pow.{pow-mono}
 use lib.Seq.{length-take-le}
 use Rattle.refusals.specs.Table.{tableCallChecks, first, tableChecks, Table}
 use Rattle.refusals.specs.declared.Checked.the-variants.{Accepted}
-use Rattle.refusals.proofs.Checks.{passed, accepted-after, table, reply-refused, reply-accepted, content-refused, content-accepted}
+use Rattle.refusals.proofs.Checks.{passed, accepted-after, table}
+use Rattle.refusals.proofs.Outcomes.{wrote-refused, wrote-accepted}
 use Rattle.algebraic.proofs.normal_form.Statement.{statement}
 use Rattle.algebraic.proofs.normal_form.Tie as tie
 
@@ -21,9 +22,7 @@ enum-known-e : tie.Need-enum-known-e
 enum-known-e c = search needs
 
 returns : tie.Need-returns
-returns c =
-    let h = sym (c .before .before .before .check-table-call .ensures) ∙ c .before .e .given .1 in
-    (reply-refused h [], content-refused h _ _)
+returns c = wrote-refused (sym (c .before .before .before .check-table-call .ensures) ∙ c .before .e .given .1)
 
 enum-told : tie.Need-enum-told
 enum-told c = search needs
@@ -69,8 +68,7 @@ same-length c = search needs
 returns-2 : tie.Need-returns-2
 returns-2 c =
     let written = c .before .before .before in
-    let h = accepted (written .before .before .before) in
-    (reply-accepted h [], written .write-form .ensures ∙ content-accepted h _ _)
+    wrote-accepted (accepted (written .before .before .before)) (written .write-form .ensures .0)
 
 pub normal-form-spec : {M : Type 1} → statement M
 normal-form-spec =

@@ -1,6 +1,6 @@
 -- `algebraic::put_in` meets its contract: what is left of the word falls below one place after the other, until a place is free or nothing is left.
 -- Assumes nothing.
-use mathlib.Core.Path.{_≡_, refl, ap, _∙_}
+use mathlib.Core.Path.{_≡_, refl, sym, ap, _∙_}
 use mathlib.Core.List.{List}
 use Prim.Native.Nat.{ℕ, _-_, _≤_}
 use native.Mathlib.Omega.{arith}
@@ -47,7 +47,10 @@ element-write-basis c = omega (arith, inside (c .before .before .before))
 returns : tie.Need-returns Inv-loop μ-loop
 returns c = let in-loop = c .before .before .before in
     let at-loop = in-loop .before in
-    rw (at-loop .loop .inv .0) (reducing-placed (at-loop .loop .inv .1) (in-loop .loop-test .taken) (c .before .before .if1 .taken))
+    let same = at-loop .loop .inv .0 in
+    rw same
+    (reducing-placed (at-loop .loop .inv .1) (in-loop .loop-test .taken) (c .before .before .if1 .taken)
+    (ap (λ (l : List ℕ). at l (at-loop .loop .place - 1)) (sym same) ∙ c .if2 .taken))
 
 loop-less : tie.Need-loop-less Inv-loop μ-loop
 loop-less c = omega (arith, inside (c .before .before .before))

@@ -5,7 +5,7 @@ use native.Mathlib.Nat.{lt-of-lt-of-le}
 use native.Mathlib.Omega.{arith}
 use lib.Pow.{pow-mono}
 use borrow.Author.Needs.{needs}
-use Rattle.algebraic.specs.Calls.{candidate}
+use Rattle.algebraic.specs.Work.{candidate}
 use Rattle.algebraic.proofs.Sweeping.{Meeting, first-walk, meeting-starts, meeting-next, meeting-walk, meeting-low, sweep-ends}
 use Rattle.algebraic.proofs.sweep.Statement.{statement}
 use Rattle.algebraic.proofs.sweep.Tie as tie
@@ -83,8 +83,11 @@ loop-again c =
 returns : tie.Need-returns Inv-loop μ-loop
 returns c =
     let at-loop = c .before .before in
-    let power = at-loop .before .before in
-    sweep-ends (at-loop .loop .inv .sweeping) (power .before .before .before .pre .0) (omega arith) (omega (arith, c .if1 .left, power .power-of-two .ensures .0))
+    let power = at-loop .before .before in (
+      sweep-ends (at-loop .loop .inv .sweeping) (power .before .before .before .pre .0) (omega arith)
+          (omega (arith, c .if1 .left, power .power-of-two .ensures .0)),
+      at-loop .loop .inv .barred,
+    )
 
 pub sweep-spec : {M : Type 1} → statement M
 sweep-spec =

@@ -5,7 +5,7 @@ use borrow.Author.Needs.{needs}
 use Rattle.boolean.specs.Selection.{best, lower, ranked}
 use Rattle.boolean.proofs.Selection.{best-takes, best-keeps}
 use Rattle.masks.specs.Masks.{outputs}
-use Rattle.algebraic.specs.Calls.{degreeAt, candidate}
+use Rattle.algebraic.specs.Work.{degreeAt, candidate}
 use Rattle.algebraic.proofs.weaker.Statement.{statement}
 use Rattle.algebraic.proofs.weaker.Tie as tie
 

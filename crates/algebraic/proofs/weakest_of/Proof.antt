@@ -44,7 +44,7 @@ returns : tie.Need-returns
 returns c =
     let words = c .before .before .before .before .before .before .before .before .before .before in
     let a = words .before .before .before .before .before .before .before .before .before .args in
-    c .sweep .ensures ∙ by-words (a .n) (a .m) (a .rows .now) (a .i) _ (formed words)
+    (c .sweep .ensures .0 ∙ by-words (a .n) (a .m) (a .rows .now) (a .i) _ (formed words), c .sweep .ensures .1, formed words, same-length-2 c)
 
 pub weakest-of-spec : {M : Type 1} → statement M
 weakest-of-spec =

@@ -43,7 +43,8 @@ same-length-2 c = search needs
 returns : tie.Need-returns
 returns c =
     let wrote = c .before .before in
-    wrote .write-bits .ensures ∙ formed (wrote .before .before .before .before .before)
+    let is = formed (wrote .before .before .before .before .before) in
+    (wrote .write-bits .ensures ∙ is, is)
 
 pub write-form-spec : {M : Type 1} → statement M
 write-form-spec =

@@ -1,5 +1,5 @@
 -- `answers::give` meets its contract: the two lengths differ or are one. Assumes nothing.
-use mathlib.Core.Path.{_≡_, _∙_}
+use mathlib.Core.Path.{_≡_}
 use lib.ListN.{length}
 use Rattle.answers.proofs.Giving.{gives-other, gives-all}
 use borrow.Author.Needs.{needs}
@@ -10,10 +10,7 @@ number-of-requires : tie.Need-number-of-requires
 number-of-requires c κs = search needs
 
 returns : tie.Need-returns
-returns c =
-    let a = c .before .before .before .before .args in
-    let g = gives-other (a .found .now) (a .figures .now) (c .before .if1 .taken) in
-    (c .number-of .ensures ∙ g .0, g .1)
+returns c = gives-other (c .number-of .ensures) (c .before .if1 .taken)
 
 copy-requires : tie.Need-copy-requires
 copy-requires c κs = search needs
@@ -25,8 +22,7 @@ returns-2 : tie.Need-returns-2
 returns-2 c =
     let a = c .before .before .before .before .before .before .before .args in
     let same : length (a .figures .now) ≡ length (a .found .now) = search needs in
-    let g = gives-all (a .found .now) (a .figures .now) same in
-    (g .0, c .before .before .copy .ensures ∙ g .1)
+    gives-all same (c .before .before .copy .ensures)
 
 pub give-spec : {M : Type 1} → statement M
 give-spec = tie.close (tie.spec number-of-requires returns copy-requires same-length returns-2)

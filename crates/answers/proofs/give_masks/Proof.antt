@@ -35,7 +35,7 @@ returns c =
     let given = c .before .before in
     let then = given .before .before .before in
     let s = then .before .before in
-    gives-same (s .args .figures .now) (so-many s (then .if1 .taken)) (given .give .ensures)
+    gives-same (so-many s (then .if1 .taken)) (given .give .ensures)
 
 slice-aggregate-give-2 : tie.Need-slice-aggregate-give-2
 slice-aggregate-give-2 c = search needs
@@ -51,7 +51,7 @@ returns-2 c =
     let given = c .before .before in
     let then = given .before .before .before in
     let s = then .before .before .before in
-    gives-same (s .args .figures .now) (so-many s (then .if2 .taken)) (given .give2 .ensures)
+    gives-same (so-many s (then .if2 .taken)) (given .give2 .ensures)
 
 slice-aggregate-give-3 : tie.Need-slice-aggregate-give-3
 slice-aggregate-give-3 c = search needs
@@ -67,7 +67,7 @@ returns-3 c =
     let given = c .before .before in
     let then = given .before .before .before in
     let s = then .before .before .before .before in
-    gives-same (s .args .figures .now) (so-many s (then .if3 .taken)) (given .give3 .ensures)
+    gives-same (so-many s (then .if3 .taken)) (given .give3 .ensures)
 
 slice-aggregate-give-4 : tie.Need-slice-aggregate-give-4
 slice-aggregate-give-4 c = search needs
@@ -83,7 +83,7 @@ returns-4 c =
     let given = c .before .before in
     let then = given .before .before .before in
     let s = then .before .before .before .before .before in
-    gives-same (s .args .figures .now) (so-many s (then .if4 .taken)) (given .give4 .ensures)
+    gives-same (so-many s (then .if4 .taken)) (given .give4 .ensures)
 
 slice-aggregate-give-5 : tie.Need-slice-aggregate-give-5
 slice-aggregate-give-5 c = search needs
@@ -104,7 +104,7 @@ returns-5 c =
     let no-2 = else .before .if3 .left in
     let no-3 = else .if4 .left in
     let four : 4 ≤ s .args .count = omega arith in
-    gives-same (s .args .figures .now) (ap (withMasks s) (sym (take-all (s .args .count) (all s) four))) (given .give5 .ensures)
+    gives-same (ap (withMasks s) (sym (take-all (s .args .count) (all s) four))) (given .give5 .ensures)
 
 pub give-masks-spec : {M : Type 1} → statement M
 give-masks-spec =

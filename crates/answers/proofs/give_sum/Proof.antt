@@ -1,5 +1,5 @@
 -- `answers::give_sum` meets its contract: each case gives its figures, or the number. Assumes nothing.
-use mathlib.Core.Path.{sym, ap, _∙_}
+use mathlib.Core.Path.{sym, ap}
 use Rattle.rounds.specs.Calls.{leastSum}
 use Rattle.answers.proofs.Giving.{gives-refused, gives-same}
 use borrow.Author.Needs.{needs}
@@ -26,13 +26,12 @@ returns c =
     let given = c .before .before in
     let is = given .before .before .before in
     let a = is .before .before .before .args in
-    gives-same (a .figures .now) (sym (ap (leastSum (a .count)) (is .answer .given .1))) (given .give-masks .ensures)
+    gives-same (sym (ap (leastSum (a .count)) (is .answer .given .1))) (given .give-masks .ensures)
 
 returns-2 : tie.Need-returns-2
 returns-2 c =
     let a = c .before .before .before .before .before .args in
-    let g = gives-same (a .figures .now) (sym (ap (leastSum (a .count)) (c .before .before .answer2 .given .1))) (gives-refused _ (a .figures .now)) in
-    (c .number-of .ensures ∙ g .0, g .1)
+    gives-same (sym (ap (leastSum (a .count)) (c .before .before .answer2 .given .1))) (gives-refused (c .number-of .ensures))
 
 pub give-sum-spec : {M : Type 1} → statement M
 give-sum-spec =

@@ -1,6 +1,6 @@
-use mathlib.Core.Path.{sym, ap, _∙_}
-use Rattle.refusals.specs.Table.{verdict}
 -- `answers::give_verdict` meets its contract: each case gives its figures, or the number. Assumes nothing.
+use mathlib.Core.Path.{sym, ap}
+use Rattle.refusals.specs.Table.{verdict}
 use Rattle.answers.proofs.Giving.{gives-refused, gives-same}
 use borrow.Author.Needs.{needs}
 use Rattle.answers.proofs.give_verdict.Statement.{statement}
@@ -35,22 +35,17 @@ same-length c = search needs
 
 returns : tie.Need-returns
 returns c =
-    let a = c .before .before .before .before .before .before .before .before .args in
-    gives-same (a .figures .now) (sym (ap verdict (c .before .before .before .before .before .enum-told .given .1))) (c .before .before .give .ensures)
+    gives-same (sym (ap verdict (c .before .before .before .before .before .enum-told .given .1))) (c .before .before .give .ensures)
 
 same-length-2 : tie.Need-same-length-2
 same-length-2 c = search needs
 
 returns-2 : tie.Need-returns-2
 returns-2 c =
-    let a = c .before .before .before .before .before .before .before .before .args in
-    gives-same (a .figures .now) (sym (ap verdict (c .before .before .before .before .before .enum-told2 .given .1))) (c .before .before .give2 .ensures)
+    gives-same (sym (ap verdict (c .before .before .before .before .before .enum-told2 .given .1))) (c .before .before .give2 .ensures)
 
 returns-3 : tie.Need-returns-3
-returns-3 c =
-    let a = c .before .before .before .before .before .args in
-    let g = gives-same (a .figures .now) (sym (ap verdict (c .before .before .answer .given .1))) (gives-refused _ (a .figures .now)) in
-    (c .number-of .ensures ∙ g .0, g .1)
+returns-3 c = gives-same (sym (ap verdict (c .before .before .answer .given .1))) (gives-refused (c .number-of .ensures))
 
 pub give-verdict-spec : {M : Type 1} → statement M
 give-verdict-spec =

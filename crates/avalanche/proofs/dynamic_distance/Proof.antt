@@ -4,7 +4,8 @@ use native.Mathlib.Omega.{arith}
 use Rattle.refusals.specs.Table.{figures, first}
 use Rattle.refusals.specs.declared.Checked.the-variants.{Accepted}
 use Rattle.refusals.proofs.Checks.{reply-refused, reply-accepted}
-use Rattle.avalanche.specs.Calls.{distanceChecks, candidate}
+use Rattle.avalanche.specs.Calls.{distanceChecks}
+use Rattle.avalanche.specs.Work.{candidate}
 use Rattle.avalanche.proofs.Distance.{distance-box, outputs-low, inputs-low, distance-shown}
 use borrow.Author.Needs.{needs}
 use Rattle.avalanche.proofs.dynamic_distance.Statement.{statement}

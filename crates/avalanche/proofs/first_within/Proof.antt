@@ -6,7 +6,7 @@ use lib.IntN.{ℤ}
 use lib.ListN.{length}
 use Rattle.boolean.specs.Functions.{valueAt}
 use Rattle.boolean.proofs.Words.{word-told}
-use Rattle.avalanche.specs.Calls.{sizeWithin}
+use Rattle.avalanche.specs.Work.{sizeWithin}
 use Rattle.avalanche.proofs.Scans.{Seeking, seeking-all, seeking-inside, seeking-next, seeking-found}
 use borrow.Author.Needs.{needs}
 use Rattle.avalanche.proofs.first_within.Statement.{statement}

@@ -43,7 +43,7 @@ sweep-requires c κs =
     )
 
 returns : tie.Need-returns
-returns c = c .before .before .before .sweep .ensures
+returns c = c .before .before .before .sweep .ensures .0
 
 pub largest-correlation-spec : {M : Type 1} → statement M
 largest-correlation-spec =

@@ -7,7 +7,7 @@ use lib.IntN.{ℤ, natAbs}
 use lib.ListN.{length}
 use Rattle.boolean.specs.Functions.{valueAt}
 use Rattle.boolean.proofs.Words.{word-told}
-use Rattle.avalanche.specs.Calls.{sizeWithin}
+use Rattle.avalanche.specs.Work.{sizeWithin}
 use Rattle.avalanche.proofs.Scans.{Scanned, scanned-none, scanned-keeps, scanned-takes, scanned-all, size-anywhere}
 use borrow.Author.Needs.{needs}
 use Rattle.avalanche.proofs.largest_from_one.Statement.{statement}

@@ -6,7 +6,7 @@ use native.Mathlib.Omega.{arith}
 use lib.IntN.{ℤ}
 use Rattle.boolean.specs.Functions.{valueAt}
 use Rattle.boolean.proofs.Words.{word-told}
-use Rattle.avalanche.specs.Calls.{sizeWithin}
+use Rattle.avalanche.specs.Work.{sizeWithin}
 use Rattle.avalanche.proofs.Scans.{Scanned, scanned-none, scanned-keeps, scanned-takes, scanned-all}
 use borrow.Author.Needs.{needs}
 use Rattle.avalanche.proofs.largest_limited.Statement.{statement}

@@ -3,7 +3,7 @@ use mathlib.Core.Path.{_≡_, ap, _∙_}
 use lib.ListN.{length}
 use Rattle.boolean.proofs.Lists.{length-listBelow}
 use Rattle.linear.proofs.Components.{written-is}
-use Rattle.avalanche.specs.Calls.{truthTable}
+use Rattle.avalanche.specs.Work.{truthTable}
 use borrow.Author.Needs.{needs}
 use Rattle.avalanche.proofs.next_correlation.Statement.{statement}
 use Rattle.avalanche.proofs.next_correlation.Tie as tie

@@ -5,7 +5,7 @@ use mathlib.Core.Path.{sym, _∙_}
 use native.Mathlib.Omega.{arith}
 use borrow.Author.Needs.{needs}
 use Rattle.masks.proofs.Boxes.{box-some, masks-fit, stepping}
-use Rattle.avalanche.specs.Calls.{candidate}
+use Rattle.avalanche.specs.Work.{candidate}
 use Rattle.avalanche.proofs.Sweeps.{Sweeping, sweep-starts, sweep-next, sweep-single, sweep-ends}
 use Rattle.avalanche.proofs.sweep.Statement.{statement}
 use Rattle.avalanche.proofs.sweep.Tie as tie
@@ -98,8 +98,13 @@ same-length-3 c = c .before .loop .inv .arrays .out-size ∙ sym (c .before .bef
 returns : tie.Need-returns Inv-loop μ-loop
 returns c =
     let power = c .before .before in
-    sweep-ends (c .before .loop .inv) (omega (arith, c .loop-test .left, power .power-of-two .ensures .0))
-    (power .before .before .before .before .before .before .before .before .before .before .before .before .pre .4)
+    let steps = power .before .before .before .before .before .before .before in
+    let start = steps .before .before .before .before .before in (
+      sweep-ends (c .before .loop .inv) (omega (arith, c .loop-test .left, power .power-of-two .ensures .0)) (start .pre .4),
+      steps .write-steps .ensures .steps-are,
+      same-length-2 c,
+      same-length-3 c,
+    )
 
 pub sweep-spec : {M : Type 1} → statement M
 sweep-spec =

@@ -5,7 +5,7 @@ use Prim.Native.Nat.{ℕ, _/_, _^_, _≤_}
 use native.Mathlib.Omega.{arith}
 use lib.ListN.{length}
 use lib.Pow.{pow-pos}
-use Rattle.avalanche.specs.Calls.{candidate}
+use Rattle.avalanche.specs.Work.{candidate}
 use Rattle.avalanche.proofs.Widest.{values-length, stays, largest-some, replaced}
 use borrow.Author.Needs.{needs}
 use Rattle.avalanche.proofs.with_correlation.Statement.{statement}

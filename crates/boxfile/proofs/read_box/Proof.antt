@@ -24,7 +24,7 @@ returns : tie.Need-returns
 returns c =
     let p = c .before .before .before in
     let h = sym (p .check-file .ensures) ∙ c .before .e .given .1 in
-    (reply-refused h _, content-refused h _ _)
+    record { reply = reply-refused h _; content = content-refused h _ _ }
 
 enum-told : tie.Need-enum-told
 enum-told c = search needs
@@ -79,10 +79,11 @@ returns-2 c =
     let w = rows .before .before in
     let told = w .before .before in
     let a = told .before .before .before .before .before .args in
-    let h = accepted told in (
-      ap₂ (λ (n m : ℕ). figures (n ∷ m ∷ [])) (w .wide .ensures .0) (c .wide2 .ensures .0) ∙ reply-accepted h _,
-      rows .write-rows .ensures ∙ ap (rowsOf (a .file .now)) (w .wide .ensures .0) ∙ content-accepted h _ _,
-    )
+    let h = accepted told in
+    record {
+      reply = ap₂ (λ (n m : ℕ). figures (n ∷ m ∷ [])) (w .wide .ensures .0) (c .wide2 .ensures .0) ∙ reply-accepted h _;
+      content = rows .write-rows .ensures ∙ ap (rowsOf (a .file .now)) (w .wide .ensures .0) ∙ content-accepted h _ _;
+    }
 
 pub read-box-spec : {M : Type 1} → statement M
 read-box-spec =

@@ -11,7 +11,7 @@ use Rattle.boxsheet.proofs.main.Tie as tie
 inside : (c : tie.After-write-sheet) → c .write-sheet .result ≤ length (c .write-sheet .last .1 .0)
 inside c =
     let wrote = c .write-sheet .ensures in
-    subst (λ (k : ℕ). c .write-sheet .result ≤ k) (sym (ap length (wrote .2) ∙ simp length-sets)) (wrote .1)
+    subst (λ (k : ℕ). c .write-sheet .result ≤ k) (sym (ap length (wrote .text) ∙ simp length-sets)) (wrote .inside)
 
 large-buffer-requires : tie.Need-large-buffer-requires
 large-buffer-requires c κs = search needs

@@ -61,7 +61,7 @@ returns : tie.Need-returns
 returns c =
     let p = c .before .before .before in
     let h = add-refused _ _ (sym (p .check-offered .ensures) ∙ c .before .e .given .1) in
-    (reply-refused h _, content-refused h _ _)
+    record { reply = reply-refused h _; content = content-refused h _ _ }
 
 enum-told : tie.Need-enum-told
 enum-told c = search needs
@@ -76,7 +76,7 @@ returns-2 : tie.Need-returns-2
 returns-2 c =
     let t = c .before .before .before in
     let h = add-full _ _ (offered t) (omega (arith, counted (c .before), c .if1 .taken)) in
-    (reply-refused h _, content-refused h _ _)
+    record { reply = reply-refused h _; content = content-refused h _ _ }
 
 find-gap-requires : tie.Need-find-gap-requires
 find-gap-requires c κs =
@@ -98,7 +98,7 @@ returns-3 c =
     let s = g .before .before in
     let t = s .before .before .before in
     let h = add-nowhere _ _ (offered t) (few s) (answer g ∙ c .enum-told2 .given .1) in
-    (reply-refused h _, content-refused h _ _)
+    record { reply = reply-refused h _; content = content-refused h _ _ }
 
 open-place-requires : tie.Need-open-place-requires
 open-place-requires c κs =
@@ -144,12 +144,13 @@ returns-4 c =
     let w = s .before in
     let g = w .before .before in
     let a = g .before .before .before .before .before .before .args in
-    let h = add-accepted _ _ (offered g) (few s) (starts t) in (
-      ap (λ (x : Gap). figures (gapIndex x ∷ [])) (sym (starts t)) ∙ reply-accepted h _,
-      i .copy-in .ensures ∙ ap (λ (l : List ℕ). sets l (t .before .gap .given .0 .1 .0) (a .file .now)) (o .open-place .ensures)
+    let h = add-accepted _ _ (offered g) (few s) (starts t) in
+    record {
+      reply = ap (λ (x : Gap). figures (gapIndex x ∷ [])) (sym (starts t)) ∙ reply-accepted h _;
+      content = i .copy-in .ensures ∙ ap (λ (l : List ℕ). sets l (t .before .gap .given .0 .1 .0) (a .file .now)) (o .open-place .ensures)
           ∙ added-is (a .catalogue .now) (a .file .now) (whole g) (starts t) (bytes g) (w .word-at .result) (counted w) (s .if1 .left)
-          ∙ content-accepted h _ _,
-    )
+          ∙ content-accepted h _ _;
+    }
 
 pub add-spec : {M : Type 1} → statement M
 add-spec =

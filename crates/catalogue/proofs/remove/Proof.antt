@@ -50,7 +50,7 @@ returns : tie.Need-returns
 returns c =
     let p = c .before .before .before in
     let h = sym (p .check-index .ensures) ∙ c .before .e .given .1 in
-    (reply-refused h _, content-refused h _ _)
+    record { reply = reply-refused h _; content = content-refused h _ _ }
 
 enum-told : tie.Need-enum-told
 enum-told c = search needs
@@ -106,12 +106,13 @@ returns-2 c =
     let v = w .before .before in
     let n = v .before .before in
     let t = n .before .before in
-    let a = t .before .before .before .before .before .args in (
-      reply-accepted (accepted t) [],
-      p .close-place .ensures ∙ ap (closed (n .word-at .result) (a .index)) (e .clear .ensures)
+    let a = t .before .before .before .before .before .args in
+    record {
+      reply = reply-accepted (accepted t) [];
+      content = p .close-place .ensures ∙ ap (closed (n .word-at .result) (a .index)) (e .clear .ensures)
           ∙ removed-is (a .catalogue .now) (bytes t) (a .index) (known t) (n .word-at .result) (v .word-at2 .result) (w .word-at3 .result) (counted n) (v .word-at2 .ensures .0) (w .word-at3 .ensures .0)
-          ∙ content-accepted (accepted t) _ _,
-    )
+          ∙ content-accepted (accepted t) _ _;
+    }
 
 pub remove-spec : {M : Type 1} → statement M
 remove-spec =

@@ -1,11 +1,10 @@
 -- `constructions::bent_function` meets its contract: what the checks found says which case it is, in the answer and in the array. Assumes nothing.
 use mathlib.Core.Path.{_≡_, sym, _∙_}
-use mathlib.Core.List.{[]}
 use borrow.Author.Needs.{needs}
 use lib.ListN.{length}
 use Rattle.refusals.specs.Table.{first}
 use Rattle.refusals.specs.declared.Checked.the-variants.{Accepted}
-use Rattle.refusals.proofs.Checks.{reply-refused, reply-accepted, content-refused, content-accepted}
+use Rattle.refusals.proofs.Outcomes.{wrote-refused, wrote-accepted}
 use Rattle.constructions.specs.Calls.{bentChecks}
 use Rattle.constructions.proofs.Accepted.{bent-accepts}
 use Rattle.constructions.proofs.bent_function.Statement.{statement}
@@ -18,9 +17,7 @@ enum-known-e : tie.Need-enum-known-e
 enum-known-e c = search needs
 
 returns : tie.Need-returns
-returns c =
-    let h = sym (c .before .before .before .check-bent .ensures) ∙ c .before .e .given .1 in
-    (reply-refused h [], content-refused h _ _)
+returns c = wrote-refused (sym (c .before .before .before .check-bent .ensures) ∙ c .before .e .given .1)
 
 enum-told : tie.Need-enum-told
 enum-told c = search needs
@@ -40,9 +37,7 @@ same-length : tie.Need-same-length
 same-length c = search needs
 
 returns-2 : tie.Need-returns-2
-returns-2 c =
-    let h = accepted (c .before .before .before .before) in
-    (reply-accepted h [], c .before .before .write-bent .ensures ∙ content-accepted h _ _)
+returns-2 c = wrote-accepted (accepted (c .before .before .before .before)) (c .before .before .write-bent .ensures)
 
 pub bent-function-spec : {M : Type 1} → statement M
 bent-function-spec =

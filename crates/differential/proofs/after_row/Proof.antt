@@ -24,7 +24,7 @@ returns : tie.Need-returns
 returns c =
     let risen = c .before .before .before .before in
     let a = risen .before .before .before .before .args in
-    (row-keeps (risen .largest-risen .ensures .0) (a .a) (candidate (a .found)) (c .if1 .taken), risen .largest-risen .ensures .1)
+    (row-keeps (risen .largest-risen .ensures .0) (a .a) (candidate (a .found)) (c .if1 .taken), risen .largest-risen .ensures .2)
 
 sub-beta : tie.Need-sub-beta
 sub-beta c = search needs
@@ -39,7 +39,7 @@ returns-2 : tie.Need-returns-2
 returns-2 c =
     let risen = c .before .before .before .before in
     let a = risen .before .before .before .before .args in
-    (row-takes (risen .largest-risen .ensures .0) (a .a) (candidate (a .found)) (c .if1 .left), risen .largest-risen .ensures .1)
+    (row-takes (risen .largest-risen .ensures .0) (a .a) (candidate (a .found)) (c .if1 .left), risen .largest-risen .ensures .2)
 
 pub after-row-spec : {M : Type 1} → statement M
 after-row-spec =

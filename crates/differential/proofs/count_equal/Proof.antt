@@ -8,9 +8,8 @@ use borrow.Author.Needs.{needs}
 use borrow.Author.Tests.{eq-eqb, ne-eqb}
 use lib.Dec.{eqb}
 use lib.ListN.{length}
-use Rattle.boolean.specs.Functions.{at}
+use Rattle.boolean.specs.Functions.{at, occurrences}
 use Rattle.boolean.proofs.Counted.{Counted, counted-none, counted-le, counted-hit, counted-miss, counted-all}
-use Rattle.sorting.specs.Occurrences.{occurrences}
 use Rattle.differential.proofs.count_equal.Statement.{statement}
 use Rattle.differential.proofs.count_equal.Tie as tie
 

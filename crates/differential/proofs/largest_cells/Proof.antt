@@ -3,7 +3,8 @@
 use mathlib.Core.Path.{refl, sym, _∙_}
 use mathlib.Core.List.{[]}
 use Rattle.refusals.specs.Table.{boxChecks}
-use Rattle.refusals.proofs.Checks.{box, first-refused, reply-refused, content-refused}
+use Rattle.refusals.proofs.Checks.{box, first-refused}
+use Rattle.refusals.proofs.Outcomes.{wrote-refused}
 use Rattle.differential.specs.Calls.{listChecks}
 use borrow.Author.Needs.{needs}
 use Rattle.differential.proofs.largest_cells.Statement.{statement}
@@ -20,8 +21,7 @@ unfolding listChecks
 returns c =
     let p = c .before .before .before in
     let a = p .before .before .before .args in
-    let h = first-refused (boxChecks (a .n) (a .m) (a .rows .now)) _ (sym (p .check-box .ensures) ∙ c .before .e .given .1) in
-    (reply-refused h _, content-refused h _ _)
+    wrote-refused (first-refused (boxChecks (a .n) (a .m) (a .rows .now)) _ (sym (p .check-box .ensures) ∙ c .before .e .given .1))
 
 enum-told : tie.Need-enum-told
 enum-told c = search needs

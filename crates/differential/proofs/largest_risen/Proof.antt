@@ -1,68 +1,55 @@
--- `differential::largest_risen` meets its contract: after each rise the standing is the largest count so far with the smallest difference that has it.
--- Assumes nothing.
+-- `differential::largest_risen` meets its contract: after each rise the running value is the largest count so far with the smallest difference that
+-- has it.
 use Prim.Native.Nat.{ℕ, _-_, _≤_}
-use mathlib.Core.Path.{_≡_, sym, ap, _∙_, subst}
-use mathlib.Core.Logic.{⊎-elim}
+use mathlib.Core.Path.{_≡_, sym, ap, ap₂, _∙_, subst}
 use native.Mathlib.Omega.{arith}
 use borrow.Author.Needs.{needs}
 use lib.ListN.{length}
-use Rattle.differential.specs.Work.{Running, runningAfter, Slots}
-use Rattle.differential.proofs.Rises.{running-none, running-takes, running-keeps, rises-none, rise-takes, rise-keeps}
+use Rattle.differential.specs.Running.{LargestSoFar, higherOf, runningAfter}
+use Rattle.differential.specs.Work.{Slots}
+use Rattle.differential.proofs.Rises.{running-none, rises-none, rises-next}
 use Rattle.differential.proofs.largest_risen.Statement.{statement}
 use Rattle.differential.proofs.largest_risen.Tie as tie
 
 abbrev Inv-loop : tie.InvT-loop
-Inv-loop differences slots₀ best₀ y₀ slots best y =
-    (y ≤ length differences) × Running differences y best × Slots differences y slots × (best ≡ runningAfter differences y)
+Inv-loop differences slots₀ running₀ y₀ slots running y =
+    (y ≤ length differences) × LargestSoFar differences y running × (running ≡ runningAfter differences y) × Slots differences y slots
 
 abbrev μ-loop : tie.MeasureT-loop
-μ-loop differences slots₀ best₀ y₀ slots best y = length differences - y
-
-claim-slots-requires : tie.Need-claim-slots-requires Inv-loop μ-loop
-claim-slots-requires c κs = search needs
+μ-loop differences slots₀ running₀ y₀ slots running y = length differences - y
 
 loop-holds : tie.Need-loop-holds Inv-loop μ-loop
-loop-holds c = (omega arith, running-none _, c .before .before .claim-slots .ensures, sym (rises-none _))
+loop-holds c = (omega arith, running-none _, sym (rises-none _), c .before .before .claim-slots .ensures)
 
-risen-requires : tie.Need-risen-requires Inv-loop μ-loop
-risen-requires c κs =
+rise-requires : tie.Need-rise-requires Inv-loop μ-loop
+rise-requires c κs =
     let at-loop = c .before .before in
     let start = at-loop .before .before .before .before .before .before .before in
-    (c .before .loop-test .taken, start .pre .0, at-loop .loop .inv .2)
-
-add-y : tie.Need-add-y Inv-loop μ-loop
-add-y c = search needs
-
-loop-less : tie.Need-loop-less Inv-loop μ-loop
-loop-less c = search needs
+    (c .before .loop-test .taken, start .pre .0, at-loop .loop .inv .3, at-loop .loop .inv .1)
 
 loop-again : tie.Need-loop-again Inv-loop μ-loop
 loop-again c =
-    let risen = c .before .before .before in
-    let in-loop = risen .before .before in
+    let rise = c .before .before in
+    let in-loop = rise .before .before in
     let at-loop = in-loop .before in
-    let known = at-loop .before .before .before .before .before .before in
-    let running = at-loop .loop .inv .1 in
-    let same = at-loop .loop .inv .3 in
-    let small = known .shared-slice-known .given (at-loop .loop .y) .fits in (
+    let e = rise .rise .ensures in (
       omega (arith, in-loop .loop-test .taken),
-      ⊎-elim (λ w. rw (w .1) (running-takes running small (risen .risen .ensures .0) (w .0 .taken)))
-          (λ w. rw (w .1) (running-keeps running small (risen .risen .ensures .0) (w .0 .left))) (c .if1 .came),
-      risen .risen .ensures .1,
-      ⊎-elim (λ w. w .1 ∙ rise-takes _ _ same (risen .risen .ensures .0) (w .0 .taken)) (λ w. w .1 ∙ rise-keeps _ _ same (risen .risen .ensures .0) (w .0 .left)) (c .if1 .came),
+      e .0,
+      e .1 ∙ ap₂ higherOf (at-loop .loop .inv .2) (e .2) ∙ sym (rises-next _ _),
+      e .3,
     )
 
 same-length : tie.Need-same-length Inv-loop μ-loop
-same-length c = c .before .loop .inv .2 .size ∙ sym (c .before .before .before .before .before .before .before .before .pre .1)
+same-length c = c .before .loop .inv .3 .size ∙ sym (c .before .before .before .before .before .before .before .before .pre .1)
 
 returns : tie.Need-returns Inv-loop μ-loop
 returns c =
     let at-loop = c .before in
     let values = at-loop .before .before .before .before .before .before .before .args .differences .now in
     let all : at-loop .loop .y ≡ length values = omega (arith, c .loop-test .left, at-loop .loop .inv .0) in (
-      subst (λ (k : ℕ). Running values k (at-loop .loop .best)) all (at-loop .loop .inv .1),
-      at-loop .loop .inv .2 .size,
-      at-loop .loop .inv .3 ∙ ap (runningAfter values) all,
+      subst (λ (k : ℕ). LargestSoFar values k (at-loop .loop .running)) all (at-loop .loop .inv .1),
+      at-loop .loop .inv .2 ∙ ap (runningAfter values) all,
+      subst (λ (k : ℕ). Slots values k (at-loop .loop .slots)) all (at-loop .loop .inv .3),
     )
 
 pub largest-risen-spec : {M : Type 1} → statement M
@@ -71,11 +58,11 @@ largest-risen-spec =
     (tie.spec
     Inv-loop
     μ-loop
-    claim-slots-requires
+    (λ c κs. search needs)
     loop-holds
-    risen-requires
-    add-y
-    loop-less
+    rise-requires
+    (λ c. search needs)
+    (λ c. search needs)
     loop-again
     same-length
     returns)

@@ -5,9 +5,8 @@ use native.Mathlib.Omega.{arith}
 use borrow.Author.Needs.{needs}
 use lib.ListN.{length, take}
 use lib.Seq.{length-take-le}
-use Rattle.boolean.specs.Functions.{at}
-use Rattle.sorting.specs.Occurrences.{occurrences}
-use Rattle.differential.specs.Work.{standing}
+use Rattle.boolean.specs.Functions.{at, occurrences}
+use Rattle.differential.specs.Running.{standing}
 use Rattle.sorting.proofs.Occurrences.{occurs-more, occurs-le, occurs-part}
 use Rattle.differential.proofs.Slots.{slot-fits, own-risen, own-next, other-next}
 use Rattle.differential.proofs.risen.Statement.{statement}

@@ -53,7 +53,7 @@ loop-again c =
     let at-loop = in-loop .before in (
       sweep-next (at-loop .loop .inv .0) (omega (arith, in-loop .loop-test .taken, at-loop .before .power-of-two .ensures .0))
           (written .write-pairs .ensures) (row .after-row .ensures .0),
-      row .after-row .ensures .1,
+      row .after-row .ensures .1 .size,
     )
 
 same-length : tie.Need-same-length Inv-loop μ-loop
@@ -70,7 +70,7 @@ returns c =
     let at-loop = c .before in
     let end : 2 ^ (at-loop .before .before .before .before .before .args .n) ≤ at-loop .loop .a = omega (arith, c .loop-test .left, at-loop .before .power-of-two .ensures .0) in
     let sweep = at-loop .loop .inv .0 in
-    (sweep-ends sweep end refl, sweep-last sweep end, at-loop .loop .inv .1)
+    (sweep-ends sweep end refl, sweep-last sweep end, same-length-2 c)
 
 pub sweep-cells-spec : {M : Type 1} → statement M
 sweep-cells-spec =

@@ -9,7 +9,7 @@ use lib.Pow.{pow-pos}
 use Rattle.boolean.specs.Sums.{listBelow}
 use Rattle.boolean.proofs.Filled.{Filled, filled-none, filled-more, filled-whole}
 use Rattle.differential.specs.XorTable.{difference}
-use Rattle.differential.specs.Work.{lowerInput, pairsOf}
+use Rattle.differential.specs.Running.{lowerInput, pairsOf}
 use Rattle.differential.proofs.write_pairs.Statement.{statement}
 use Rattle.differential.proofs.write_pairs.Tie as tie
 

@@ -1,5 +1,5 @@
 -- `differential::xor_row` meets its contract: what the checks found says which case it is, in the reply and in the array. Assumes nothing.
-use mathlib.Core.List.{List, []}
+use mathlib.Core.List.{List}
 use mathlib.Core.Path.{_≡_, _∙_, sym}
 use Prim.Native.Nat.{ℕ, _-_, _^_, _≤_, _<_}
 use native.Mathlib.Omega.{arith}
@@ -12,7 +12,8 @@ use lib.Seq.{length-take-le}
 use Rattle.refusals.specs.Table.{first, boxChecksUpTo, Box}
 use Rattle.refusals.specs.declared.Checked.the-variants.{Accepted}
 use Rattle.refusals.proofs.Bounds.{range-high}
-use Rattle.refusals.proofs.Checks.{passed, accepted-after, box-up-to, reply-refused, reply-accepted, content-refused, content-accepted}
+use Rattle.refusals.proofs.Checks.{passed, accepted-after, box-up-to}
+use Rattle.refusals.proofs.Outcomes.{wrote-refused, wrote-accepted}
 use Rattle.differential.specs.Calls.{rowChecks}
 use Rattle.differential.proofs.xor_row.Statement.{statement}
 use Rattle.differential.proofs.xor_row.Tie as tie
@@ -24,10 +25,7 @@ enum-known-e : tie.Need-enum-known-e
 enum-known-e c = search needs
 
 returns : tie.Need-returns
-returns c =
-    let p = c .before .before .before in
-    let h = sym (p .check-row .ensures) ∙ c .before .e .given .1 in
-    (reply-refused h [], content-refused h _ _)
+returns c = wrote-refused (sym (c .before .before .before .check-row .ensures) ∙ c .before .e .given .1)
 
 enum-told : tie.Need-enum-told
 enum-told c = search needs
@@ -79,8 +77,7 @@ same-length c = search needs
 returns-2 : tie.Need-returns-2
 returns-2 c =
     let p = c .before .before .before in
-    let h = accepted (p .before .before .before) in
-    (reply-accepted h [], p .write-row .ensures .0 ∙ content-accepted h _ _)
+    wrote-accepted (accepted (p .before .before .before)) (p .write-row .ensures .0)
 
 pub xor-row-spec : {M : Type 1} → statement M
 xor-row-spec =

@@ -37,9 +37,12 @@ returns : tie.Need-returns
 returns c =
     let made = c .before .before .before .before .before in
     let start = made .before .before .before .before .before in
-    let a = start .args in
-    ap (λ (k : ℕ). k / 2 - c .largest-magnitude .result) (start .pre .0 .box .size)
-    ∙ sym (least-figure (a .n) (a .rows .now) (a .c) (made .component-spectrum .ensures .0) (start .pre .0 .box .n-low) (c .largest-magnitude .ensures))
+    let a = start .args in (
+      ap (λ (k : ℕ). k / 2 - c .largest-magnitude .result) (start .pre .0 .box .size)
+          ∙ sym (least-figure (a .n) (a .rows .now) (a .c) (made .component-spectrum .ensures .0) (start .pre .0 .box .n-low) (c .largest-magnitude .ensures)),
+      made .component-spectrum .ensures .0,
+      made .component-spectrum .ensures .1,
+    )
 
 pub component-count-spec : {M : Type 1} → statement M
 component-count-spec =

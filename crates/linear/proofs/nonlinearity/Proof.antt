@@ -69,7 +69,7 @@ sweep-requires c κs =
 returns-2 : tie.Need-returns-2
 returns-2 c =
     let swept = c .before .before .before in
-    ap (λ (k : Candidate). figures (shown k)) (swept .sweep .ensures) ∙ reply-accepted (accepted (swept .before .before .before .before .before .before)) _
+    ap (λ (k : Candidate). figures (shown k)) (swept .sweep .ensures .0) ∙ reply-accepted (accepted (swept .before .before .before .before .before .before)) _
 
 pub nonlinearity-spec : {M : Type 1} → statement M
 nonlinearity-spec =

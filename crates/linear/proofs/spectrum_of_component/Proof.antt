@@ -1,6 +1,6 @@
 -- `linear::spectrum_of_component` meets its contract: what the checks found says which case it is, in the reply and in the array.
 -- Assumes nothing.
-use mathlib.Core.List.{List, []}
+use mathlib.Core.List.{List}
 use mathlib.Core.Path.{_≡_, _∙_, sym}
 use Prim.Native.Nat.{ℕ, _^_}
 use borrow.Author.Needs.{needs}
@@ -9,7 +9,8 @@ use lib.ListN.{length}
 use lib.Seq.{length-take-le}
 use Rattle.refusals.specs.Table.{first, boxChecks, Box}
 use Rattle.refusals.specs.declared.Checked.the-variants.{Accepted}
-use Rattle.refusals.proofs.Checks.{passed, accepted-after, box, reply-refused, reply-accepted, content-refused, content-accepted}
+use Rattle.refusals.proofs.Checks.{passed, accepted-after, box}
+use Rattle.refusals.proofs.Outcomes.{wrote-refused, wrote-accepted}
 use Rattle.linear.specs.Calls.{componentChecks}
 use Rattle.linear.proofs.spectrum_of_component.Statement.{statement}
 use Rattle.linear.proofs.spectrum_of_component.Tie as tie
@@ -22,9 +23,7 @@ enum-known-e c = search needs
 
 returns : tie.Need-returns
 returns c =
-    let p = c .before .before .before in
-    let h = sym (p .check-component .ensures) ∙ c .before .e .given .1 in
-    (reply-refused h [], content-refused h _ _)
+    wrote-refused (sym (c .before .before .before .check-component .ensures) ∙ c .before .e .given .1)
 
 enum-told : tie.Need-enum-told
 enum-told c = search needs
@@ -72,8 +71,7 @@ same-length c = search needs
 returns-2 : tie.Need-returns-2
 returns-2 c =
     let p = c .before .before in
-    let h = accepted (p .before .before .before .before .before) in
-    (reply-accepted h [], p .component-spectrum .ensures .0 ∙ content-accepted h _ _)
+    wrote-accepted (accepted (p .before .before .before .before .before)) (p .component-spectrum .ensures .0)
 
 pub spectrum-of-component-spec : {M : Type 1} → statement M
 spectrum-of-component-spec =

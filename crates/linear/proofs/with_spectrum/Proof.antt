@@ -6,7 +6,7 @@ use native.Mathlib.Omega.{arith}
 use borrow.Author.Needs.{needs}
 use Rattle.boolean.specs.Functions.{valueAt, signBit}
 use Rattle.boolean.proofs.Words.{word-told}
-use Rattle.linear.specs.Calls.{candidate}
+use Rattle.linear.specs.Work.{candidate}
 use Rattle.linear.proofs.Nearest.{values-length, values-nonempty, largest-le, taken, kept}
 use Rattle.linear.proofs.with_spectrum.Statement.{statement}
 use Rattle.linear.proofs.with_spectrum.Tie as tie

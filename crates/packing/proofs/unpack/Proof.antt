@@ -1,12 +1,11 @@
 -- `packing::unpack` meets its contract: what the checks found says which case it is, in the answer and in the array.
 -- Assumes nothing.
 use mathlib.Core.Path.{_≡_, refl, sym, _∙_}
-use mathlib.Core.List.{[]}
 use borrow.Author.Needs.{needs}
 use lib.ListN.{length}
 use Rattle.refusals.specs.Table.{first}
 use Rattle.refusals.specs.declared.Checked.the-variants.{Accepted}
-use Rattle.refusals.proofs.Checks.{reply-refused, reply-accepted, content-refused, content-accepted}
+use Rattle.refusals.proofs.Outcomes.{wrote-refused, wrote-accepted}
 use Rattle.packing.specs.Packing.{unpackChecks}
 use Rattle.packing.proofs.Accepted.{unpack-columns, unpack-room, cleared}
 use Rattle.packing.proofs.unpack.Statement.{statement}
@@ -25,9 +24,7 @@ enum-known-e : tie.Need-enum-known-e
 enum-known-e c = search needs
 
 returns : tie.Need-returns
-returns c =
-    let h = sym (c .before .before .before .check-unpack .ensures) ∙ c .before .e .given .1 in
-    (reply-refused h [], content-refused h _ _)
+returns c = wrote-refused (sym (c .before .before .before .check-unpack .ensures) ∙ c .before .e .given .1)
 
 enum-told : tie.Need-enum-told
 enum-told c = search needs
@@ -51,8 +48,7 @@ same-length c = search needs
 returns-2 : tie.Need-returns-2
 returns-2 c =
     let wrote = c .before .before .before .before in
-    let h = accepted (wrote .before .before .before .before) in
-    (reply-accepted h [], wrote .unpack-bytes .ensures ∙ content-accepted h _ _)
+    wrote-accepted (accepted (wrote .before .before .before .before)) (wrote .unpack-bytes .ensures)
 
 pub unpack-spec : {M : Type 1} → statement M
 unpack-spec =

@@ -16,11 +16,17 @@ loop-holds c = search needs
 add-loop : tie.Need-add-loop Inv-loop μ-loop
 add-loop c = search needs
 
-shared-slice-read-rows-of : tie.Need-shared-slice-read-rows-of Inv-loop μ-loop
-shared-slice-read-rows-of c = search needs
+sub-room-of : tie.Need-sub-room-of Inv-loop μ-loop
+sub-room-of c = search needs
 
-rows-of-requires : tie.Need-rows-of-requires Inv-loop μ-loop
-rows-of-requires c κs = search needs
+part-room-of-start : tie.Need-part-room-of-start Inv-loop μ-loop
+part-room-of-start c = search needs
+
+part-room-of-end : tie.Need-part-room-of-end Inv-loop μ-loop
+part-room-of-end c = search needs
+
+room-of-requires : tie.Need-room-of-requires Inv-loop μ-loop
+room-of-requires c κs = search needs
 
 add-start : tie.Need-add-start Inv-loop μ-loop
 add-start c = search needs
@@ -66,8 +72,10 @@ show-boxes-spec =
     μ-loop
     loop-holds
     add-loop
-    shared-slice-read-rows-of
-    rows-of-requires
+    sub-room-of
+    part-room-of-start
+    part-room-of-end
+    room-of-requires
     add-start
     mul-smaller
     sub-smaller

@@ -15,7 +15,7 @@ array-borrow-prefix-new : tie.Need-array-borrow-prefix-new
 array-borrow-prefix-new c = search needs
 
 slice-aggregate-add-to-column : tie.Need-slice-aggregate-add-to-column
-slice-aggregate-add-to-column c = sym (length-take-le _ _ (c .before .smaller .ensures .1))
+slice-aggregate-add-to-column c = sym (length-take-le _ _ (c .before .smaller .ensures .2))
 
 add-to-column-requires : tie.Need-add-to-column-requires
 add-to-column-requires c κs = search needs

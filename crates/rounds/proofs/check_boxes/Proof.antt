@@ -5,9 +5,9 @@ use lib.Dec.{ltb}
 use Rattle.boolean.specs.Sums.{each}
 use Rattle.refusals.specs.Table.{Check, first}
 use Rattle.refusals.specs.declared.Checked.the-variants.{Accepted}
-use Rattle.rounds.specs.Round.{Summand, boxOf, boxes, checksOf}
-use Rattle.rounds.specs.Calls.{checksIf}
-use Rattle.rounds.proofs.Entry.{checks-are, refused-1, refused-2, refused-3, found-4}
+use Rattle.rounds.specs.Round.{Summand, boxOf, checksOf}
+use Rattle.rounds.specs.Work.{checksIf}
+use Rattle.rounds.proofs.Entry.{boxes, checks-are, refused-1, refused-2, refused-3, found-4}
 use borrow.Author.Needs.{needs}
 use Rattle.rounds.proofs.check_boxes.Statement.{statement}
 use Rattle.rounds.proofs.check_boxes.Tie as tie

@@ -4,7 +4,7 @@ use mathlib.Core.Bool.{Bool}
 use Rattle.refusals.specs.Table.{first}
 use Rattle.refusals.specs.declared.Checked.the-variants.{Accepted}
 use Rattle.rounds.specs.Round.{boxOf}
-use Rattle.rounds.specs.Calls.{checksIf}
+use Rattle.rounds.specs.Work.{checksIf}
 use borrow.Author.Needs.{needs}
 use Rattle.rounds.proofs.check_if.Statement.{statement}
 use Rattle.rounds.proofs.check_if.Tie as tie

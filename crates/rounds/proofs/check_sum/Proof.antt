@@ -1,20 +1,20 @@
 -- `rounds::check_sum` meets its contract: the checks in their order, each the first that applies. Assumes nothing.
 use mathlib.Core.Path.{_≡_, sym, ap, _∙_}
 use mathlib.Core.Bool.{Bool, true, false}
-use mathlib.Core.List.{List}
+use mathlib.Core.List.{List, [], _∷_}
 use Prim.Native.Nat.{ℕ, _≤_}
 use Rattle.boolean.specs.Sums.{each}
 use Rattle.refusals.specs.Table.{first, inRange}
 use Rattle.refusals.specs.declared.Checked.the-variants.{Accepted}
 use Rattle.refusals.proofs.Bounds.{range-low, range-high}
 use Rattle.refusals.proofs.Checks.{fails, holds, skip, stop, end}
-use Rattle.rounds.specs.Round.{Summand, boxOf, boxes, outputsOf, sameOutputs, checksOf}
+use Rattle.rounds.specs.Round.{Summand, boxOf, given, outputsOf, sameOutputs, checksOf}
 use Rattle.rounds.proofs.Entry.{widths-are, outputs-are, wrong-number, box-refused, boxes-passed}
 use borrow.Author.Needs.{needs}
 use Rattle.rounds.proofs.check_sum.Statement.{statement}
 use Rattle.rounds.proofs.check_sum.Tie as tie
 
--- the four boxes, and those that are read
+-- the four boxes, and those that are given
 abbrev box1 : tie.Start → Summand
 box1 c = let a = c .args in boxOf (a .widths .n1) (a .widths .m1) (a .rows1 .now)
 
@@ -27,8 +27,11 @@ box3 c = let a = c .args in boxOf (a .widths .n3) (a .widths .m3) (a .rows3 .now
 abbrev box4 : tie.Start → Summand
 box4 c = let a = c .args in boxOf (a .widths .n4) (a .widths .m4) (a .rows4 .now)
 
+abbrev four : tie.Start → List Summand
+four c = box1 c ∷ box2 c ∷ box3 c ∷ box4 c ∷ []
+
 abbrev summed : tie.Start → List Summand
-summed c = boxes (c .args .count) (box1 c) (box2 c) (box3 c) (box4 c)
+summed c = given (c .args .count) (four c)
 
 -- what was passed: the number of boxes
 abbrev start1 : tie.Else1 → tie.Start
@@ -73,7 +76,7 @@ in-range-requires c κs = search needs
 returns : tie.Need-returns
 returns c =
     let s = c .before .before .before .before .before .before in
-    wrong-number (s .args .count) (summed s) (s .args .i) (fails (c .before .in-range .ensures) (c .if1 .taken))
+    wrong-number (s .args .count) (four s) (s .args .i) (fails (c .before .in-range .ensures) (c .if1 .taken))
 
 check-boxes-requires : tie.Need-check-boxes-requires
 check-boxes-requires c κs = (number-low c, number-high c)
@@ -85,7 +88,7 @@ returns-2 : tie.Need-returns-2
 returns-2 c =
     let checked = c .before .before .before in
     let s = start1 (checked .before) in
-    box-refused (s .args .count) (summed s) (s .args .i) (number-ok (checked .before)) (sym (checked .check-boxes .ensures) ∙ c .before .found .given .1)
+    box-refused (s .args .count) (four s) (s .args .i) (number-ok (checked .before)) (sym (checked .check-boxes .ensures) ∙ c .before .found .given .1)
 
 enum-told : tie.Need-enum-told
 enum-told c = search needs
@@ -97,7 +100,7 @@ returns-3 : tie.Need-returns-3
 returns-3 c =
     let told = c .before .before in
     let s = start1 (else1 told) in
-    boxes-passed (s .args .count) (summed s) (s .args .i) (number-ok (else1 told)) (boxes-ok told) (stop (fails (widths (c .before)) (c .if2 .taken)))
+    boxes-passed (s .args .count) (four s) (s .args .i) (number-ok (else1 told)) (boxes-ok told) (stop (fails (widths (c .before)) (c .if2 .taken)))
 
 in-range-requires-2 : tie.Need-in-range-requires-2
 in-range-requires-2 c κs = search needs
@@ -107,14 +110,14 @@ returns-4 c =
     let same = c .before .before in
     let told = same .before .before in
     let s = start1 (else1 told) in
-    boxes-passed (s .args .count) (summed s) (s .args .i) (number-ok (else1 told)) (boxes-ok told) (skip (widths-ok same) (stop (fails (limit (c .before)) (c .if3 .taken))))
+    boxes-passed (s .args .count) (four s) (s .args .i) (number-ok (else1 told)) (boxes-ok told) (skip (widths-ok same) (stop (fails (limit (c .before)) (c .if3 .taken))))
 
 returns-5 : tie.Need-returns-5
 returns-5 c =
     let same = c .before .before in
     let told = same .before .before in
     let s = start1 (else1 told) in
-    boxes-passed (s .args .count) (summed s) (s .args .i) (number-ok (else1 told)) (boxes-ok told) (skip (widths-ok same) (skip (holds (limit (c .before)) (c .if3 .left)) end))
+    boxes-passed (s .args .count) (four s) (s .args .i) (number-ok (else1 told)) (boxes-ok told) (skip (widths-ok same) (skip (holds (limit (c .before)) (c .if3 .left)) end))
 
 pub check-sum-spec : {M : Type 1} → statement M
 check-sum-spec =

@@ -3,7 +3,7 @@ use mathlib.Core.Path.{_≡_, refl, sym, subst}
 use mathlib.Core.Bool.{Bool}
 use Prim.Native.Nat.{_≤_}
 use native.Mathlib.Omega.{arith}
-use Rattle.rounds.specs.Calls.{inputsIf}
+use Rattle.rounds.specs.Work.{inputsIf}
 use Rattle.rounds.proofs.inputs_if.Statement.{statement}
 use Rattle.rounds.proofs.inputs_if.Tie as tie
 

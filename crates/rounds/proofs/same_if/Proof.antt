@@ -2,7 +2,7 @@
 use mathlib.Core.Path.{_≡_, refl, sym, subst}
 use mathlib.Core.Bool.{Bool}
 use lib.Dec.{eqb}
-use Rattle.rounds.specs.Calls.{sameIf}
+use Rattle.rounds.specs.Work.{sameIf}
 use borrow.Author.Needs.{needs}
 use Rattle.rounds.proofs.same_if.Statement.{statement}
 use Rattle.rounds.proofs.same_if.Tie as tie

@@ -6,7 +6,7 @@ use native.Mathlib.Omega.{arith}
 use lib.Seq.{length-take-le}
 use Rattle.refusals.specs.Table.{Box}
 use Rattle.rounds.specs.Round.{boxOf}
-use Rattle.rounds.specs.Calls.{sizeIf}
+use Rattle.rounds.specs.Work.{sizeIf}
 use Rattle.rounds.proofs.size_if.Statement.{statement}
 use Rattle.rounds.proofs.size_if.Tie as tie
 
@@ -24,13 +24,14 @@ size-in-requires : tie.Need-size-in-requires
 size-in-requires c κs =
     let b = boxed (c .before) in
     let start = c .before .before .before in
-    (b, start .pre .1, start .pre .0 (c .before .if1 .taken) .1, length-take-le _ _ (b .small) ∙ b .size)
+    let high = start .pre .0 (c .before .if1 .taken) .1 in
+    (b, omega arith, omega arith, length-take-le _ _ (b .small) ∙ b .size)
 
 returns : tie.Need-returns
 returns c =
     let then = c .before .before .before in
     let a = then .before .before .args in
-    (subst (λ (u : Bool). c .before .size-in .result ≡ sizeIf u (boxOf (a .n) (a .m) (a .rows .now)) (a .c)) (sym (then .if1 .taken)) (c .before .size-in .ensures .0), c .before .size-in .ensures .1)
+    (subst (λ (u : Bool). c .before .size-in .result ≡ sizeIf u (boxOf (a .n) (a .m) (a .rows .now)) (a .c)) (sym (then .if1 .taken)) (c .before .size-in .ensures .0 .0), c .before .size-in .ensures .0 .1)
 
 returns-2 : tie.Need-returns-2
 returns-2 c =

@@ -16,7 +16,7 @@ written : (c : tie.After-spectrum-of-component) → let a = c .before .before .b
 written c =
     let start = c .before .before .before in
     let a = start .args in
-    spectrum-written (a .n) (a .m) (a .rows .now) (a .c) (start .pre .0) (start .pre .1) (start .pre .2) (a .values .now) (start .pre .3) (c .spectrum-of-component .ensures .1)
+    spectrum-written (a .n) (a .m) (a .rows .now) (a .c) (start .pre .0) (start .pre .1) (start .pre .2) (a .values .now) (start .pre .3) (c .spectrum-of-component .ensures .content)
 
 largest-requires : tie.Need-largest-requires
 largest-requires c κs = search needs
@@ -38,7 +38,8 @@ returns : tie.Need-returns
 returns c =
     let start = c .before .before .before .before .before .before in
     let a = start .args in
-    (largest-is (a .n) (a .m) (a .rows .now) (a .c) (start .pre .0 .n-low) (written (c .before .before .before)) (c .largest .ensures), small c)
+    let spectrum-left = written (c .before .before .before) in
+    ((largest-is (a .n) (a .m) (a .rows .now) (a .c) (start .pre .0 .n-low) spectrum-left (c .largest .ensures), small c), spectrum-left)
 
 pub size-in-spec : {M : Type 1} → statement M
 size-in-spec =

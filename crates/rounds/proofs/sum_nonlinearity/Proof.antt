@@ -1,7 +1,7 @@
 -- `rounds::sum_nonlinearity` meets its contract: what the checks found says which case it is, the sweep has the component, and its witness and figure
 -- make the answer. Assumes nothing.
 use mathlib.Core.Path.{_≡_, sym, ap, ap₂, _∙_, subst}
-use mathlib.Core.List.{List}
+use mathlib.Core.List.{List, [], _∷_}
 use Prim.Native.Nat.{ℕ, _+_, _-_, _/_, _^_, _≤_}
 use native.Mathlib.Omega.{arith}
 use Rattle.boolean.specs.Functions.{components, Within}
@@ -10,15 +10,15 @@ use Rattle.boolean.proofs.Components.{mem-components, in-components, first-mask
 use Rattle.refusals.specs.Table.{first, figures}
 use Rattle.refusals.specs.declared.Checked.the-variants.{Accepted}
 use Rattle.refusals.proofs.Checks.{reply-refused, reply-accepted}
-use Rattle.rounds.specs.Round.{Summand, inputsOf, outputsOf, boxOf, boxes, sumNonlinearity, sumChecks}
-use Rattle.rounds.specs.Calls.{Round, IsBox}
+use Rattle.rounds.specs.Round.{Summand, inputsOf, given, outputsOf, boxOf, sumNonlinearity, sumChecks}
+use Rattle.rounds.specs.Work.{Round, IsBox}
 use Rattle.rounds.proofs.Entry.{outputs-are, inputs-are, box-1, box-2, box-3, box-4, accepted-round, limit-low, some-inputs}
 use Rattle.rounds.proofs.Terms.{Chosen, chosen, size-within, answer-is}
 use borrow.Author.Needs.{needs}
 use Rattle.rounds.proofs.sum_nonlinearity.Statement.{statement}
 use Rattle.rounds.proofs.sum_nonlinearity.Tie as tie
 
--- the four boxes, and those that are read
+-- the four boxes, and those that are given
 abbrev box1 : tie.Start → Summand
 box1 c = let a = c .args in boxOf (a .widths .n1) (a .widths .m1) (a .rows1 .now)
 
@@ -31,31 +31,34 @@ box3 c = let a = c .args in boxOf (a .widths .n3) (a .widths .m3) (a .rows3 .now
 abbrev box4 : tie.Start → Summand
 box4 c = let a = c .args in boxOf (a .widths .n4) (a .widths .m4) (a .rows4 .now)
 
+abbrev four : tie.Start → List Summand
+four c = box1 c ∷ box2 c ∷ box3 c ∷ box4 c ∷ []
+
 abbrev summed : tie.Start → List Summand
-summed c = boxes (c .args .count) (box1 c) (box2 c) (box3 c) (box4 c)
+summed c = given (c .args .count) (four c)
 
 -- accepted: the boxes are a round of box 1's outputs
 abbrev start : tie.After-enum-told → tie.Start
 start c = c .before .before .before .before .before .before .before
 
-accepted : (c : tie.After-enum-told) → let s = start c in first (sumChecks (s .args .count) (summed s) (s .args .i)) ≡ Accepted
+accepted : (c : tie.After-enum-told) → let s = start c in first (sumChecks (s .args .count) (four s) (s .args .i)) ≡ Accepted
 accepted c = sym (c .before .before .check-sum .ensures) ∙ c .enum-told .given .1
 
 widths : (c : tie.After-enum-told) → outputsOf (summed (start c)) ≡ start c .args .widths .m1
 widths c =
     let s = start c in
-    outputs-are (box1 s) (box2 s) (box3 s) (box4 s) (s .args .count) (accepted-round (s .args .count) (summed s) (s .args .i) (accepted c) .count-low)
+    outputs-are (box1 s) (box2 s) (box3 s) (box4 s) (s .args .count) (accepted-round (s .args .count) (four s) (s .args .i) (accepted c) .count-low)
 
 round : (c : tie.After-enum-told) → let s = start c in Round (s .args .count) (s .args .widths .m1) (summed s)
 round c =
     let s = start c in
-    subst (λ (m : ℕ). Round (s .args .count) m (summed s)) (widths c) (accepted-round (s .args .count) (summed s) (s .args .i) (accepted c))
+    subst (λ (m : ℕ). Round (s .args .count) m (summed s)) (widths c) (accepted-round (s .args .count) (four s) (s .args .i) (accepted c))
 
 limit : (c : tie.After-enum-told) → 1 ≤ start c .args .i
-limit c = let s = start c in limit-low (s .args .count) (summed s) (s .args .i) (accepted c)
+limit c = let s = start c in limit-low (s .args .count) (four s) (s .args .i) (accepted c)
 
 inputs : (c : tie.After-enum-told) → 1 ≤ inputsOf (summed (start c))
-inputs c = let s = start c in some-inputs (s .args .count) (summed s) (s .args .i) (accepted c)
+inputs c = let s = start c in some-inputs (s .args .count) (four s) (s .args .i) (accepted c)
 
 first-box : (c : tie.After-enum-told) → IsBox (box1 (start c))
 first-box c = let s = start c in box-1 (box1 s) (box2 s) (box3 s) (box4 s) (round c)
@@ -91,7 +94,7 @@ enum-known-checked : tie.Need-enum-known-checked
 enum-known-checked c = search needs
 
 returns : tie.Need-returns
-returns c = reply-refused (sym (c .before .before .before .check-sum .ensures) ∙ c .before .checked .given .1) _
+returns c = record { says = reply-refused (sym (c .before .before .before .check-sum .ensures) ∙ c .before .checked .given .1) _; past = tt }
 
 enum-told : tie.Need-enum-told
 enum-told c = search needs
@@ -100,7 +103,7 @@ sweep-requires : tie.Need-sweep-requires
 sweep-requires c κs = (round c, limit c)
 
 witness-at-requires : tie.Need-witness-at-requires
-witness-at-requires c κs = (round (c .before), mask c .low, mask c .high)
+witness-at-requires c κs = let m = mask c in (round (c .before), omega arith, omega arith)
 
 inputs-if-requires : tie.Need-inputs-if-requires
 inputs-if-requires c κs e = let t = c .before .before in let s = start t in box-3 (box1 s) (box2 s) (box3 s) (box4 s) (round t) e .n-high
@@ -142,10 +145,14 @@ returns-2 c =
     let swept = witnessed .before in
     let t = swept .before in
     let s = start t in
-    ap (λ (p : Candidate). figures (shown p))
-    (answer-is (found swept) (inputs t) (c .figure-of .ensures ∙ ap (λ (k : ℕ). 2 ^ (k - 1) - swept .sweep .result .size / 2) (total-is sized)) (witnessed .witness-at .ensures))
-    ∙ ap (λ (m : ℕ). figures (shown (sumNonlinearity (summed s) (components m (s .args .i))))) (sym (widths t))
-    ∙ reply-accepted (accepted t) _
+    record {
+      says =
+          ap (λ (p : Candidate). figures (shown p))
+          (answer-is (found swept) (inputs t) (c .figure-of .ensures ∙ ap (λ (k : ℕ). 2 ^ (k - 1) - swept .sweep .result .size / 2) (total-is sized)) (witnessed .witness-at .ensures))
+          ∙ ap (λ (m : ℕ). figures (shown (sumNonlinearity (summed s) (components m (s .args .i))))) (sym (widths t))
+          ∙ reply-accepted (accepted t) _;
+      past = witnessed .witness-at .ensures .past;
+    }
 
 pub sum-nonlinearity-spec : {M : Type 1} → statement M
 sum-nonlinearity-spec =

@@ -7,7 +7,8 @@ use native.Mathlib.Omega.{arith}
 use borrow.Author.Needs.{needs}
 use Rattle.masks.proofs.Boxes.{masks-fit}
 use Rattle.rounds.specs.Round.{Summand, boxOf}
-use Rattle.rounds.specs.Calls.{read, IsBox}
+use Rattle.rounds.specs.Calls.{read}
+use Rattle.rounds.specs.Work.{IsBox}
 use Rattle.rounds.proofs.Entry.{box-1}
 use Rattle.rounds.proofs.Terms.{Sweeping, sweep-starts, sweep-takes, sweep-keeps, sweep-ends}
 use Rattle.rounds.proofs.sweep.Statement.{statement}

@@ -1,10 +1,11 @@
--- `rounds::top_if` meets its contract: of a box that the sum has the peak, and else a factor of 1. Assumes nothing.
+-- `rounds::top_if` meets its contract: of a box that the sum has its first mask and the sign there, and else the mask 0 with no sign. Assumes nothing.
 use mathlib.Core.Path.{refl, sym, _∙_, subst}
 use mathlib.Core.Bool.{Bool}
+use native.Mathlib.Omega.{arith}
 use lib.Seq.{length-take-le}
 use Rattle.refusals.specs.Table.{Box}
 use Rattle.rounds.specs.Round.{boxOf}
-use Rattle.rounds.specs.Calls.{TopIf}
+use Rattle.rounds.specs.Work.{TopIf}
 use Rattle.rounds.proofs.top_if.Statement.{statement}
 use Rattle.rounds.proofs.top_if.Tie as tie
 
@@ -22,18 +23,17 @@ top-in-requires : tie.Need-top-in-requires
 top-in-requires c κs =
     let b = boxed (c .before) in
     let start = c .before .before .before in
-    (b, start .pre .1, start .pre .0 (c .before .if1 .taken) .1, length-take-le _ _ (b .small) ∙ b .size)
+    let high = start .pre .0 (c .before .if1 .taken) .1 in
+    (b, omega arith, omega arith, length-take-le _ _ (b .small) ∙ b .size)
 
 returns : tie.Need-returns
 returns c =
     let then = c .before .before .before in
     let a = then .before .before .args in
-    subst (λ (u : Bool). TopIf u (boxOf (a .n) (a .m) (a .rows .now)) (a .c) (c .before .top-in .result)) (sym (then .if1 .taken)) (c .before .top-in .ensures)
+    subst (λ (u : Bool). TopIf u (boxOf (a .n) (a .m) (a .rows .now)) (a .c) (c .before .top-in .result)) (sym (then .if1 .taken)) (c .before .top-in .ensures .0)
 
 returns-2 : tie.Need-returns-2
-returns-2 c =
-    let a = c .before .before .args in
-    subst (λ (u : Bool). TopIf u (boxOf (a .n) (a .m) (a .rows .now)) (a .c) (record { mask = 0; sign = 0 })) (sym (c .if1 .left)) (refl, refl)
+returns-2 c = rw (c .if1 .left) (refl, refl)
 
 pub top-if-spec : {M : Type 1} → statement M
 top-if-spec =

@@ -17,7 +17,7 @@ written : (c : tie.After-spectrum-of-component) → let a = c .before .before .b
 written c =
     let start = c .before .before .before in
     let a = start .args in
-    spectrum-written (a .n) (a .m) (a .rows .now) (a .c) (start .pre .0) (start .pre .1) (start .pre .2) (a .spectrum .now) (start .pre .3) (c .spectrum-of-component .ensures .1)
+    spectrum-written (a .n) (a .m) (a .rows .now) (a .c) (start .pre .0) (start .pre .1) (start .pre .2) (a .array .now) (start .pre .3) (c .spectrum-of-component .ensures .content)
 
 highest-requires : tie.Need-highest-requires
 highest-requires c κs =
@@ -34,7 +34,8 @@ returns : tie.Need-returns
 returns c =
     let start = c .before .before .before .before .before .before in
     let a = start .args in
-    top-of (a .n) (a .m) (a .rows .now) (a .c) (start .pre .0 .n-low) (written (c .before .before .before)) (c .highest .ensures)
+    let spectrum-left = written (c .before .before .before) in
+    (top-of (a .n) (a .m) (a .rows .now) (a .c) (start .pre .0 .n-low) spectrum-left (c .highest .ensures), spectrum-left)
 
 pub top-in-spec : {M : Type 1} → statement M
 top-in-spec =

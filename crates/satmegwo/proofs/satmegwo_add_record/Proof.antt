@@ -5,11 +5,10 @@ use borrow.Author.Tests.{eq-eqb, ne-eqb}
 use lib.ListN.{length}
 use Rattle.refusals.specs.Table.{first, replyAfter, contentAfter}
 use Rattle.refusals.specs.declared.Checked.{Checked}
-use Rattle.refusals.proofs.Checks.{reply-refused, content-refused}
 use Rattle.catalogue.specs.Calls.{told, gapFor, gapIndex, offeredChecks, addChecks, added}
 use Rattle.answers.specs.Answers.{roomNumber}
 use Rattle.satmegwo.specs.Exports.{addRecordChecks}
-use Rattle.answers.proofs.Giving.{figures-told, refusal-told, room-refused, room-passed}
+use Rattle.answers.proofs.Giving.{out-refused, out-figures, out-refusal, room-refused, room-passed}
 use borrow.Author.Needs.{needs}
 use Rattle.satmegwo.proofs.satmegwo_add_record.Statement.{statement}
 use Rattle.satmegwo.proofs.satmegwo_add_record.Tie as tie
@@ -39,11 +38,9 @@ returns c =
     let a = else .before .before .before .before .args in
     let b = a .catalogue .now in
     let file = a .file .now in
-    let index = gapIndex (gapFor b file) ∷ [] in
-    let found = first (addRecordChecks b file (length (a .figures .now))) in
     let t = room-refused (offeredChecks b file) _ (ne-eqb _ 1 (λ e. else .if1 .taken (sym e))) in
-    let says = refusal-told found index (a .figures .now) (reply-refused (t .is) index) in
-    (c .number-for-room .ensures ∙ ap roomNumber (c .before .check-offered .ensures) ∙ t .number-is ∙ says .0, (says .1, content-refused (t .is) _ _))
+    let n = c .number-for-room .ensures ∙ ap roomNumber (c .before .check-offered .ensures) ∙ t .number-is in
+    (out-refused (t .is) n, out-refused (t .is) n)
 
 add-requires : tie.Need-add-requires
 add-requires c κs = search needs
@@ -79,10 +76,11 @@ returns-2 c =
     let b = a .catalogue .now in
     let file = a .file .now in
     let index = gapIndex (gapFor b file) ∷ [] in
-    let found = first (addRecordChecks b file (length (a .figures .now))) in
-    let reply = sym (ap told (is .index .given .1)) ∙ called .add .ensures .0 ∙ ap (λ (k : Checked). replyAfter k index) (sym (as-called else)) in
-    let says = figures-told found index (is .index .given .0 .0 ∷ []) (a .figures .now) (sym (else .if1 .left)) reply (given .give .ensures) in
-    (says .0, (says .1, called .add .ensures .1 ∙ ap (λ (k : Checked). contentAfter k (added b file) b) (sym (as-called else))))
+    let as-here = sym (as-called else) in
+    let reply = called .add .ensures .reply ∙ ap (λ (k : Checked). replyAfter k index) as-here in
+    let records = called .add .ensures .content ∙ ap (λ (k : Checked). contentAfter k (added b file) b) as-here in
+    let figured = out-figures index (sym (else .if1 .left)) (sym (ap told (is .index .given .1)) ∙ reply) (given .give .ensures) in
+    (figured, record { number = figured .number; content = records })
 
 same-length-4 : tie.Need-same-length-4
 same-length-4 c = search needs
@@ -96,10 +94,11 @@ returns-3 c =
     let b = a .catalogue .now in
     let file = a .file .now in
     let index = gapIndex (gapFor b file) ∷ [] in
-    let found = first (addRecordChecks b file (length (a .figures .now))) in
-    let reply = sym (ap told (is .e .given .1)) ∙ called .add .ensures .0 ∙ ap (λ (k : Checked). replyAfter k index) (sym (as-called else)) in
-    let says = refusal-told found index (a .figures .now) reply in
-    (c .number-of .ensures ∙ says .0, (says .1, called .add .ensures .1 ∙ ap (λ (k : Checked). contentAfter k (added b file) b) (sym (as-called else))))
+    let as-here = sym (as-called else) in
+    let reply = called .add .ensures .reply ∙ ap (λ (k : Checked). replyAfter k index) as-here in
+    let records = called .add .ensures .content ∙ ap (λ (k : Checked). contentAfter k (added b file) b) as-here in
+    let figured = out-refusal index (sym (ap told (is .e .given .1)) ∙ reply) (c .number-of .ensures) in
+    (figured, record { number = figured .number; content = records })
 
 pub satmegwo-add-record-spec : {M : Type 1} → statement M
 satmegwo-add-record-spec =

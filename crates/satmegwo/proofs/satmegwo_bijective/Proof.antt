@@ -17,7 +17,7 @@ returns : tie.Need-returns
 returns c =
     let given = c .before .before in
     let called = given .before .before in
-    gives-same (called .before .before .before .args .figures .now) (called .is-bijective .ensures) (given .give-verdict .ensures)
+    gives-same (called .is-bijective .ensures) (given .give-verdict .ensures)
 
 pub satmegwo-bijective-spec : {M : Type 1} → statement M
 satmegwo-bijective-spec =

@@ -17,7 +17,7 @@ returns : tie.Need-returns
 returns c =
     let given = c .before .before in
     let called = given .before .before in
-    gives-same (called .before .before .before .args .figures .now) (called .check .ensures) (given .give-number .ensures)
+    gives-same (called .check .ensures) (given .give-number .ensures)
 
 pub satmegwo-check-catalogue-spec : {M : Type 1} → statement M
 satmegwo-check-catalogue-spec =

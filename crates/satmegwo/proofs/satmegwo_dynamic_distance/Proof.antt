@@ -23,10 +23,8 @@ returns c =
     let else = c .before .before in
     let a = else .before .before .before .args in
     let found = first (distanceChecks (a .n) (a .m) (a .rows .now) (a .i) (a .j)) in
-    let told =
-    room-first found (shown (dynamicDistance (a .n) (a .m) (a .rows .now) (a .i) (a .j))) (a .figures .now)
-    (λ ok e. else .if1 .taken (e ∙ distance-size (a .n) (a .m) (a .rows .now) (a .i) (a .j) ok)) in
-    (c .number-for-room .ensures ∙ ap roomNumber (c .before .check-distance .ensures) ∙ told .0, told .1)
+    room-first found (shown (dynamicDistance (a .n) (a .m) (a .rows .now) (a .i) (a .j))) (c .number-for-room .ensures ∙ ap roomNumber (c .before .check-distance .ensures))
+    (λ ok e. else .if1 .taken (e ∙ distance-size (a .n) (a .m) (a .rows .now) (a .i) (a .j) ok))
 
 dynamic-distance-requires : tie.Need-dynamic-distance-requires
 dynamic-distance-requires c κs = search needs
@@ -41,7 +39,7 @@ returns-2 : tie.Need-returns-2
 returns-2 c =
     let given = c .before .before in
     let called = given .before .before in
-    gives-same (called .before .before .before .before .args .figures .now) (called .dynamic-distance .ensures) (given .give-change .ensures)
+    gives-same (called .dynamic-distance .ensures) (given .give-change .ensures)
 
 pub satmegwo-dynamic-distance-spec : {M : Type 1} → statement M
 satmegwo-dynamic-distance-spec =

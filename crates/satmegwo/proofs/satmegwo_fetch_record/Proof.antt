@@ -17,7 +17,7 @@ returns : tie.Need-returns
 returns c =
     let given = c .before .before in
     let called = given .before .before in
-    gives-same (called .before .before .before .args .figures .now) (called .fetch-status .ensures) (given .give-place .ensures)
+    gives-same (called .fetch-status .ensures) (given .give-place .ensures)
 
 pub satmegwo-fetch-record-spec : {M : Type 1} → statement M
 satmegwo-fetch-record-spec =

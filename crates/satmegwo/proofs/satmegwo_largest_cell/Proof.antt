@@ -17,7 +17,7 @@ returns : tie.Need-returns
 returns c =
     let given = c .before .before in
     let called = given .before .before in
-    gives-same (called .before .before .before .args .figures .now) (called .largest-cell .ensures) (given .give-cell .ensures)
+    gives-same (called .largest-cell .ensures) (given .give-cell .ensures)
 
 pub satmegwo-largest-cell-spec : {M : Type 1} → statement M
 satmegwo-largest-cell-spec =

@@ -3,14 +3,13 @@ use mathlib.Core.Path.{_≡_, sym, ap, _∙_}
 use mathlib.Core.List.{[], _∷_}
 use borrow.Author.Tests.{eq-eqb, ne-eqb}
 use lib.ListN.{length}
-use Rattle.refusals.specs.Table.{first, boxChecks, replyAfter}
-use Rattle.refusals.specs.declared.Checked.{Checked}
-use Rattle.refusals.proofs.Checks.{reply-refused, content-refused}
+use Rattle.refusals.specs.Table.{first, boxChecks}
+use Rattle.refusals.proofs.Outcomes.{wrote-by}
 use Rattle.differential.specs.XorTable.{largestCells}
-use Rattle.differential.specs.Calls.{listChecks, listReply, listAfter}
+use Rattle.differential.specs.Calls.{listChecks, listReply}
 use Rattle.answers.specs.Answers.{roomNumber}
 use Rattle.satmegwo.specs.Exports.{cellsChecks}
-use Rattle.answers.proofs.Giving.{figures-told, refusal-told, room-refused, room-passed}
+use Rattle.answers.proofs.Giving.{out-refused, out-beside, out-figures, out-refusal, room-refused, room-passed}
 use borrow.Author.Needs.{needs}
 use Rattle.satmegwo.proofs.satmegwo_largest_cells.Statement.{statement}
 use Rattle.satmegwo.proofs.satmegwo_largest_cells.Tie as tie
@@ -33,11 +32,9 @@ unfolding cellsChecks
 returns c =
     let else = c .before .before in
     let a = else .before .before .before .before .args in
-    let cells = largestCells (a .n) (a .m) (a .rows .now) in
-    let found = first (cellsChecks (a .n) (a .m) (a .rows .now) (length (a .figures .now)) (length (a .list .now))) in
     let t = room-refused (boxChecks (a .n) (a .m) (a .rows .now)) _ (ne-eqb _ 1 (else .if1 .taken)) in
-    let told = refusal-told found (length cells ∷ []) (a .figures .now) (reply-refused (t .is) (length cells ∷ [])) in
-    (c .number-for-room .ensures ∙ ap roomNumber (c .before .check-box .ensures) ∙ t .number-is ∙ told .0, (told .1, content-refused (t .is) _ (a .list .now)))
+    let n = c .number-for-room .ensures ∙ ap roomNumber (c .before .check-box .ensures) ∙ t .number-is in
+    (out-refused (t .is) n, out-refused (t .is) n)
 
 largest-cells-requires : tie.Need-largest-cells-requires
 largest-cells-requires c κs = search needs
@@ -71,10 +68,9 @@ returns-2 c =
     let else = called .before .before in
     let a = else .before .before .before .before .args in
     let cells = largestCells (a .n) (a .m) (a .rows .now) in
-    let found = first (cellsChecks (a .n) (a .m) (a .rows .now) (length (a .figures .now)) (length (a .list .now))) in
-    let reply = sym (ap listReply (is .count .given .1)) ∙ called .largest-cells .ensures .0 ∙ ap (λ (k : Checked). replyAfter k (length cells ∷ [])) (sym (as-called else)) in
-    let told = figures-told found (length cells ∷ []) (is .count .given .0 .0 ∷ []) (a .figures .now) (else .if1 .left) reply (given .give .ensures) in
-    (told .0, (told .1, called .largest-cells .ensures .1 ∙ ap (λ (k : Checked). listAfter k cells (a .list .now)) (sym (as-called else))))
+    let wrote = wrote-by (sym (as-called else)) (called .largest-cells .ensures) in
+    let count = out-figures (length cells ∷ []) (else .if1 .left) (sym (ap listReply (is .count .given .1)) ∙ wrote .reply) (given .give .ensures) in
+    (count, out-beside count wrote)
 
 same-length-3 : tie.Need-same-length-3
 same-length-3 c = search needs
@@ -86,10 +82,9 @@ returns-3 c =
     let else = called .before .before in
     let a = else .before .before .before .before .args in
     let cells = largestCells (a .n) (a .m) (a .rows .now) in
-    let found = first (cellsChecks (a .n) (a .m) (a .rows .now) (length (a .figures .now)) (length (a .list .now))) in
-    let reply = sym (ap listReply (is .e .given .1)) ∙ called .largest-cells .ensures .0 ∙ ap (λ (k : Checked). replyAfter k (length cells ∷ [])) (sym (as-called else)) in
-    let told = refusal-told found (length cells ∷ []) (a .figures .now) reply in
-    (c .number-of .ensures ∙ told .0, (told .1, called .largest-cells .ensures .1 ∙ ap (λ (k : Checked). listAfter k cells (a .list .now)) (sym (as-called else))))
+    let wrote = wrote-by (sym (as-called else)) (called .largest-cells .ensures) in
+    let count = out-refusal (length cells ∷ []) (sym (ap listReply (is .e .given .1)) ∙ wrote .reply) (c .number-of .ensures) in
+    (count, out-beside count wrote)
 
 pub satmegwo-largest-cells-spec : {M : Type 1} → statement M
 satmegwo-largest-cells-spec =

@@ -21,8 +21,8 @@ returns c =
     let else = c .before .before in
     let a = else .before .before .before .args in
     let found = first (boxChecksUpTo 8 (a .n) (a .m) (a .rows .now)) in
-    let told = room-first found (raised (a .n) (a .m) (a .rows .now)) (a .figures .now) (λ ok e. else .if1 .taken (e ∙ swap-size (a .n) (a .m) (a .rows .now))) in
-    (c .number-for-room .ensures ∙ ap roomNumber (c .before .check-box-up-to .ensures) ∙ told .0, told .1)
+    room-first found (raised (a .n) (a .m) (a .rows .now)) (c .number-for-room .ensures ∙ ap roomNumber (c .before .check-box-up-to .ensures))
+    (λ ok e. else .if1 .taken (e ∙ swap-size (a .n) (a .m) (a .rows .now)))
 
 raising-swap-requires : tie.Need-raising-swap-requires
 raising-swap-requires c κs = search needs
@@ -37,7 +37,7 @@ returns-2 : tie.Need-returns-2
 returns-2 c =
     let given = c .before .before in
     let called = given .before .before in
-    gives-same (called .before .before .before .before .args .figures .now) (called .raising-swap .ensures) (given .give-swap .ensures)
+    gives-same (called .raising-swap .ensures) (given .give-swap .ensures)
 
 pub satmegwo-raising-swap-spec : {M : Type 1} → statement M
 satmegwo-raising-swap-spec =

@@ -6,11 +6,10 @@ use lib.ListN.{length}
 use Rattle.boolean.specs.Functions.{at}
 use Rattle.refusals.specs.Table.{first, replyAfter, contentAfter}
 use Rattle.refusals.specs.declared.Checked.{Checked}
-use Rattle.refusals.proofs.Checks.{reply-refused, content-refused}
 use Rattle.boxfile.specs.File.{rowsOf, fileChecks, boxFile}
 use Rattle.answers.specs.Answers.{roomNumber}
 use Rattle.satmegwo.specs.Exports.{readBoxChecks}
-use Rattle.answers.proofs.Giving.{figures-told, refusal-told, room-refused, room-passed}
+use Rattle.answers.proofs.Giving.{out-refused, out-figures, out-refusal, room-refused, room-passed}
 use borrow.Author.Needs.{needs}
 use Rattle.satmegwo.proofs.satmegwo_read_box.Statement.{statement}
 use Rattle.satmegwo.proofs.satmegwo_read_box.Tie as tie
@@ -36,11 +35,9 @@ returns c =
     let else = c .before .before in
     let a = else .before .before .before .before .args in
     let file = a .file .now in
-    let widths = at file 0 ∷ at file 1 ∷ [] in
-    let found = first (readBoxChecks file (length (a .rows .now)) (length (a .figures .now))) in
     let t = room-refused (fileChecks file (length (a .rows .now))) [] (ne-eqb _ 2 (else .if1 .taken)) in
-    let told = refusal-told found widths (a .figures .now) (reply-refused (t .is) widths) in
-    (c .number-for-room .ensures ∙ ap roomNumber (c .before .check-file .ensures) ∙ t .number-is ∙ told .0, (told .1, content-refused (t .is) _ _))
+    let n = c .number-for-room .ensures ∙ ap roomNumber (c .before .check-file .ensures) ∙ t .number-is in
+    (out-refused (t .is) n, out-refused (t .is) n)
 
 read-box-requires : tie.Need-read-box-requires
 read-box-requires c κs = search needs
@@ -75,10 +72,11 @@ returns-2 c =
     let a = else .before .before .before .before .args in
     let file = a .file .now in
     let widths = at file 0 ∷ at file 1 ∷ [] in
-    let found = first (readBoxChecks file (length (a .rows .now)) (length (a .figures .now))) in
-    let reply = sym (ap boxFile (is .n .given .1)) ∙ called .read-box .ensures .0 ∙ ap (λ (k : Checked). replyAfter k widths) (sym (as-called else)) in
-    let told = figures-told found widths (is .n .given .0 .0 ∷ is .n .given .0 .1 .0 ∷ []) (a .figures .now) (else .if1 .left) reply (given .give .ensures) in
-    (told .0, (told .1, called .read-box .ensures .1 ∙ ap (λ (k : Checked). contentAfter k (rowsOf file (at file 0)) (a .rows .now)) (sym (as-called else))))
+    let as-here = sym (as-called else) in
+    let reply = called .read-box .ensures .reply ∙ ap (λ (k : Checked). replyAfter k widths) as-here in
+    let rows = called .read-box .ensures .content ∙ ap (λ (k : Checked). contentAfter k (rowsOf file (at file 0)) (a .rows .now)) as-here in
+    let figured = out-figures widths (else .if1 .left) (sym (ap boxFile (is .n .given .1)) ∙ reply) (given .give .ensures) in
+    (figured, record { number = figured .number; content = rows })
 
 same-length-3 : tie.Need-same-length-3
 same-length-3 c = search needs
@@ -91,10 +89,11 @@ returns-3 c =
     let a = else .before .before .before .before .args in
     let file = a .file .now in
     let widths = at file 0 ∷ at file 1 ∷ [] in
-    let found = first (readBoxChecks file (length (a .rows .now)) (length (a .figures .now))) in
-    let reply = sym (ap boxFile (is .e .given .1)) ∙ called .read-box .ensures .0 ∙ ap (λ (k : Checked). replyAfter k widths) (sym (as-called else)) in
-    let told = refusal-told found widths (a .figures .now) reply in
-    (c .number-of .ensures ∙ told .0, (told .1, called .read-box .ensures .1 ∙ ap (λ (k : Checked). contentAfter k (rowsOf file (at file 0)) (a .rows .now)) (sym (as-called else))))
+    let as-here = sym (as-called else) in
+    let reply = called .read-box .ensures .reply ∙ ap (λ (k : Checked). replyAfter k widths) as-here in
+    let rows = called .read-box .ensures .content ∙ ap (λ (k : Checked). contentAfter k (rowsOf file (at file 0)) (a .rows .now)) as-here in
+    let figured = out-refusal widths (sym (ap boxFile (is .e .given .1)) ∙ reply) (c .number-of .ensures) in
+    (figured, record { number = figured .number; content = rows })
 
 pub satmegwo-read-box-spec : {M : Type 1} → statement M
 satmegwo-read-box-spec =

@@ -1,11 +1,11 @@
 -- `satmegwo::satmegwo_sum_nonlinearity` meets its contract: that of the call, with its figures in the lent array, whose length is looked at before the
 -- sweep. Assumes nothing.
-use mathlib.Core.Path.{_≡_, ap, _∙_}
-use mathlib.Core.List.{List}
+use mathlib.Core.Path.{ap, _∙_}
+use mathlib.Core.List.{List, [], _∷_}
 use Rattle.boolean.specs.Functions.{components}
 use Rattle.boolean.specs.Selection.{shown}
 use Rattle.refusals.specs.Table.{first}
-use Rattle.rounds.specs.Round.{Summand, boxOf, boxes, outputsOf, sumNonlinearity, sumChecks}
+use Rattle.rounds.specs.Round.{Summand, boxOf, given, outputsOf, sumNonlinearity, sumChecks}
 use Rattle.rounds.proofs.Reported.{figures-number}
 use Rattle.answers.specs.Answers.{roomNumber}
 use Rattle.answers.proofs.Giving.{gives-same, room-first}
@@ -13,7 +13,7 @@ use borrow.Author.Needs.{needs}
 use Rattle.satmegwo.proofs.satmegwo_sum_nonlinearity.Statement.{statement}
 use Rattle.satmegwo.proofs.satmegwo_sum_nonlinearity.Tie as tie
 
--- the four boxes, and those that are read
+-- the four boxes, and those that are given
 abbrev box1 : tie.Start → Summand
 box1 s = let a = s .args in boxOf (a .n1) (a .m1) (a .rows1 .now)
 
@@ -26,8 +26,11 @@ box3 s = let a = s .args in boxOf (a .n3) (a .m3) (a .rows3 .now)
 abbrev box4 : tie.Start → Summand
 box4 s = let a = s .args in boxOf (a .n4) (a .m4) (a .rows4 .now)
 
+abbrev four : tie.Start → List Summand
+four s = box1 s ∷ box2 s ∷ box3 s ∷ box4 s ∷ []
+
 abbrev summed : tie.Start → List Summand
-summed s = boxes (s .args .count) (box1 s) (box2 s) (box3 s) (box4 s)
+summed s = given (s .args .count) (four s)
 
 add-if1 : tie.Need-add-if1
 add-if1 c = search needs
@@ -44,9 +47,9 @@ returns c =
     let then = checked .before in
     let s = then .before .before .before .before .before .before in
     let a = s .args in
-    let g = room-first (first (sumChecks (a .count) (summed s) (a .i))) (shown (sumNonlinearity (summed s) (components (outputsOf (summed s)) (a .i)))) (a .figures .now)
-    (λ accepted e. then .if1 .taken (e ∙ figures-number (a .count) (box1 s) (box2 s) (box3 s) (box4 s) (a .i) accepted)) in
-    (c .number-for-room .ensures ∙ ap roomNumber (checked .check-sum .ensures) ∙ g .0, g .1)
+    room-first (first (sumChecks (a .count) (four s) (a .i))) (shown (sumNonlinearity (summed s) (components (outputsOf (summed s)) (a .i))))
+    (c .number-for-room .ensures ∙ ap roomNumber (checked .check-sum .ensures))
+    (λ accepted e. then .if1 .taken (e ∙ figures-number (a .count) (box1 s) (box2 s) (box3 s) (box4 s) (a .i) accepted))
 
 sum-nonlinearity-requires : tie.Need-sum-nonlinearity-requires
 sum-nonlinearity-requires c κs = search needs
@@ -61,8 +64,7 @@ returns-2 : tie.Need-returns-2
 returns-2 c =
     let given = c .before .before in
     let called = given .before .before in
-    let s = called .before .before .before .before .before .before .before in
-    gives-same (s .args .figures .now) (called .sum-nonlinearity .ensures) (given .give-sum .ensures)
+    gives-same (called .sum-nonlinearity .ensures .says) (given .give-sum .ensures)
 
 pub satmegwo-sum-nonlinearity-spec : {M : Type 1} → statement M
 satmegwo-sum-nonlinearity-spec =

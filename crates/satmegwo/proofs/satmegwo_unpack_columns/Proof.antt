@@ -1,6 +1,5 @@
 -- `satmegwo::satmegwo_unpack_columns` meets its contract: that of the call, with a number in place of the answer. Assumes nothing.
-use mathlib.Core.Path.{ap, _∙_}
-use Rattle.answers.specs.Answers.{status}
+use Rattle.answers.proofs.Giving.{wrote-out}
 use borrow.Author.Needs.{needs}
 use Rattle.satmegwo.proofs.satmegwo_unpack_columns.Statement.{statement}
 use Rattle.satmegwo.proofs.satmegwo_unpack_columns.Tie as tie
@@ -15,9 +14,7 @@ same-length : tie.Need-same-length
 same-length c = search needs
 
 returns : tie.Need-returns
-returns c =
-    let called = c .before .before .before .unpack .ensures in
-    (c .status-of .ensures ∙ ap status (called .0), called .1)
+returns c = wrote-out (c .before .before .before .unpack .ensures) (c .status-of .ensures)
 
 pub satmegwo-unpack-columns-spec : {M : Type 1} → statement M
 satmegwo-unpack-columns-spec = tie.close (tie.spec unpack-requires status-of-requires same-length returns)

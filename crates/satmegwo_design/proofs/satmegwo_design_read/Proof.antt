@@ -7,16 +7,13 @@ use Rattle.refusals.specs.Table.{first, figures, refusal, number, replyAfter, c
 use Rattle.refusals.specs.declared.Checked.{Checked}
 use Rattle.refusals.proofs.Checks.{reply-refused, content-refused}
 use Rattle.design.specs.Model.{readChecks}
-use Rattle.design.specs.Calls.{state, rowsOf, boxHeld, Sound}
+use Rattle.design.specs.Calls.{state, rowsOf, boxHeld}
 use Rattle.answers.proofs.Giving.{figures-told, refusal-told, room-refused, room-passed}
-use Rattle.satmegwo_design.specs.Reading.{readDesignChecks}
+use Rattle.satmegwo_design.specs.Exports.{readDesignChecks}
 use Rattle.satmegwo_design.proofs.Numbers.{only-seven}
 use borrow.Author.Needs.{needs}
 use Rattle.satmegwo_design.proofs.satmegwo_design_read.Statement.{statement}
 use Rattle.satmegwo_design.proofs.satmegwo_design_read.Tie as tie
-
-number-of-requires : tie.Need-number-of-requires
-number-of-requires c κs = search needs
 
 -- with two elements lent for the figures, the checks are those of the call
 as-called : (c : tie.Else1) →
@@ -37,31 +34,11 @@ returns c =
     let found = first (readDesignChecks s (length (a .rows .now)) (length (a .figures .now))) in
     let t = room-refused (readChecks s (length (a .rows .now))) [] (ne-eqb _ 2 (then .if1 .taken)) in
     let told = refusal-told found widths (a .figures .now) (reply-refused (t .is) widths) in
-    (λ k. c .number-of .ensures ∙ only-seven s (length (a .rows .now)) ∙ t .number-is ∙ told .0, (λ k. told .1, λ k. content-refused (t .is) _ _))
-
-read-box-requires : tie.Need-read-box-requires
-read-box-requires c κs = search needs
-
-enum-known-n : tie.Need-enum-known-n
-enum-known-n c = search needs
-
-slice-aggregate-give : tie.Need-slice-aggregate-give
-slice-aggregate-give c = search needs
-
-give-requires : tie.Need-give-requires
-give-requires c κs = search needs
-
-enum-known-e : tie.Need-enum-known-e
-enum-known-e c = search needs
-
-number-of-requires-2 : tie.Need-number-of-requires-2
-number-of-requires-2 c κs = search needs
-
-same-length : tie.Need-same-length
-same-length c = search needs
-
-same-length-2 : tie.Need-same-length-2
-same-length-2 c = search needs
+    record {
+      number = c .number-of .ensures ∙ only-seven s (length (a .rows .now)) ∙ t .number-is ∙ told .0;
+      widths = told .1;
+      box = content-refused (t .is) _ _;
+    }
 
 returns-2 : tie.Need-returns-2
 returns-2 c =
@@ -74,13 +51,11 @@ returns-2 c =
     let found = first (readDesignChecks (state (a .design)) (length (a .rows .now)) (length (a .figures .now))) in
     let o = called .read-box .ensures in
     let read = is .n .given .0 .0 ∷ is .n .given .0 .1 .0 ∷ [] in
-    let reply : Sound (a .design) → figures read ≡ replyAfter found widths = λ s. sym (ap boxHeld (is .n .given .1)) ∙ o .0 s ∙ ap (λ (k : Checked). replyAfter k widths) (sym (as-called else)) in
-    let put = given .give .ensures in
-    let room = else .if1 .left in
-    (λ s. figures-told found widths read (a .figures .now) room (reply s) put .0, (λ s. figures-told found widths read (a .figures .now) room (reply s) put .1, λ s. o .1 s ∙ ap (λ (k : Checked). contentAfter k (rowsOf (a .design)) (a .rows .now)) (sym (as-called else))))
-
-same-length-3 : tie.Need-same-length-3
-same-length-3 c = search needs
+    let reply : figures read ≡ replyAfter found widths =
+    sym (ap boxHeld (is .n .given .1)) ∙ o .reply ∙ ap (λ (k : Checked). replyAfter k widths) (sym (as-called else))
+    in
+    let told = figures-told found widths read (a .figures .now) (else .if1 .left) reply (given .give .ensures) in
+    record { number = told .0; widths = told .1; box = o .content ∙ ap (λ (k : Checked). contentAfter k (rowsOf (a .design)) (a .rows .now)) (sym (as-called else)) }
 
 returns-3 : tie.Need-returns-3
 returns-3 c =
@@ -91,23 +66,30 @@ returns-3 c =
     let widths = a .design .n ∷ a .design .m ∷ [] in
     let found = first (readDesignChecks (state (a .design)) (length (a .rows .now)) (length (a .figures .now))) in
     let o = called .read-box .ensures in
-    let reply : Sound (a .design) → refusal (number (is .e .given .0 .0)) ≡ replyAfter found widths = λ s. sym (ap boxHeld (is .e .given .1)) ∙ o .0 s ∙ ap (λ (k : Checked). replyAfter k widths) (sym (as-called else)) in
-    (λ s. c .number-of2 .ensures ∙ refusal-told found widths (a .figures .now) (reply s) .0, (λ s. refusal-told found widths (a .figures .now) (reply s) .1, λ s. o .1 s ∙ ap (λ (k : Checked). contentAfter k (rowsOf (a .design)) (a .rows .now)) (sym (as-called else))))
+    let reply : refusal (number (is .e .given .0 .0)) ≡ replyAfter found widths =
+    sym (ap boxHeld (is .e .given .1)) ∙ o .reply ∙ ap (λ (k : Checked). replyAfter k widths) (sym (as-called else))
+    in
+    let told = refusal-told found widths (a .figures .now) reply in
+    record {
+      number = c .number-of2 .ensures ∙ told .0;
+      widths = told .1;
+      box = o .content ∙ ap (λ (k : Checked). contentAfter k (rowsOf (a .design)) (a .rows .now)) (sym (as-called else));
+    }
 
 pub satmegwo-design-read-spec : {M : Type 1} → statement M
 satmegwo-design-read-spec =
     tie.close
     (tie.spec
-    number-of-requires
+    (λ c κs. search needs)
     returns
-    read-box-requires
-    enum-known-n
-    slice-aggregate-give
-    give-requires
-    enum-known-e
-    number-of-requires-2
-    same-length
-    same-length-2
+    (λ c κs. search needs)
+    (λ c. search needs)
+    (λ c. search needs)
+    (λ c κs. search needs)
+    (λ c. search needs)
+    (λ c κs. search needs)
+    (λ c. search needs)
+    (λ c. search needs)
     returns-2
-    same-length-3
+    (λ c. search needs)
     returns-3)

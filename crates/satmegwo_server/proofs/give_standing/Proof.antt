@@ -1,9 +1,9 @@
 -- `satmegwo_server::give_standing` meets its contract: each case gives its figures, or the number. Assumes nothing.
-use mathlib.Core.Path.{sym, ap, _∙_}
+use mathlib.Core.Path.{sym, ap}
 use borrow.Author.Needs.{needs}
 use Rattle.server.specs.declared.Asked.{Asked}
 use Rattle.server.specs.Calls.{answered}
-use Rattle.answers.proofs.Giving.{gives-refused, gives-same}
+use Rattle.answers.proofs.Giving.{gives-same, gives-refused}
 use Rattle.satmegwo_server.specs.Exports.{standingReply}
 use Rattle.satmegwo_server.proofs.give_standing.Statement.{statement}
 use Rattle.satmegwo_server.proofs.give_standing.Tie as tie
@@ -37,22 +37,18 @@ same-length c = search needs
 
 returns : tie.Need-returns
 returns c =
-    let a = c .before .before .before .before .before .before .before .before .args in
-    gives-same (a .figures .now) (sym (ap (λ (s : Asked). standingReply (answered s)) (c .before .before .before .before .before .enum-told .given .1))) (c .before .before .give .ensures)
+    gives-same (sym (ap (λ (s : Asked). standingReply (answered s)) (c .before .before .before .before .before .enum-told .given .1))) (c .before .before .give .ensures)
 
 same-length-2 : tie.Need-same-length-2
 same-length-2 c = search needs
 
 returns-2 : tie.Need-returns-2
 returns-2 c =
-    let a = c .before .before .before .before .before .before .before .before .before .args in
-    gives-same (a .figures .now) (sym (ap (λ (s : Asked). standingReply (answered s)) (c .before .before .before .before .before .before .answer .given .1))) (c .before .before .give2 .ensures)
+    gives-same (sym (ap (λ (s : Asked). standingReply (answered s)) (c .before .before .before .before .before .before .answer .given .1))) (c .before .before .give2 .ensures)
 
 returns-3 : tie.Need-returns-3
 returns-3 c =
-    let a = c .before .before .before .before .before .args in
-    let g = gives-same (a .figures .now) (sym (ap (λ (s : Asked). standingReply (answered s)) (c .before .before .answer2 .given .1))) (gives-refused _ (a .figures .now)) in
-    (c .number-of .ensures ∙ g .0, g .1)
+    gives-same (sym (ap (λ (s : Asked). standingReply (answered s)) (c .before .before .answer2 .given .1))) (gives-refused (c .number-of .ensures))
 
 pub give-standing-spec : {M : Type 1} → statement M
 give-standing-spec =

@@ -1,8 +1,6 @@
 -- `satmegwo_server::satmegwo_server_ask` meets its contract: the answer's figures, or the number. Assumes nothing.
-use mathlib.Core.Path.{ap}
 use borrow.Author.Needs.{needs}
-use Rattle.answers.proofs.Giving.{gives-same}
-use Rattle.satmegwo_server.specs.Exports.{standingReply}
+use Rattle.server.specs.Calls.{answered}
 use Rattle.satmegwo_server.proofs.satmegwo_server_ask.Statement.{statement}
 use Rattle.satmegwo_server.proofs.satmegwo_server_ask.Tie as tie
 
@@ -18,11 +16,8 @@ same-length c = search needs
 returns : tie.Need-returns
 returns c =
     let given = c .before .before in
-    let called = given .before .before in
-    let old = called .before .before .args .figures .now in (
-      λ h. gives-same old (ap standingReply (called .ask .ensures h)) (given .give-standing .ensures) .0,
-      λ h. gives-same old (ap standingReply (called .ask .ensures h)) (given .give-standing .ensures) .1,
-    )
+    let called = given .before .before .ask in
+    record { said = answered (called .result); outcome = called .ensures; out = given .give-standing .ensures }
 
 pub satmegwo-server-ask-spec : {M : Type 1} → statement M
 satmegwo-server-ask-spec =

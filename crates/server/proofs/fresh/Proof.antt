@@ -1,6 +1,6 @@
 -- `server::fresh` meets its contract: the rows are kept, and no pair was examined. Assumes nothing.
 use borrow.Author.Needs.{needs}
-use Rattle.server.proofs.Boxes.{fresh-sound, fresh-spot}
+use Rattle.server.proofs.Boxes.{fresh-place}
 use Rattle.server.proofs.fresh.Statement.{statement}
 use Rattle.server.proofs.fresh.Tie as tie
 
@@ -16,10 +16,7 @@ padded-requires c κs = search needs
 returns : tie.Need-returns
 returns c =
     let a = c .before .before .args in
-    let b = c .before .before .pre in (
-      fresh-sound (a .n) (a .m) (a .rows .now) (c .padded .result) (b .0) (b .1) (c .padded .ensures),
-      fresh-spot (a .n) (a .m) (a .rows .now) (c .padded .result) (b .0) (b .1) (c .padded .ensures),
-    )
+    fresh-place (a .n) (a .m) (a .rows .now) (c .padded .result) (c .before .before .pre .size) (c .padded .ensures)
 
 pub fresh-spec : {M : Type 1} → statement M
 fresh-spec = tie.close (tie.spec cast-t7 add-t8 padded-requires returns)

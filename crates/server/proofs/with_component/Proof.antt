@@ -1,11 +1,14 @@
 -- `server::with_component` meets its contract: an accepted box, and arrays that are as long. Assumes nothing.
 use mathlib.Core.List.{[]}
-use mathlib.Core.Path.{_∙_, sym}
+use mathlib.Core.Path.{_≡_, ap, _∙_, sym}
 use borrow.Author.Needs.{needs}
 use lib.Seq.{length-take-le}
-use Rattle.refusals.specs.Table.{Box}
-use Rattle.refusals.proofs.Checks.{box, box-accepted}
-use Rattle.server.proofs.Boxes.{not-both}
+use Rattle.refusals.specs.Table.{Box, first, boxChecks}
+use Rattle.refusals.specs.declared.Checked.the-variants.{Accepted}
+use Rattle.refusals.proofs.Checks.{box}
+use Rattle.linear.specs.Work.{candidate}
+use Rattle.server.specs.Calls.{foundOf}
+use Rattle.server.proofs.Boxes.{better-none, better-some}
 use Rattle.server.proofs.with_component.Statement.{statement}
 use Rattle.server.proofs.with_component.Tie as tie
 
@@ -16,16 +19,19 @@ enum-told : tie.Need-enum-told
 enum-told c = search needs
 
 returns : tie.Need-returns
-returns c b =
+returns c =
     let p = c .before .before in
     let a = p .before .before .args in
-    absurd (not-both (sym (p .check-box .ensures) ∙ c .enum-told .given .1) (box-accepted (a .n) (a .m) (a .rows .now) b))
+    sym (ap foundOf (better-none (a .n) (a .m) (a .rows .now) (candidate (a .found)) (a .c) (sym (p .check-box .ensures) ∙ c .enum-told .given .1)))
 
 enum-told-2 : tie.Need-enum-told-2
 enum-told-2 c = search needs
 
+accepted : (c : tie.After-enum-told2) → let a = c .before .before .before .before .args in first (boxChecks (a .n) (a .m) (a .rows .now)) ≡ Accepted
+accepted c = sym (c .before .before .check-box .ensures) ∙ c .enum-told2 .given .1
+
 boxed : (c : tie.After-enum-told2) → let a = c .before .before .before .before .args in Box (a .n) (a .m) (a .rows .now)
-boxed c = let a = c .before .before .before .before .args in box (a .n) (a .m) (a .rows .now) [] (sym (c .before .before .check-box .ensures) ∙ c .enum-told2 .given .1)
+boxed c = let a = c .before .before .before .before .args in box (a .n) (a .m) (a .rows .now) [] (accepted c)
 
 array-borrow-prefix-table : tie.Need-array-borrow-prefix-table
 array-borrow-prefix-table c = boxed c .small
@@ -48,7 +54,12 @@ with-arrays-requires c κs =
     )
 
 returns-2 : tie.Need-returns-2
-returns-2 c = search needs
+returns-2 c =
+    let called = c .before .before in
+    let told = called .before .before .before in
+    let a = told .before .before .before .before .args in
+    ap foundOf
+    (called .with-arrays .ensures .0 ∙ sym (better-some (a .n) (a .m) (a .rows .now) (candidate (a .found)) (a .c) (accepted told)))
 
 pub with-component-spec : {M : Type 1} → statement M
 with-component-spec =

@@ -1,6 +1,7 @@
 -- `sheet::write_from_bic` meets its contract: with m = 1 the line says that there is no figure; else a refused figure leaves the text as it
 -- is, and a figure's line stands before those that follow. Assumes nothing.
-use mathlib.Core.Path.{sym, ap, _∙_}
+use mathlib.Core.Path.{_≡_, sym, ap, _∙_}
+use native.Mathlib.Omega.{arith}
 use Rattle.avalanche.specs.Calls.{changeReply}
 use Rattle.texts.proofs.Lengths.{line-few}
 use Rattle.sheet.specs.Sheet.{outcome, sheetLines}
@@ -28,7 +29,8 @@ returns c =
     let done = c .before .before in
     let put = done .before .before .before .before in
     let then = put .before .before .before in
-    printed-line 37 (bic-none _ _ _ (then .if1 .taken)) (search needs) (put .put-bytes .ensures .0) (put .put-bytes .ensures .1) (done .write-from-degree .ensures)
+    let one : then .before .before .before .args .m ≡ 1 = omega (arith, then .if1 .taken) in
+    printed-line 37 (bic-none _ _ _ one) (search needs) (put .put-bytes .ensures .0) (put .put-bytes .ensures .1) (done .write-from-degree .ensures)
 
 dynamic-distance-requires : tie.Need-dynamic-distance-requires
 dynamic-distance-requires c κs = search needs

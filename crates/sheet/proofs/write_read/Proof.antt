@@ -14,7 +14,7 @@ use Rattle.sheet.proofs.write_read.Tie as tie
 read : (c : tie.After-read-box) → boxFile (c .read-box .result) ≡ fileReply (c .before .before .before .before .before .args .file .now)
 read c =
     let start = c .before .before .before .before .before in
-    c .read-box .ensures .0 ∙ reply-with-room (start .args .file .now) (start .pre .0)
+    c .read-box .ensures .reply ∙ reply-with-room (start .args .file .now) (start .pre .0)
 
 read-box-requires : tie.Need-read-box-requires
 read-box-requires c κs = search needs
@@ -64,7 +64,7 @@ returns-2 c =
     let reading = told-before .before .before .before .before in
     let start = reading .before .before .before .before .before in
     let reply = sym (read reading) ∙ ap boxFile (told-before .answer2 .given .1 ∙ told .answer3 .given .1) ∙ ap refusal (sym (number .number-of .ensures)) in
-    wrote-refused (start .args .file .now) (start .args .text .now) reply (put .put-line .ensures .0) (put .put-line .ensures .1)
+    (wrote-refused (start .args .file .now) (start .args .text .now) reply (put .put-line .ensures .0) (put .put-line .ensures .1), reading .read-box .kept .1 .0)
 
 slice-aggregate-put-line-3 : tie.Need-slice-aggregate-put-line-3
 slice-aggregate-put-line-3 c = search needs
@@ -95,8 +95,9 @@ returns-3 c =
     let start = reading .before .before .before .before .before in
     let file = start .args .file .now in
     let reply = sym (read reading) ∙ ap boxFile (told .answer .given .1) in
-    let rows = reading .read-box .ensures .1 ∙ rows-with-room file (start .pre .0) reply (start .args .rows .now) in
-    wrote-box file (start .args .text .now) reply rows (put .put-line2 .ensures .0) (put .put-line2 .ensures .1) (done .write-from-nonlinearity .ensures)
+    let rows = reading .read-box .ensures .content ∙ rows-with-room file (start .pre .0) reply (start .args .rows .now) in
+    let written = wrote-box file (start .args .text .now) reply rows (put .put-line2 .ensures .0) (put .put-line2 .ensures .1) (done .write-from-nonlinearity .ensures) in
+    (written, reading .read-box .kept .1 .0)
 
 pub write-read-spec : {M : Type 1} → statement M
 write-read-spec =

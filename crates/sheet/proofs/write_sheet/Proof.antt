@@ -1,7 +1,6 @@
 -- `sheet::write_sheet` meets its contract: the part of the rows that is lent is as long as the room. Assumes nothing.
-use mathlib.Core.Path.{sym, subst}
+use mathlib.Core.Path.{sym, _∙_}
 use lib.Seq.{length-take-le}
-use Rattle.boxfile.specs.Work.{Room}
 use borrow.Author.Needs.{needs}
 use Rattle.sheet.proofs.write_sheet.Statement.{statement}
 use Rattle.sheet.proofs.write_sheet.Tie as tie
@@ -13,15 +12,15 @@ array-borrow-prefix-rows : tie.Need-array-borrow-prefix-rows
 array-borrow-prefix-rows c = search needs
 
 slice-aggregate-write-read : tie.Need-slice-aggregate-write-read
-slice-aggregate-write-read c = sym (length-take-le _ _ (c .before .room-of .ensures .small))
+slice-aggregate-write-read c = sym (length-take-le _ _ (c .before .room-of .ensures .1))
 
 write-read-requires : tie.Need-write-read-requires
 write-read-requires c κs =
     let room = c .before .before .room-of .ensures in
-    (subst (Room (c .before .before .before .before .args .file .now)) (sym (length-take-le _ _ (room .small))) room, search needs)
+    (length-take-le _ _ (room .1) ∙ room .0, search needs)
 
 returns : tie.Need-returns
-returns c = search needs
+returns c = c .before .write-read .ensures .0
 
 pub write-sheet-spec : {M : Type 1} → statement M
 write-sheet-spec =

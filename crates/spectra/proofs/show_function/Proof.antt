@@ -14,7 +14,7 @@ array-borrow-prefix-table : tie.Need-array-borrow-prefix-table
 array-borrow-prefix-table c = search needs
 
 slice-aggregate-inverse-spectrum : tie.Need-slice-aggregate-inverse-spectrum
-slice-aggregate-inverse-spectrum c = sym (length-take-le _ _ (c .before .smaller .ensures .1))
+slice-aggregate-inverse-spectrum c = sym (length-take-le _ _ (c .before .smaller .ensures .2))
 
 inverse-spectrum-requires : tie.Need-inverse-spectrum-requires
 inverse-spectrum-requires c κs = search needs
@@ -42,7 +42,7 @@ returns-2 c = search needs
 
 -- what came back is as long as what was lent
 long : (c : tie.After-inverse-spectrum) → length (c .inverse-spectrum .last .1 .1 .0) ≡ c .before .before .smaller .result
-long c = c .inverse-spectrum .kept .1 .1 .0 ∙ length-take-le _ _ (c .before .before .smaller .ensures .1)
+long c = c .inverse-spectrum .kept .1 .1 .0 ∙ length-take-le _ _ (c .before .before .smaller .ensures .2)
 
 array-share-prefix-table : tie.Need-array-share-prefix-table
 array-share-prefix-table c = part-inside (c .before .before .before .inverse-spectrum .last .1 .1 .0) _ _ (long (c .before .before .before))

@@ -15,14 +15,14 @@ array-borrow-prefix-table : tie.Need-array-borrow-prefix-table
 array-borrow-prefix-table c = search needs
 
 slice-aggregate-read-digits : tie.Need-slice-aggregate-read-digits
-slice-aggregate-read-digits c = sym (length-take-le _ _ (c .before .smaller .ensures .1))
+slice-aggregate-read-digits c = sym (length-take-le _ _ (c .before .smaller .ensures .2))
 
 read-digits-requires : tie.Need-read-digits-requires
-read-digits-requires c κs = le-trans (le-of-eq (length-take-le _ _ (c .before .smaller .ensures .1))) (c .before .smaller .ensures .0)
+read-digits-requires c κs = le-trans (le-of-eq (length-take-le _ _ (c .before .smaller .ensures .2))) (c .before .smaller .ensures .1)
 
 -- what came back is as long as what was lent
 long : (c : tie.After-read-digits) → length (c .read-digits .last .1 .0) ≡ c .before .before .smaller .result
-long c = c .read-digits .kept .1 .0 ∙ length-take-le _ _ (c .before .before .smaller .ensures .1)
+long c = c .read-digits .kept .1 .0 ∙ length-take-le _ _ (c .before .before .smaller .ensures .2)
 
 array-share-prefix-table : tie.Need-array-share-prefix-table
 array-share-prefix-table c = part-inside (c .before .read-digits .last .1 .0) _ _ (long (c .before))

@@ -17,7 +17,7 @@ array-borrow-prefix-values : tie.Need-array-borrow-prefix-values
 array-borrow-prefix-values c = search needs
 
 slice-aggregate-spectrum : tie.Need-slice-aggregate-spectrum
-slice-aggregate-spectrum c = sym (length-take-le _ _ (c .before .before .smaller .ensures .1))
+slice-aggregate-spectrum c = sym (length-take-le _ _ (c .before .before .smaller .ensures .2))
 
 spectrum-requires : tie.Need-spectrum-requires
 spectrum-requires c κs = search needs
@@ -45,7 +45,7 @@ returns-2 c = search needs
 
 -- what came back is as long as what was lent
 long : (c : tie.After-spectrum) → length (c .spectrum .last .1 .1 .0) ≡ c .before .before .before .smaller .result
-long c = c .spectrum .kept .1 .1 .0 ∙ length-take-le _ _ (c .before .before .before .smaller .ensures .1)
+long c = c .spectrum .kept .1 .1 .0 ∙ length-take-le _ _ (c .before .before .before .smaller .ensures .2)
 
 array-share-prefix-values : tie.Need-array-share-prefix-values
 array-share-prefix-values c = part-inside (c .before .before .before .spectrum .last .1 .1 .0) _ _ (long (c .before .before .before))

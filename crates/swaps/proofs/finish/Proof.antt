@@ -33,8 +33,10 @@ same-length c = search needs
 
 returns : tie.Need-returns
 returns c =
-    let start = c .before .before .before .before .before .before .before .before .before .before in
-    never-declined (later start (c .before .before .before .before .before .before .write-swapped .ensures)) (sym (ap leastPair (c .enum-told .given .1)) ∙ c .before .before .nonlinearity .ensures)
+    let start = c .before .before .before .before .before .before .before .before .before .before in (
+      never-declined (later start (c .before .before .before .before .before .before .write-swapped .ensures)) (sym (ap leastPair (c .enum-told .given .1)) ∙ c .before .before .nonlinearity .ensures),
+      c .before .before .before .before .before .before .write-swapped .ensures,
+    )
 
 cast-t17 : tie.Need-cast-t17
 cast-t17 c = search needs
@@ -48,10 +50,12 @@ same-length-2 c = search needs
 returns-2 : tie.Need-returns-2
 returns-2 c =
     let start = c .before .before .before .before .before .before .before .before .before .before .before in
-    let a = start .args in
-    ap (λ (k : ℕ). figures (1 ∷ a .low ∷ a .high ∷ k ∷ []))
-    (figure-reached (later start (c .before .before .before .before .before .before .before .write-swapped .ensures)) (sym (ap leastPair (c .before .later .given .1)) ∙ c .before .before .before .nonlinearity .ensures)
-    ∙ ap (λ (l : List ℕ). figureOf (a .n) (a .m) l) (c .before .before .before .before .before .before .before .write-swapped .ensures))
+    let a = start .args in (
+      ap (λ (k : ℕ). figures (1 ∷ a .low ∷ a .high ∷ k ∷ []))
+          (figure-reached (later start (c .before .before .before .before .before .before .before .write-swapped .ensures)) (sym (ap leastPair (c .before .later .given .1)) ∙ c .before .before .before .nonlinearity .ensures)
+          ∙ ap (λ (l : List ℕ). figureOf (a .n) (a .m) l) (c .before .before .before .before .before .before .before .write-swapped .ensures)),
+      c .before .before .before .before .before .before .before .write-swapped .ensures,
+    )
 
 pub finish-spec : {M : Type 1} → statement M
 finish-spec =

@@ -26,7 +26,7 @@ same-length-2 c = c .before .out .given
 returns : tie.Need-returns Inv-loop μ-loop
 returns c =
     let hint = c .before .before .before .before .before .before .before .before .before .pre .2 in
-    reaches (hint .low) (hint .high) (c .before .before .before .before .component-count .ensures) (c .if1 .taken)
+    (reaches (hint .low) (hint .high) (c .before .before .before .before .component-count .ensures .0) (c .if1 .taken), search needs, search needs)
 
 power-of-two-requires : tie.Need-power-of-two-requires Inv-loop μ-loop
 power-of-two-requires c κs = c .before .before .before .before .before .before .before .before .before .pre .0 .box .m-high
@@ -50,10 +50,13 @@ same-length-4 c = c .before .out2 .given ∙ c .before .before .before .before .
 
 returns-2 : tie.Need-returns-2 Inv-loop μ-loop
 returns-2 c =
-    let i = c .before .before .before .before .before .before .before .before .loop .inv in
-    reaches (i .c-low)
-    (omega (arith, c .before .before .before .before .before .before .before .loop-test .taken, c .before .before .before .before .before .before .before .before .before .power-of-two .ensures .0))
-    (c .before .before .before .before .component-count2 .ensures) (c .if2 .taken)
+    let i = c .before .before .before .before .before .before .before .before .loop .inv in (
+      reaches (i .c-low)
+          (omega (arith, c .before .before .before .before .before .before .before .loop-test .taken, c .before .before .before .before .before .before .before .before .before .power-of-two .ensures .0))
+          (c .before .before .before .before .component-count2 .ensures .0) (c .if2 .taken),
+      search needs,
+      search needs,
+    )
 
 add-c : tie.Need-add-c Inv-loop μ-loop
 add-c c =
@@ -66,7 +69,7 @@ loop-less c = search needs
 loop-again : tie.Need-loop-again Inv-loop μ-loop
 loop-again c =
     let i = c .before .before .before .before .before .before .before .before .loop .inv in
-    reaching-next i (again (i .arrays) (c .before .before .before .bits2 .given) (c .before .out2 .given)) (c .before .before .before .before .component-count2 .ensures) (c .if2 .left)
+    reaching-next i (again (i .arrays) (c .before .before .before .bits2 .given) (c .before .out2 .given)) (c .before .before .before .before .component-count2 .ensures .0) (c .if2 .left)
 
 same-length-5 : tie.Need-same-length-5 Inv-loop μ-loop
 same-length-5 c = c .before .loop .inv .arrays .table-size ∙ sym (c .before .before .before .before .before .before .before .before .before .before .before .before .pre .0 .table-size)
@@ -75,7 +78,8 @@ same-length-6 : tie.Need-same-length-6 Inv-loop μ-loop
 same-length-6 c = c .before .loop .inv .arrays .out-size ∙ sym (c .before .before .before .before .before .before .before .before .before .before .before .before .pre .0 .out-size)
 
 returns-3 : tie.Need-returns-3 Inv-loop μ-loop
-returns-3 c = reaching-ends (c .before .loop .inv) (omega (arith, c .loop-test .left, c .before .before .power-of-two .ensures .0))
+returns-3 c =
+    (reaching-ends (c .before .loop .inv) (omega (arith, c .loop-test .left, c .before .before .power-of-two .ensures .0)), search needs, search needs)
 
 pub reaching-spec : {M : Type 1} → statement M
 reaching-spec =

@@ -48,7 +48,7 @@ search-requires c κs =
     )
 
 returns : tie.Need-returns
-returns c = ap figures (raised-none (c .before .before .before .before .before .search .ensures) (not-true _ (c .if1 .taken)))
+returns c = ap figures (raised-none (c .before .before .before .before .before .search .ensures .0) (not-true _ (c .if1 .taken)))
 
 array-borrow-prefix-later : tie.Need-array-borrow-prefix-later
 array-borrow-prefix-later c = c .before .before .before .before .before .before .before .before .before .before .before .before .pre .0 .small
@@ -59,11 +59,11 @@ slice-aggregate-finish c = sym (length-take-le _ _ (c .before .before .before .b
 finish-requires : tie.Need-finish-requires
 finish-requires c κs =
     let box = c .before .before .before .before .before .before .before .before .before .before .before .before .before .pre .0 in
-    let inside = found-inside (c .before .before .before .before .before .before .search .ensures) (not-false _ (c .before .if1 .left)) in
+    let inside = found-inside (c .before .before .before .before .before .before .search .ensures .0) (not-false _ (c .before .if1 .left)) in
     (box, length-take-le _ _ (box .small) ∙ box .size, inside .0, inside .1)
 
 returns-2 : tie.Need-returns-2
-returns-2 c = c .before .finish .ensures ∙ ap figures (raised-found (c .before .before .before .before .before .before .before .before .search .ensures) (not-false _ (c .before .before .before .if1 .left)))
+returns-2 c = c .before .finish .ensures .0 ∙ ap figures (raised-found (c .before .before .before .before .before .before .before .before .search .ensures .0) (not-false _ (c .before .before .before .if1 .left)))
 
 pub search-box-spec : {M : Type 1} → statement M
 search-box-spec =

@@ -17,9 +17,13 @@ pair-moves-requires c κs = search needs
 returns : tie.Need-returns
 returns c =
     let start = c .before .before .before .before .before in
-    let a = start .args in
-    not-apart (start .pre .0 .box) (start .pre .0 .present-is) (a .d) (a .low) (a .high) (start .pre .2) (start .pre .3) (start .pre .4)
-    (sym (c .before .pair-moves .ensures) ∙ not-true _ (c .if1 .taken))
+    let a = start .args in (
+      not-apart (start .pre .0 .box) (start .pre .0 .present-is) (a .d) (a .low) (a .high) (start .pre .2) (start .pre .3) (start .pre .4)
+          (sym (c .before .pair-moves .ensures) ∙ not-true _ (c .if1 .taken)),
+      search needs,
+      search needs,
+      search needs,
+    )
 
 mul-differing : tie.Need-mul-differing
 mul-differing c = search needs
@@ -40,7 +44,7 @@ returns-2 : tie.Need-returns-2
 returns-2 c =
     let start = c .before .before .before .before .before .before .before .before .before in
     let a = start .args in
-    other-distance (start .pre .0 .box) (start .pre .0 .present-is) (a .d) (a .low) (a .high) (start .pre .2) (λ e. c .if2 .taken (c .before .differing .ensures ∙ e))
+    (other-distance (start .pre .0 .box) (start .pre .0 .present-is) (a .d) (a .low) (a .high) (start .pre .2) (λ e. c .if2 .taken (c .before .differing .ensures ∙ e)), search needs, search needs, search needs)
 
 write-swapped-requires : tie.Need-write-swapped-requires
 write-swapped-requires c κs = search needs
@@ -62,9 +66,13 @@ same-length-3 c = search needs
 returns-3 : tie.Need-returns-3
 returns-3 c =
     let start = c .before .before .before .before .before .before .before .before .before .before .before .before .before .before .before .before .before .before .before .before in
-    let a = start .args in
-    this-distance (start .pre .0 .box) (start .pre .0 .present-is) (a .d) (a .low) (a .high) (sym (c .before .before .before .before .before .before .before .before .before .before .before .before .differing .ensures) ∙ c .before .before .before .before .before .before .before .before .before .before .before .if2 .left)
-    (subst (λ (l : List ℕ). Tried (a .n) (a .m) l (a .pair .count) (c .before .before .before .reaching .result)) (c .before .before .before .before .before .before .before .before .before .write-swapped .ensures) (c .before .before .before .reaching .ensures))
+    let a = start .args in (
+      this-distance (start .pre .0 .box) (start .pre .0 .present-is) (a .d) (a .low) (a .high) (sym (c .before .before .before .before .before .before .before .before .before .before .before .before .differing .ensures) ∙ c .before .before .before .before .before .before .before .before .before .before .before .if2 .left)
+          (subst (λ (l : List ℕ). Tried (a .n) (a .m) l (a .pair .count) (c .before .before .before .reaching .result)) (c .before .before .before .before .before .before .before .before .before .write-swapped .ensures) (c .before .before .before .reaching .ensures .0)),
+      search needs,
+      search needs,
+      search needs,
+    )
 
 pub try-swap-spec : {M : Type 1} → statement M
 try-swap-spec =

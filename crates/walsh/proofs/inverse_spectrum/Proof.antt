@@ -1,18 +1,15 @@
 -- `walsh::inverse_spectrum` meets its contract: the width and the lengths, the size of the values, then the transform. Assumes nothing.
-use mathlib.Core.List.{[]}
-use mathlib.Core.Path.{_≡_, sym, ap, _∙_}
-use Prim.Native.Nat.{_-_, _^_}
+use mathlib.Core.Path.{_≡_, sym, _∙_}
+use Prim.Native.Nat.{_-_}
 use native.Mathlib.Omega.{arith}
 use borrow.Author.Needs.{needs}
 use lib.ListN.{length}
 use lib.Pow.{pow-mono}
 use lib.Seq.{length-take-le}
-use Rattle.boolean.specs.Sums.{listBelow}
-use Rattle.boolean.specs.Functions.{valueAt, inverse}
-use Rattle.refusals.specs.Table.{first, replyAfter, contentAfter}
-use Rattle.refusals.specs.declared.Checked.{Checked}
+use Rattle.refusals.specs.Table.{first}
 use Rattle.refusals.specs.declared.Checked.the-variants.{Accepted}
-use Rattle.refusals.proofs.Checks.{fails, holds, first-refused, reply-refused, content-refused}
+use Rattle.refusals.proofs.Checks.{fails, holds, first-refused}
+use Rattle.refusals.proofs.Outcomes.{wrote-refused, wrote-by}
 use Rattle.walsh.specs.Calls.{inverseLengths, functionCheck, inverseChecks}
 use Rattle.walsh.proofs.Inverting.{no-function-found, outside, inverse-low, inverse-few, inverse-size, inverse-short, inverse-decided, invertible}
 use Rattle.walsh.proofs.inverse_spectrum.Statement.{statement}
@@ -29,9 +26,9 @@ unfolding inverseChecks
 returns c =
     let p = c .before .before .before in
     let a = p .before .before .args in
-    let h = first-refused (inverseLengths (a .n) (length (a .values .now)) (length (a .table .now))) (functionCheck (a .n) (a .values .now))
-    (sym (p .check-lengths .ensures) ∙ c .before .e .given .1) in
-    (reply-refused h [], content-refused h _ _)
+    wrote-refused
+    (first-refused (inverseLengths (a .n) (length (a .values .now)) (length (a .table .now))) (functionCheck (a .n) (a .values .now))
+    (sym (p .check-lengths .ensures) ∙ c .before .e .given .1))
 
 enum-told : tie.Need-enum-told
 enum-told c = search needs
@@ -70,7 +67,7 @@ returns-2 c =
     ∙ no-function-found (a .n) (a .values .now)
     (outside (a .n) (a .values .now) (inverse-low (a .n) (a .values .now) (a .table .now) (lengths told)) (inverse-size (a .n) (a .values .now) (a .table .now) (lengths told)) (power .power-of-two .result) (power .power-of-two .ensures .0)
     (fails (c .before .all-within .ensures) (c .if1 .taken))) in
-    (reply-refused h [], content-refused h _ _)
+    wrote-refused h
 
 array-borrow-prefix-work : tie.Need-array-borrow-prefix-work
 array-borrow-prefix-work c =
@@ -101,8 +98,7 @@ returns-3 c =
     let inverted = c .before .before .before in
     let told = inverted .before .before .before .before .before .before in
     let a = told .before .before .before .before .args in
-    let h = sym (inverse-decided (a .n) (a .values .now) (a .table .now) (lengths told)) in
-    (inverted .invert .ensures .0 ∙ ap (λ (k : Checked). replyAfter k []) h, inverted .invert .ensures .1 .0 ∙ ap (λ (k : Checked). contentAfter k (listBelow (2 ^ a .n) (λ x. inverse (a .n) (valueAt (a .values .now)) x)) (a .table .now)) h)
+    wrote-by (sym (inverse-decided (a .n) (a .values .now) (a .table .now) (lengths told))) (inverted .invert .ensures .0)
 
 pub inverse-spectrum-spec : {M : Type 1} → statement M
 inverse-spectrum-spec =

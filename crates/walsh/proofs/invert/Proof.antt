@@ -1,5 +1,5 @@
 -- `walsh::invert` meets its contract: the transform decides whether a function has the values, and its signs are the function. Assumes nothing.
-use mathlib.Core.List.{List, []}
+use mathlib.Core.List.{List}
 use mathlib.Core.Path.{_≡_, sym, ap, _∙_, subst}
 use Prim.Native.Nat.{_-_, _^_}
 use native.Mathlib.Omega.{arith}
@@ -10,7 +10,8 @@ use lib.ListN.{length}
 use lib.Pow.{pow-mono}
 use Rattle.boolean.specs.Sums.{every, listBelow}
 use Rattle.boolean.specs.Functions.{valueAt, transform, signBit, isSpectrum}
-use Rattle.refusals.proofs.Checks.{fails, holds, reply-refused, reply-accepted, content-refused, content-accepted}
+use Rattle.refusals.proofs.Checks.{fails, holds}
+use Rattle.refusals.proofs.Outcomes.{wrote-refused, wrote-accepted}
 use Rattle.walsh.specs.Work.{Summable}
 use Rattle.walsh.proofs.Inverting.{no-function-found, function-found, full-test, signs-are, summable}
 use Rattle.walsh.proofs.invert.Statement.{statement}
@@ -67,7 +68,7 @@ returns c =
     let after = c .before .before .before .before .before in
     let s = after .before .before .before .before .before .before in
     let h = no-function-found (s .args .n) (s .args .values .now) (fails (decided (c .before)) (c .if1 .taken)) in
-    (reply-refused h [], (content-refused h _ _, is-transformed after))
+    (wrote-refused h, is-transformed after)
 
 write-signs-requires : tie.Need-write-signs-requires
 write-signs-requires c κs = search needs
@@ -85,12 +86,10 @@ returns-2 c =
     let after = else .before .before .before .before .before in
     let s = after .before .before .before .before .before .before in
     let h = function-found (s .args .n) (s .args .values .now) (holds (decided (else .before)) (else .if1 .left)) in (
-      reply-accepted h [],
-      (
-        signs .write-signs .ensures ∙ ap (λ (l : List ℤ). listBelow (length l) (λ x. signBit (valueAt l x))) (is-transformed after)
-            ∙ signs-are (s .args .n) (s .args .values .now) (s .pre .low) (s .pre .size) ∙ content-accepted h _ _,
-        is-transformed after,
-      ),
+      wrote-accepted h
+          (signs .write-signs .ensures ∙ ap (λ (l : List ℤ). listBelow (length l) (λ x. signBit (valueAt l x))) (is-transformed after)
+          ∙ signs-are (s .args .n) (s .args .values .now) (s .pre .low) (s .pre .size)),
+      is-transformed after,
     )
 
 pub invert-spec : {M : Type 1} → statement M

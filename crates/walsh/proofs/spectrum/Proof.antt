@@ -1,5 +1,5 @@
 -- `walsh::spectrum` meets its contract: what the checks found says which case it is, in the reply and in the array. Assumes nothing.
-use mathlib.Core.List.{List, []}
+use mathlib.Core.List.{List}
 use mathlib.Core.Path.{_≡_, _∙_, sym}
 use Prim.Native.Nat.{ℕ, _^_}
 use borrow.Author.Needs.{needs}
@@ -8,7 +8,8 @@ use lib.IntN.{ℤ}
 use lib.ListN.{length}
 use Rattle.refusals.specs.Table.{tableCallChecks, first, tableChecks}
 use Rattle.refusals.specs.declared.Checked.the-variants.{Accepted}
-use Rattle.refusals.proofs.Checks.{passed, accepted-after, table, reply-refused, reply-accepted, content-refused, content-accepted}
+use Rattle.refusals.proofs.Checks.{passed, accepted-after, table}
+use Rattle.refusals.proofs.Outcomes.{wrote-refused, wrote-accepted}
 use Rattle.walsh.specs.Work.{Ready}
 use Rattle.walsh.proofs.spectrum.Statement.{statement}
 use Rattle.walsh.proofs.spectrum.Tie as tie
@@ -21,9 +22,7 @@ enum-known-e c = search needs
 
 returns : tie.Need-returns
 returns c =
-    let p = c .before .before .before in
-    let h = sym (p .check-table-call .ensures) ∙ c .before .e .given .1 in
-    (reply-refused h [], content-refused h _ _)
+    wrote-refused (sym (c .before .before .before .check-table-call .ensures) ∙ c .before .e .given .1)
 
 enum-told : tie.Need-enum-told
 enum-told c = search needs
@@ -56,8 +55,7 @@ same-length c = search needs
 returns-2 : tie.Need-returns-2
 returns-2 c =
     let p = c .before in
-    let h = accepted (p .before .before .before .before) in
-    (reply-accepted h [], p .descend .ensures ∙ content-accepted h _ _)
+    wrote-accepted (accepted (p .before .before .before .before)) (p .descend .ensures)
 
 pub spectrum-spec : {M : Type 1} → statement M
 spectrum-spec =

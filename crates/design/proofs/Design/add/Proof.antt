@@ -1,88 +1,103 @@
 -- `design::Design::add` meets its contract: what column addition answered, and its rows where it accepted. Assumes nothing.
-use mathlib.Core.Path.{refl, sym, ap, _∙_}
+use mathlib.Core.Path.{_≡_, sym, ap, _∙_}
+use mathlib.Core.Bool.{true}
 use native.Mathlib.Omega.{arith}
+use mathlib.Core.List.{[]}
+use Prim.Native.Nat.{ℕ, _≤_}
+use lib.ListN.{length, take}
 use lib.Seq.{length-take-le}
-use Rattle.refusals.specs.Table.{written}
-use Rattle.design.proofs.Operations.{not-refused}
-use Rattle.design.proofs.Held.{sound-narrow, sound-room, few, add-declined-reply, add-declined, add-done-reply, add-done, add-sound}
+use Rattle.refusals.specs.Table.{first, inRange, replyAfter, written}
+use Rattle.refusals.proofs.Checks.{fails, holds, found, stop}
+use Rattle.refusals.proofs.Bounds.{range-high}
+use Rattle.columns.specs.Addition.{additionChecks}
+use Rattle.design.specs.Model.{addChecks}
+use Rattle.design.specs.Calls.{state}
+use Rattle.design.proofs.Held.{few, add-refused, add-declined, add-done}
 use borrow.Author.Needs.{needs}
 use Rattle.design.proofs.Design.add.Statement.{statement}
 use Rattle.design.proofs.Design.add.Tie as tie
 
-returns : tie.Need-returns
-returns c =
-    let a = c .before .before .before .args in
-    (λ s. s, (λ k r. refl, (λ s. absurd (omega (arith, sound-narrow (a .self) s, c .if1 .taken)), λ s. absurd (omega (arith, sound-narrow (a .self) s, c .if1 .taken)))))
-
-power-of-two-requires : tie.Need-power-of-two-requires
-power-of-two-requires c κs = search needs
-
 slice-aggregate-all : tie.Need-slice-aggregate-all
 slice-aggregate-all c = search needs
 
-returns-2 : tie.Need-returns-2
-returns-2 c =
-    let p = c .before in
-    let a = p .before .before .before .before .args in
-    let e = p .power-of-two .ensures .0 in
-    (λ s. s, (λ k r. refl, (λ s. absurd (omega (arith, sound-room (a .self) s, e, c .if2 .taken)), λ s. absurd (omega (arith, sound-room (a .self) s, e, c .if2 .taken)))))
+returns : tie.Need-returns
+unfolding addChecks state
+returns c =
+    let then = c .before in
+    let a = then .before .before .before .before .args in
+    add-refused (a .self) (a .j) (a .w) (a .b) (sym (found (stop (fails (then .before .in-range .ensures) (then .if1 .taken))))) (c .declined .ensures)
+
+-- there is a box in it, where that was passed
+boxed : (c : tie.Else1) → inRange 1 8 (c .before .before .before .before .args .self .n) ≡ true
+boxed c = holds (c .before .in-range .ensures) (c .if1 .left)
+
+power-of-two-requires : tie.Need-power-of-two-requires
+power-of-two-requires c κs = omega (arith, range-high 1 8 (c .before .before .before .before .args .self .n) (boxed c))
+
+-- so its rows are no more than an array has
+fits : (c : tie.After-power-of-two) → c .power-of-two .result ≤ 256
+fits c = few (c .before .before .before .before .before .args .self .n) (boxed (c .before)) (c .power-of-two .ensures .0)
 
 slice-aggregate-add-to-column : tie.Need-slice-aggregate-add-to-column
-slice-aggregate-add-to-column c = sym (length-take-le _ _ (c .before .if2 .left))
+slice-aggregate-add-to-column c =
+    let p = c .before in
+    let old = p .before .before .before in
+    let all : 256 ≡ length (old .before .before .args .self .rows) = slice-aggregate-all old in
+    sym (length-take-le (p .power-of-two .result) (old .before .before .args .self .rows) (omega (arith, fits p, all)))
 
 array-borrow-prefix-rows : tie.Need-array-borrow-prefix-rows
-array-borrow-prefix-rows c =
-    let p = c .before .before in
-    few (p .before .before .before .before .args .self .n) (p .before .if1 .left) (p .power-of-two .ensures .0)
+array-borrow-prefix-rows c = fits (c .before)
 
 slice-aggregate-add-to-column-2 : tie.Need-slice-aggregate-add-to-column-2
-slice-aggregate-add-to-column-2 c =
-    let p = c .before .before .before in
-    sym (length-take-le _ _ (few (p .before .before .before .before .args .self .n) (p .before .if1 .left) (p .power-of-two .ensures .0)))
+slice-aggregate-add-to-column-2 c = sym (length-take-le _ _ (fits (c .before .before)))
 
-add-to-column-requires : tie.Need-add-to-column-requires
-add-to-column-requires c κs = search needs
+-- what column addition answered, with an array as long as the rows
+answered : (q : tie.After-add-to-column) →
+    let p = q .before .before .before in
+    let a = p .before .before .before .before .before .args in
+    let size = p .power-of-two .result in
+    (room : ℕ) × (room ≡ size)
+    × (written (q .add-to-column .result)
+    ≡ replyAfter (first (additionChecks (a .self .n) (a .self .m) (take size (a .self .rows)) (a .j) (a .w) (a .b) room)) [])
+answered q = (_, length-take-le _ _ (fits (q .before .before .before)), q .add-to-column .ensures .reply)
 
-enum-known-added : tie.Need-enum-known-added
-enum-known-added c = search needs
-
-returns-3 : tie.Need-returns-3
-returns-3 c =
-    let q = c .before .before .before .before in
-    let p = q .before .before .before .before in
-    let a = p .before .before .before .before .args in
-    let e = p .power-of-two .ensures .0 in
-    let long = length-take-le _ _ (few (a .self .n) (p .before .if1 .left) e) in
-    let h = sym (ap written (c .before .added .given .1)) ∙ q .add-to-column .ensures .0 in
-    (λ s. s, (λ k r. refl, (λ s. add-declined-reply (a .self) (a .j) (a .w) (a .b) _ _ s e long _ h, λ s. add-declined (a .self) (a .j) (a .w) (a .b) _ _ s e long _ h)))
+returns-2 : tie.Need-returns-2
+returns-2 c =
+    let q = c .before .before .before .before .before in
+    let p = q .before .before .before in
+    let a = p .before .before .before .before .before .args in
+    let t = answered q in
+    let h = sym (ap written (c .before .before .added .given .1)) ∙ t .2 in
+    add-declined (a .self) (a .j) (a .w) (a .b) _ (t .0) (boxed (p .before)) (p .power-of-two .ensures .0) (t .1) h (c .declined2 .ensures)
 
 enum-told : tie.Need-enum-told
 enum-told c = search needs
 
-returns-4 : tie.Need-returns-4
-returns-4 c =
+returns-3 : tie.Need-returns-3
+unfolding answered
+returns-3 c =
     let q = c .before .before .before in
-    let p = q .before .before .before .before in
-    let a = p .before .before .before .before .args in
-    let e = p .power-of-two .ensures .0 in
-    let long = length-take-le _ _ (few (a .self .n) (p .before .if1 .left) e) in
-    let h = sym (ap written (c .enum-told .given .1)) ∙ q .add-to-column .ensures .0 in
-    let o = q .add-to-column .ensures .1 in
-    (λ s. add-sound (a .self) (a .j) (a .w) (a .b) _ _ s e long h _ _ _ o, (λ k r. absurd (not-refused r), (λ s. add-done-reply (a .self) (a .j) (a .w) (a .b) _ _ s e long h, λ s. add-done (a .self) (a .j) (a .w) (a .b) _ _ s e long h _ _ _ o)))
+    let p = q .before .before .before in
+    let a = p .before .before .before .before .before .args in
+    let t = answered q in
+    let h = sym (ap written (c .enum-told .given .1)) ∙ t .2 in
+    add-done (a .self) (a .j) (a .w) (a .b) _ (t .0) (boxed (p .before)) (p .power-of-two .ensures .0) (t .1) h _ _ (q .add-to-column .ensures .content)
 
 pub add-spec : {M : Type 1} → statement M
 add-spec =
     tie.close
     (tie.spec
     slice-aggregate-all
+    (λ c κs. search needs)
+    (λ c κs. search needs)
     returns
     power-of-two-requires
-    returns-2
     slice-aggregate-add-to-column
     array-borrow-prefix-rows
     slice-aggregate-add-to-column-2
-    add-to-column-requires
-    enum-known-added
-    returns-3
+    (λ c κs. search needs)
+    (λ c. search needs)
+    (λ c κs. search needs)
+    returns-2
     enum-told
-    returns-4)
+    returns-3)

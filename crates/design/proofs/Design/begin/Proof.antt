@@ -1,34 +1,25 @@
--- `design::Design::begin` meets its contract: an accepted box, with no mark set. Assumes nothing.
-use mathlib.Core.Path.{_≡_, sym, _∙_}
+-- `design::Design::begin` meets its contract: an accepted box, with no mark set, and else none. Assumes nothing.
+use mathlib.Core.Path.{_≡_, sym, ap, _∙_}
 use mathlib.Core.List.{[]}
 use Prim.Native.Nat.{_≤_}
 use lib.ListN.{length}
 use lib.Seq.{length-take-le}
-use Rattle.refusals.specs.Table.{first, boxChecks}
+use Rattle.refusals.specs.Table.{first, boxChecks, written}
 use Rattle.refusals.specs.declared.Checked.the-variants.{Accepted}
 use Rattle.refusals.proofs.Checks.{box, reply-refused, reply-accepted}
-use Rattle.design.proofs.Operations.{not-both}
-use Rattle.design.proofs.Held.{begin-declined, begin-done, begin-sound}
+use Rattle.design.proofs.Held.{begin-refused, begin-done}
 use borrow.Author.Needs.{needs}
 use Rattle.design.proofs.Design.begin.Statement.{statement}
 use Rattle.design.proofs.Design.begin.Tie as tie
 
-unset-requires : tie.Need-unset-requires
-unset-requires c κs = search needs
-
-check-box-requires : tie.Need-check-box-requires
-check-box-requires c κs = search needs
-
-enum-known-e : tie.Need-enum-known-e
-enum-known-e c = search needs
-
 returns : tie.Need-returns
 returns c =
-    let checked = c .before .before .before in
+    let checked = c .before .before .before .before in
     let a = checked .before .before .before .args in
     let u = checked .before .unset in
-    let h = sym (checked .check-box .ensures) ∙ c .before .e .given .1 in
-    (λ k. absurd (not-both h k), (reply-refused h [], begin-declined (a .n) (a .m) (a .rows .now) (u .result) (u .ensures) h))
+    let h = sym (checked .check-box .ensures) ∙ c .before .before .e .given .1 in
+    let g = c .declined .ensures in
+    record { reply = ap written (g .1) ∙ reply-refused h []; whole = g .0 ∙ begin-refused (a .n) (a .m) (a .rows .now) (u .result) (u .ensures) h }
 
 enum-told : tie.Need-enum-told
 enum-told c = search needs
@@ -54,18 +45,16 @@ returns-2 c =
     let a = t .before .before .before .before .before .args in
     let u = t .before .before .before .unset in
     let h = accepted t in
-    let copied = c .before .copy .ensures in (
-      λ k. begin-sound (a .n) (a .m) (a .rows .now) (u .result) (u .ensures) _ _ h copied,
-      (reply-accepted h [], begin-done (a .n) (a .m) (a .rows .now) (u .result) (u .ensures) _ _ h copied),
-    )
+    record { reply = reply-accepted h []; whole = begin-done (a .n) (a .m) (a .rows .now) (u .result) (u .ensures) h (c .before .copy .ensures) }
 
 pub begin-spec : {M : Type 1} → statement M
 begin-spec =
     tie.close
     (tie.spec
-    unset-requires
-    check-box-requires
-    enum-known-e
+    (λ c κs. search needs)
+    (λ c κs. search needs)
+    (λ c. search needs)
+    (λ c κs. search needs)
     returns
     enum-told
     array-borrow-prefix-held

@@ -1,58 +1,69 @@
 -- `design::Design::mark` meets its contract: refused, the design is as it was; else the mark keeps the rows. Assumes nothing.
-use mathlib.Core.Path.{_≡_, refl, sym}
+use mathlib.Core.Path.{_≡_, sym}
 use mathlib.Core.Bool.{true}
-use mathlib.Core.List.{[]}
 use native.Mathlib.Omega.{arith}
-use Rattle.refusals.specs.Table.{first, inRange}
-use Rattle.refusals.specs.declared.Checked.the-variants.{Accepted}
-use Rattle.refusals.proofs.Checks.{fails, holds, found, skip, stop, end, reply-refused, reply-accepted}
+use Rattle.refusals.specs.Table.{inRange}
+use Rattle.refusals.proofs.Checks.{fails, holds, found, skip, stop, end}
 use Rattle.refusals.proofs.Bounds.{range-low, range-high}
 use Rattle.design.specs.Model.{markChecks}
-use Rattle.design.proofs.Operations.{not-refused}
-use Rattle.design.proofs.Held.{mark-declined, mark-done, mark-sound}
+use Rattle.design.specs.Calls.{state}
+use Rattle.design.proofs.Held.{mark-refused, mark-done}
 use borrow.Author.Needs.{needs}
 use Rattle.design.proofs.Design.mark.Statement.{statement}
 use Rattle.design.proofs.Design.mark.Tie as tie
 
-in-range-requires : tie.Need-in-range-requires
-in-range-requires c κs = search needs
-
 returns : tie.Need-returns
-unfolding markChecks
+unfolding markChecks state
 returns c =
-    let a = c .before .before .args in
-    let h = sym (found (stop (fails (c .before .in-range .ensures) (c .if1 .taken)))) in
-    (λ sound. sound, (λ number r. refl, (reply-refused h [], mark-declined (a .self) (a .k) h)))
+    let then = c .before in
+    let a = then .before .before .args in
+    mark-refused (a .self) (a .k) (sym (found (stop (fails (then .before .in-range .ensures) (then .if1 .taken))))) (c .declined .ensures)
+
+-- there is a box in it, where that was passed
+boxed : (c : tie.Else1) → inRange 1 8 (c .before .before .args .self .n) ≡ true
+boxed c = holds (c .before .in-range .ensures) (c .if1 .left)
+
+returns-2 : tie.Need-returns-2
+unfolding markChecks state
+returns-2 c =
+    let then = c .before in
+    let else = then .before .before in
+    let a = else .before .before .args in
+    let out = fails (then .before .in-range2 .ensures) (then .if2 .taken) in
+    mark-refused (a .self) (a .k) (sym (found (skip (boxed else) (stop out)))) (c .declined2 .ensures)
 
 -- the mark's number, where it was passed
-numbered : (c : tie.Else1) → inRange 1 16 (c .before .before .args .k) ≡ true
-numbered c = holds (c .before .in-range .ensures) (c .if1 .left)
-
-accepted : (c : tie.Else1) → first (markChecks (c .before .before .args .k)) ≡ Accepted
-unfolding markChecks
-accepted c = sym (found (skip (numbered c) end))
+numbered : (c : tie.Else2) → inRange 1 16 (c .before .before .before .before .args .k) ≡ true
+numbered c = holds (c .before .in-range2 .ensures) (c .if2 .left)
 
 sub-i : tie.Need-sub-i
-sub-i c = range-low 1 16 _ (numbered c)
-
-cast-i : tie.Need-cast-i
-cast-i c = search needs
-
-mul-t13 : tie.Need-mul-t13
-mul-t13 c = search needs
+sub-i c = let k = c .before .before .before .before .args .k in omega (arith, range-low 1 16 k (numbered c))
 
 element-set-from-design : tie.Need-element-set-from-design
 element-set-from-design c =
-    let a = c .before .before .before .args in
-    omega (arith, range-low 1 16 (a .k) (numbered (c .before)), range-high 1 16 (a .k) (numbered (c .before)))
+    let else = c .before in
+    let k = else .before .before .before .before .args .k in
+    omega (arith, range-low 1 16 k (numbered else), range-high 1 16 k (numbered else))
 
-returns-2 : tie.Need-returns-2
-returns-2 c =
-    let a = c .before .before .before .args in
-    let h = accepted (c .before) in
-    (mark-sound (a .self) (a .k) h, (λ number r. absurd (not-refused r), (reply-accepted h [], mark-done (a .self) (a .k) h)))
+returns-3 : tie.Need-returns-3
+unfolding markChecks state
+returns-3 c =
+    let else = c .before in
+    let a = else .before .before .before .before .args in
+    mark-done (a .self) (a .k) (sym (found (skip (boxed (else .before .before)) (skip (numbered else) end))))
 
 pub mark-spec : {M : Type 1} → statement M
 mark-spec =
     tie.close
-    (tie.spec in-range-requires returns sub-i cast-i mul-t13 element-set-from-design returns-2)
+    (tie.spec
+    (λ c κs. search needs)
+    (λ c κs. search needs)
+    returns
+    (λ c κs. search needs)
+    (λ c κs. search needs)
+    returns-2
+    sub-i
+    (λ c. search needs)
+    (λ c. search needs)
+    element-set-from-design
+    returns-3)

@@ -1,11 +1,16 @@
 -- `design::Design::read_box` meets its contract: n and m are answered and the rows written where the array is as long. Assumes nothing.
-use mathlib.Core.Path.{sym, ap, _∙_}
+use mathlib.Core.Path.{_≡_, sym, ap, _∙_}
+use mathlib.Core.Bool.{true}
 use native.Mathlib.Omega.{arith}
 use Prim.Native.Nat.{ℕ}
 use lib.ListN.{length, take}
 use lib.Seq.{length-take-le}
-use Rattle.refusals.proofs.Checks.{reply-refused, reply-accepted, content-refused, content-accepted}
-use Rattle.design.proofs.Held.{sound-narrow, sound-room, read-refused, read-passed}
+use Rattle.refusals.specs.Table.{inRange}
+use Rattle.refusals.proofs.Checks.{fails, holds, differs, equals, found, skip, stop, end, reply-refused, reply-accepted, content-refused, content-accepted}
+use Rattle.refusals.proofs.Bounds.{range-high}
+use Rattle.design.specs.Model.{readChecks}
+use Rattle.design.specs.Calls.{state}
+use Rattle.design.proofs.Held.{few}
 use borrow.Author.Needs.{needs}
 use Rattle.design.proofs.Design.read_box.Statement.{statement}
 use Rattle.design.proofs.Design.read_box.Tie as tie
@@ -14,55 +19,59 @@ slice-aggregate-all : tie.Need-slice-aggregate-all
 slice-aggregate-all c = search needs
 
 returns : tie.Need-returns
+unfolding readChecks state
 returns c =
-    let a = c .before .before .before .before .args in
-    (λ s. absurd (omega (arith, sound-narrow (a .self) s, c .if1 .taken)), λ s. absurd (omega (arith, sound-narrow (a .self) s, c .if1 .taken)))
+    let h = sym (found (stop (fails (c .before .in-range .ensures) (c .if1 .taken)))) in
+    record { reply = reply-refused h _; content = content-refused h _ _ }
+
+-- there is a box in it, where that was passed
+boxed : (c : tie.Else1) → inRange 1 8 (c .before .before .before .before .before .args .self .n) ≡ true
+boxed c = holds (c .before .in-range .ensures) (c .if1 .left)
 
 power-of-two-requires : tie.Need-power-of-two-requires
-power-of-two-requires c κs = search needs
+power-of-two-requires c κs = omega (arith, range-high 1 8 (c .before .before .before .before .before .args .self .n) (boxed c))
 
 returns-2 : tie.Need-returns-2
+unfolding readChecks state
 returns-2 c =
     let p = c .before in
-    let a = p .before .before .before .before .before .args in
-    let e = p .power-of-two .ensures .0 in
-    (λ s. absurd (omega (arith, sound-room (a .self) s, e, c .if2 .taken)), λ s. absurd (omega (arith, sound-room (a .self) s, e, c .if2 .taken)))
+    let h = sym (found (skip (boxed (p .before)) (stop (differs (p .power-of-two .ensures .0) (c .if2 .taken))))) in
+    record { reply = reply-refused h _; content = content-refused h _ _ }
 
-returns-3 : tie.Need-returns-3
-returns-3 c =
-    let p = c .before .before in
-    let a = p .before .before .before .before .before .args in
-    let h = read-refused (a .self) (length (a .rows .now)) (p .power-of-two .ensures .0) (c .if3 .taken) in
-    (λ s. reply-refused h _, λ s. content-refused h _ _)
+-- so the array has its rows
+long : (c : tie.After-power-of-two) → length (take (c .power-of-two .result) (c .before .before .before .before .before .before .args .self .rows)) ≡ c .power-of-two .result
+long c =
+    let held = c .before .before .before in
+    let a = held .before .before .before .args in
+    let all : 256 ≡ length (a .self .rows) = slice-aggregate-all held in
+    let fits = few (a .self .n) (boxed (c .before)) (c .power-of-two .ensures .0) in
+    length-take-le (c .power-of-two .result) (a .self .rows) (omega (arith, fits, all))
 
 slice-aggregate-copy : tie.Need-slice-aggregate-copy
-slice-aggregate-copy c = sym (length-take-le _ _ (c .before .before .if2 .left))
+slice-aggregate-copy c = sym (long (c .before .before))
 
 copy-requires : tie.Need-copy-requires
-copy-requires c κs = let else = c .before .before in else .if3 .left ∙ sym (length-take-le _ _ (else .before .if2 .left))
+copy-requires c κs = let else = c .before .before in else .if2 .left ∙ sym (long (else .before))
 
-same-length : tie.Need-same-length
-same-length c = search needs
-
-returns-4 : tie.Need-returns-4
-returns-4 c =
+returns-3 : tie.Need-returns-3
+unfolding readChecks state
+returns-3 c =
     let else = c .before .before .before .before .before in
-    let p = else .before .before in
-    let a = p .before .before .before .before .before .args in
+    let p = else .before in
     let e = p .power-of-two .ensures .0 in
-    let h = read-passed (a .self) (length (a .rows .now)) e (else .if3 .left) in
-    (λ s. reply-accepted h _, λ s. c .before .before .copy .ensures ∙ ap (λ (k : ℕ). take k (a .self .rows)) e ∙ content-accepted h _ _)
+    let h = sym (found (skip (boxed (p .before)) (skip (equals e (else .if2 .left)) end))) in
+    record { reply = reply-accepted h _; content = c .before .before .copy .ensures ∙ ap (λ (k : ℕ). take k (p .before .before .before .before .before .before .args .self .rows)) e ∙ content-accepted h _ _ }
 
 pub read-box-spec : {M : Type 1} → statement M
 read-box-spec =
     tie.close
     (tie.spec
     slice-aggregate-all
+    (λ c κs. search needs)
     returns
     power-of-two-requires
     returns-2
-    returns-3
     slice-aggregate-copy
     copy-requires
-    same-length
-    returns-4)
+    (λ c. search needs)
+    returns-3)

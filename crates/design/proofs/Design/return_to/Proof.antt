@@ -1,74 +1,83 @@
 -- `design::Design::return_to` meets its contract: refused, the design is as it was; else the rows are those of the mark. Assumes nothing.
-use mathlib.Core.Path.{_≡_, refl, sym, _∙_}
+use mathlib.Core.Path.{_≡_, sym, _∙_}
 use mathlib.Core.Bool.{true}
-use mathlib.Core.List.{[]}
 use native.Mathlib.Omega.{arith}
+use borrow.Author.Tests.{eq-eqb, ne-eqb}
 use Rattle.refusals.specs.Table.{inRange}
-use Rattle.refusals.proofs.Checks.{fails, holds, found, skip, stop, end, reply-refused, reply-accepted}
+use Rattle.refusals.proofs.Checks.{fails, holds, found, skip, stop, end}
 use Rattle.refusals.proofs.Bounds.{range-low, range-high}
 use Rattle.design.specs.Model.{returnChecks}
-use Rattle.design.proofs.Operations.{not-refused}
-use Rattle.design.proofs.Held.{set-at, return-declined, return-done, return-sound}
+use Rattle.design.specs.Calls.{state}
+use Rattle.design.proofs.Held.{set-at, return-refused, return-done}
 use borrow.Author.Needs.{needs}
-use borrow.Author.Tests.{eq-eqb, ne-eqb}
 use Rattle.design.proofs.Design.return_to.Statement.{statement}
 use Rattle.design.proofs.Design.return_to.Tie as tie
 
-in-range-requires : tie.Need-in-range-requires
-in-range-requires c κs = search needs
-
 returns : tie.Need-returns
-unfolding returnChecks
+unfolding returnChecks state
 returns c =
-    let a = c .before .before .args in
-    let h = sym (found (stop (fails (c .before .in-range .ensures) (c .if1 .taken)))) in
-    (λ sound. sound, (λ number r. refl, (reply-refused h [], return-declined (a .t1) (a .k) h)))
+    let then = c .before in
+    let a = then .before .before .args in
+    return-refused (a .t1) (a .k) (sym (found (stop (fails (then .before .in-range .ensures) (then .if1 .taken))))) (c .declined .ensures)
+
+-- there is a box in it, where that was passed
+boxed : (c : tie.Else1) → inRange 1 8 (c .before .before .args .t1 .n) ≡ true
+boxed c = holds (c .before .in-range .ensures) (c .if1 .left)
+
+returns-2 : tie.Need-returns-2
+unfolding returnChecks state
+returns-2 c =
+    let then = c .before in
+    let else = then .before .before in
+    let a = else .before .before .args in
+    let out = fails (then .before .in-range2 .ensures) (then .if2 .taken) in
+    return-refused (a .t1) (a .k) (sym (found (skip (boxed else) (stop out)))) (c .declined2 .ensures)
 
 -- the mark's number, where it was passed
-numbered : (c : tie.Else1) → inRange 1 16 (c .before .before .args .k) ≡ true
-numbered c = holds (c .before .in-range .ensures) (c .if1 .left)
+numbered : (c : tie.Else2) → inRange 1 16 (c .before .before .before .before .args .k) ≡ true
+numbered c = holds (c .before .in-range2 .ensures) (c .if2 .left)
 
 sub-place : tie.Need-sub-place
-sub-place c = range-low 1 16 _ (numbered c)
-
-cast-place : tie.Need-cast-place
-cast-place c = search needs
-
-mul-here : tie.Need-mul-here
-mul-here c = search needs
+sub-place c = let k = c .before .before .before .before .args .k in omega (arith, range-low 1 16 k (numbered c))
 
 element-copy-out-here : tie.Need-element-copy-out-here
 element-copy-out-here c =
-    let a = c .before .before .args in
-    omega (arith, range-low 1 16 (a .k) (numbered c), range-high 1 16 (a .k) (numbered c))
-
-returns-2 : tie.Need-returns-2
-unfolding returnChecks
-returns-2 c =
-    let else = c .before .before .before in
-    let a = else .before .before .args in
-    let h = sym (found (skip (numbered else) (stop (sym (set-at (a .t1) (a .k)) ∙ ne-eqb _ 1 (c .if2 .taken))))) in
-    (λ sound. sound, (λ number r. refl, (reply-refused h [], return-declined (a .t1) (a .k) h)))
+    let k = c .before .before .before .before .args .k in
+    omega (arith, range-low 1 16 k (numbered c), range-high 1 16 k (numbered c))
 
 returns-3 : tie.Need-returns-3
-unfolding returnChecks
+unfolding returnChecks state
 returns-3 c =
     let else = c .before .before .before .before in
-    let a = else .before .before .args in
-    let t = eq-eqb _ 1 (c .before .if2 .left) in
-    let set = sym (set-at (a .t1) (a .k)) ∙ t in
-    let h = sym (found (skip (numbered else) (skip set end))) in
-    (return-sound (a .t1) (a .k) t h, (λ number r. absurd (not-refused r), (reply-accepted h [], return-done (a .t1) (a .k) t h)))
+    let a = else .before .before .before .before .args in
+    let out = sym (set-at (a .t1) (a .k)) ∙ ne-eqb _ 1 (c .before .if3 .taken) in
+    return-refused (a .t1) (a .k) (sym (found (skip (boxed (else .before .before)) (skip (numbered else) (stop out))))) (c .declined3 .ensures)
+
+returns-4 : tie.Need-returns-4
+unfolding returnChecks state
+returns-4 c =
+    let else = c .before .before .before .before in
+    let a = else .before .before .before .before .args in
+    let b = boxed (else .before .before) in
+    let q = numbered else in
+    let t = eq-eqb _ 1 (c .before .if3 .left) in
+    let h = sym (found (skip b (skip q (skip (sym (set-at (a .t1) (a .k)) ∙ t) end)))) in
+    return-done (a .t1) (a .k) b (range-low 1 16 (a .k) q) (range-high 1 16 (a .k) q) t h
 
 pub return-to-spec : {M : Type 1} → statement M
 return-to-spec =
     tie.close
     (tie.spec
-    in-range-requires
+    (λ c κs. search needs)
+    (λ c κs. search needs)
     returns
-    sub-place
-    cast-place
-    mul-here
-    element-copy-out-here
+    (λ c κs. search needs)
+    (λ c κs. search needs)
     returns-2
-    returns-3)
+    sub-place
+    (λ c. search needs)
+    (λ c. search needs)
+    element-copy-out-here
+    (λ c κs. search needs)
+    returns-3
+    returns-4)

@@ -1,15 +1,14 @@
--- `differential::listing::larger` meets its contract. Assumes nothing.
-use mathlib.Core.Path.{refl}
-use mathlib.Core.Logic.{inl, inr}
-use native.Mathlib.Omega.{arith}
+-- `differential::listing::larger` meets its contract.
+use mathlib.Core.Path.{sym}
+use Rattle.differential.proofs.Rises.{takes-higher, keeps-higher}
 use Rattle.differential.proofs.listing.larger.Statement.{statement}
 use Rattle.differential.proofs.listing.larger.Tie as tie
 
 returns : tie.Need-returns
-returns c = record { left = omega (arith, c .if1 .taken); right = omega arith; either = inr refl }
+returns c = sym (takes-higher (c .if1 .taken))
 
 returns-2 : tie.Need-returns-2
-returns-2 c = record { left = omega arith; right = omega (arith, c .if1 .left); either = inl refl }
+returns-2 c = sym (keeps-higher (c .if1 .left))
 
 pub larger-spec : {M : Type 1} → statement M
 larger-spec = tie.close (tie.spec returns returns-2)

@@ -7,7 +7,7 @@ use lib.ListN.{length}
 use lib.Seq.{sets}
 use Rattle.differential.specs.Work.{rowCells, runs}
 use Rattle.differential.proofs.Pairs.{pair-small}
-use Rattle.differential.proofs.Sweeps.{box-inside, pairs-room, pairs-few}
+use Rattle.differential.proofs.Sweeps.{box-inside, pairs-few}
 use Rattle.differential.proofs.Runs.{runs-are-row}
 use Rattle.differential.proofs.Measures.{largest-positive, largest-small, cells-at-most}
 use borrow.Author.Needs.{needs}
@@ -62,7 +62,7 @@ returns c =
     let start = written .before .before .before .before .before in (
       listed .list-runs .ensures .0 ∙ ap (λ (l : List ℕ). start .args .start + length l) (are-row sorted),
       listed .list-runs .ensures .1 ∙ ap (sets (start .args .list .now) (start .args .start)) (are-row sorted),
-      sorted .sort .ensures .reordered .size ∙ omega (arith, pairs-room (start .pre .0) (written .write-pairs .ensures), start .pre .3),
+      record { written = _; paired = written .write-pairs .ensures; sorted = sorted .sort .ensures },
     )
 
 pub list-several-spec : {M : Type 1} → statement M

@@ -5,7 +5,8 @@ use mathlib.Core.List.{[], _∷_}
 use native.Mathlib.Omega.{arith}
 use lib.ListN.{length}
 use Rattle.refusals.specs.Table.{figures}
-use Rattle.refusals.proofs.Checks.{reply-refused, reply-accepted, content-refused}
+use Rattle.refusals.proofs.Checks.{reply-accepted, content-accepted}
+use Rattle.refusals.proofs.Outcomes.{wrote-refused}
 use Rattle.differential.specs.XorTable.{largestCells}
 use Rattle.differential.proofs.ListChecks.{too-short, long-enough, written-first}
 use borrow.Author.Needs.{needs}
@@ -21,9 +22,10 @@ count-cells-requires c κs = search needs
 returns : tie.Need-returns
 returns c =
     let counted = c .before in
-    let start = c .before .before .before .before .before .before .before .before .before in
-    let h = too-short (start .pre .0) (counted .count-cells .ensures .0) (length (start .args .list .now)) (c .if1 .taken) in
-    (reply-refused h _, content-refused h _ _)
+    let start = c .before .before .before .before .before .before .before .before .before in (
+      wrote-refused (too-short (start .pre .0) (counted .count-cells .ensures .0) (length (start .args .list .now)) (c .if1 .taken)),
+      counted .before .before .before .measure .ensures .0,
+    )
 
 list-cells-requires : tie.Need-list-cells-requires
 list-cells-requires c κs = search needs
@@ -37,13 +39,18 @@ same-length c = search needs
 returns-2 : tie.Need-returns-2
 returns-2 c =
     let listed = c .before .before in
-    let else = c .before .before .before .before .before .before in
-    let counted = c .before .before .before .before .before .before .before in
-    let start = c .before .before .before .before .before .before .before .before .before .before .before .before .before .before .before in
+    let else = listed .before .before .before .before in
+    let counted = else .before in
+    let start = counted .before .before .before .before .before .before .before .before in
     let count = counted .count-cells .ensures .0 in
-    let h = long-enough (start .pre .0) count (length (start .args .list .now)) (else .if1 .left) in (
-      ap (λ (k : ℕ). figures (k ∷ [])) count ∙ reply-accepted h _,
-      written-first (largestCells (start .args .n) (start .args .m) (start .args .rows .now)) (start .args .list .now) _ h (omega (arith, count, else .if1 .left)) (listed .list-cells .ensures),
+    let old = start .args .list .now in
+    let cells = largestCells (start .args .n) (start .args .m) (start .args .rows .now) in
+    let h = long-enough (start .pre .0) count (length old) (else .if1 .left) in (
+      record {
+        reply = ap (λ (k : ℕ). figures (k ∷ [])) count ∙ reply-accepted h _;
+        content = written-first cells old _ (omega (arith, count, else .if1 .left)) (listed .list-cells .ensures) ∙ content-accepted h _ old;
+      },
+      counted .before .before .before .measure .ensures .0,
     )
 
 pub list-with-spec : {M : Type 1} → statement M

@@ -63,7 +63,7 @@ loop-again c =
     let measured = c .before .before .before .before in
     let written = c .before .before .before .before .before .before .before .before .before in
     let in-loop = c .before .before .before .before .before .before .before .before .before .before .before in
-    (measuring-next (in-loop .before .loop .inv .0) (below in-loop) (written .write-pairs .ensures) (measured .measure-row .ensures .0) (c .larger .ensures), measured .measure-row .ensures .1)
+    (measuring-next (in-loop .before .loop .inv .0) (below in-loop) (written .write-pairs .ensures) (measured .measure-row .ensures .0) (c .larger .ensures), measured .measure-row .ensures .1 .size)
 
 same-length : tie.Need-same-length Inv-loop μ-loop
 same-length c =
@@ -79,7 +79,7 @@ returns c =
     let at-loop = c .before in
     let sweep = at-loop .loop .inv .0 in
     let end : 2 ^ (c .before .before .before .before .before .args .n) ≤ at-loop .loop .a = omega (arith, c .loop-test .left, sweep .box .size) in
-    (measuring-all sweep end, measuring-largest sweep end, measuring-last sweep end, at-loop .loop .inv .1)
+    (measuring-all sweep end, measuring-largest sweep end, measuring-last sweep end, same-length-2 c)
 
 pub measure-rows-spec : {M : Type 1} → statement M
 measure-rows-spec =

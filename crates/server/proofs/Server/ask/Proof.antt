@@ -6,7 +6,7 @@ use Rattle.refusals.specs.Table.{first}
 use Rattle.refusals.specs.declared.Checked.the-variants.{Accepted}
 use Rattle.server.specs.Model.{heldChecks}
 use Rattle.server.specs.Calls.{state}
-use Rattle.server.proofs.Places.{held-low, held-high, sound-at, ask-refused, ask-unfinished, ask-finished}
+use Rattle.server.proofs.Checks.{held-low, held-high, ask-refused, ask-unfinished, ask-finished}
 use Rattle.server.proofs.Server.ask.Statement.{statement}
 use Rattle.server.proofs.Server.ask.Tie as tie
 
@@ -17,9 +17,9 @@ enum-known-e : tie.Need-enum-known-e
 enum-known-e c = search needs
 
 returns : tie.Need-returns
-returns c h =
+returns c =
     let p = c .before .before .before in
-    ask-refused (state (p .before .args .t1)) (p .before .args .place) (sym (p .check-held .ensures) ∙ c .before .e .given .1)
+    ask-refused (p .before .args .t1) (p .before .args .place) (sym (p .check-held .ensures) ∙ c .before .e .given .1)
 
 enum-told : tie.Need-enum-told
 enum-told c = search needs
@@ -39,23 +39,23 @@ mul-asked : tie.Need-mul-asked
 mul-asked c = search needs
 
 element-copy-out-asked : tie.Need-element-copy-out-asked
-element-copy-out-asked c = let a = c .before .before .before .args in omega (arith, held-low (a .t1) (a .place) (accepted c), held-high (a .t1) (a .place) (accepted c))
+element-copy-out-asked c = let a = c .before .before .before .args in omega (arith, held-low (state (a .t1)) (a .place) (accepted c), held-high (state (a .t1)) (a .place) (accepted c))
 
 unfinished-requires : tie.Need-unfinished-requires
 unfinished-requires c κs = search needs
 
 returns-2 : tie.Need-returns-2
-returns-2 c h =
+returns-2 c =
     let told = c .before .before .before in
     let a = told .before .before .before .args in
-    ask-unfinished (a .t1) (a .place) (accepted told) (sym (c .before .unfinished .ensures (sound-at (a .t1 .places) _ h)) ∙ c .if1 .taken)
+    ask-unfinished (a .t1) (a .place) (accepted told) (sym (c .before .unfinished .ensures) ∙ c .if1 .taken)
 
 returns-3 : tie.Need-returns-3
-returns-3 c h =
+returns-3 c =
     let test = c .before .before in
     let told = test .before .before in
     let a = told .before .before .before .args in
-    ask-finished (a .t1) (a .place) (accepted told) h (sym (test .unfinished .ensures (sound-at (a .t1 .places) _ h)) ∙ c .before .if1 .left)
+    ask-finished (a .t1) (a .place) (accepted told) (sym (test .unfinished .ensures) ∙ c .before .if1 .left)
 
 pub ask-spec : {M : Type 1} → statement M
 ask-spec =

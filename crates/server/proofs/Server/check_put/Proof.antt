@@ -1,4 +1,5 @@
--- `server::Server::check_put` meets its contract: a line for the place's number, one for what stands on it, then the box's. Assumes nothing.
+-- `server::Server::check_put` meets its contract: a line for the place's number, one for what stands on it, then the box's. Assumes
+-- nothing.
 use mathlib.Core.Path.{_≡_, sym, ap, _∙_}
 use mathlib.Core.Bool.{true, not}
 use native.Mathlib.Omega.{arith}

@@ -1,9 +1,9 @@
 -- `server::Server::serve` meets its contract: the box on the place has one combination more. Assumes nothing.
-use mathlib.Core.Path.{_≡_}
+use mathlib.Core.Path.{ap}
 use native.Mathlib.Omega.{arith}
 use borrow.Author.Needs.{needs}
-use Rattle.server.proofs.Places.{sound-set}
-use Rattle.server.proofs.Steps.{served-unexamined, step-some}
+use Rattle.server.specs.declared.Server.{Server}
+use Rattle.server.proofs.Outcomes.{stepped-some}
 use Rattle.server.proofs.Server.serve.Statement.{statement}
 use Rattle.server.proofs.Server.serve.Tie as tie
 
@@ -22,20 +22,16 @@ element-copy-out-here c = search needs
 examine-requires : tie.Need-examine-requires
 examine-requires c κs = search needs
 
-mul-t9 : tie.Need-mul-t9
-mul-t9 c = search needs
-
-element-set-from-server : tie.Need-element-set-from-server
-element-set-from-server c = search needs
+with-place-requires : tie.Need-with-place-requires
+with-place-requires c κs = search needs
 
 returns : tie.Need-returns
-returns c h e =
-    let start = c .before .before in
-    let s = start .args .t1 in
+returns c e =
+    let examined = c .before in
+    let start = examined .before .before in
     let q = start .args .place in
-    let some : q ≡ 0 → ⊥ = λ z. omega (arith, start .pre .1) in
-    let x = c .examine .ensures (served-unexamined s q some e h) in
-    (sound-set (s .places) _ (c .examine .result) h (x .sound), step-some s q (c .examine .result) some e x)
+    stepped-some (start .args .t1) q (examined .examine .result) e (λ z. omega (arith, start .pre .1)) (examined .examine .ensures)
+    (ap (λ (s : Server). record { places = s .places; last = q }) (c .with-place .ensures))
 
 pub serve-spec : {M : Type 1} → statement M
 serve-spec =
@@ -46,6 +42,5 @@ serve-spec =
     mul-here
     element-copy-out-here
     examine-requires
-    mul-t9
-    element-set-from-server
+    with-place-requires
     returns)

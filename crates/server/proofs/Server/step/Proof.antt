@@ -2,7 +2,7 @@
 use mathlib.Core.Path.{sym, _∙_}
 use native.Mathlib.Omega.{arith}
 use borrow.Author.Needs.{needs}
-use Rattle.server.proofs.Steps.{step-none}
+use Rattle.server.proofs.Outcomes.{stepped-none}
 use Rattle.server.proofs.Server.step.Statement.{statement}
 use Rattle.server.proofs.Server.step.Tie as tie
 
@@ -10,9 +10,7 @@ next-place-requires : tie.Need-next-place-requires
 next-place-requires c κs = search needs
 
 returns : tie.Need-returns
-returns c h =
-    let p = c .before in
-    (h, step-none (p .before .args .self) (sym (c .if1 .taken) ∙ p .next-place .ensures .1 h))
+returns c = let p = c .before in stepped-none (p .before .args .self) (sym (p .next-place .ensures .1) ∙ c .if1 .taken)
 
 spectra-requires : tie.Need-spectra-requires
 spectra-requires c κs = search needs
@@ -23,7 +21,7 @@ serve-requires c κs =
     (c .before .spectra .ensures, omega (arith, else .if1 .left), else .before .next-place .ensures .0)
 
 returns-2 : tie.Need-returns-2
-returns-2 c h = c .serve .ensures h (c .before .before .before .before .next-place .ensures .1 h)
+returns-2 c = c .serve .ensures (c .before .before .before .before .next-place .ensures .1)
 
 pub step-spec : {M : Type 1} → statement M
 step-spec =

@@ -1,14 +1,13 @@
 -- `server::Server::withdraw` meets its contract: refused, the server is as it was; else the place is empty. Assumes nothing.
-use mathlib.Core.Path.{_≡_, sym, _∙_}
-use mathlib.Core.List.{[]}
+use Prim.Native.Nat.{_-_}
+use mathlib.Core.Path.{_≡_, sym, ap, _∙_}
 use native.Mathlib.Omega.{arith}
 use borrow.Author.Needs.{needs}
 use Rattle.refusals.specs.Table.{first}
 use Rattle.refusals.specs.declared.Checked.the-variants.{Accepted}
-use Rattle.refusals.proofs.Checks.{reply-refused, reply-accepted}
 use Rattle.server.specs.Model.{heldChecks}
-use Rattle.server.specs.Calls.{state}
-use Rattle.server.proofs.Places.{held-low, held-high, sound-set, sound-empty, spot-empty, state-set, withdraw-refused, withdraw-accepted}
+use Rattle.server.specs.Calls.{state, replaced}
+use Rattle.server.proofs.Checks.{held-low, held-high, refused-withdrawal, accepted-withdrawal}
 use Rattle.server.proofs.Server.withdraw.Statement.{statement}
 use Rattle.server.proofs.Server.withdraw.Tie as tie
 
@@ -21,8 +20,7 @@ enum-known-reason c = search needs
 returns : tie.Need-returns
 returns c =
     let p = c .before .before .before in
-    let h = sym (p .check-held .ensures) ∙ c .before .reason .given .1 in
-    (λ sound. sound, (reply-refused h [], withdraw-refused (state (p .before .args .self)) (p .before .args .place) h))
+    refused-withdrawal (p .before .args .self) (p .before .args .place) (sym (p .check-held .ensures) ∙ c .before .reason .given .1)
 
 enum-told : tie.Need-enum-told
 enum-told c = search needs
@@ -41,26 +39,17 @@ cast-i c = search needs
 vacant-requires : tie.Need-vacant-requires
 vacant-requires c κs = search needs
 
-mul-t10 : tie.Need-mul-t10
-mul-t10 c = search needs
-
-element-set-from-cleared : tie.Need-element-set-from-cleared
-element-set-from-cleared c =
+with-place-requires : tie.Need-with-place-requires
+with-place-requires c κs =
     let a = c .before .before .before .before .args in
-    omega (arith, held-low (a .self) (a .place) (accepted (c .before)), held-high (a .self) (a .place) (accepted (c .before)))
+    omega (arith, held-low (state (a .self)) (a .place) (accepted (c .before)), held-high (state (a .self)) (a .place) (accepted (c .before)))
 
 returns-2 : tie.Need-returns-2
 returns-2 c =
-    let a = c .before .before .before .before .args in
-    let v = c .vacant .result in
-    let e = c .vacant .ensures in
-    let h = accepted (c .before) in (
-      λ sound. sound-set (a .self .places) _ v sound (sound-empty v e),
-      (
-        reply-accepted h [],
-        state-set (a .self .places) _ (a .self .last) v _ (spot-empty v e) ∙ withdraw-accepted (state (a .self)) (a .place) h,
-      ),
-    )
+    let emptied = c .before in
+    let a = emptied .before .before .before .before .args in
+    accepted-withdrawal (a .self) (a .place) (accepted (emptied .before))
+    (c .with-place .ensures ∙ ap (replaced (a .self) (a .place - 1)) (emptied .vacant .ensures))
 
 pub withdraw-spec : {M : Type 1} → statement M
 withdraw-spec =
@@ -73,6 +62,5 @@ withdraw-spec =
     sub-i
     cast-i
     vacant-requires
-    mul-t10
-    element-set-from-cleared
+    with-place-requires
     returns-2)

@@ -1,0 +1,50 @@
+-- What the functions behind the calls on input changes ask and leave.
+use Prim.Native.Nat.{ℕ, _^_, _≤_, _<_}
+use mathlib.Core.Path.{_≡_}
+use mathlib.Core.Bool.{cond}
+use mathlib.Core.List.{List, [], _∷_}
+use lib.Count.{ones}
+use lib.Dec.{leb}
+use lib.IntN.{ℤ, pos, _*ℤ_, natAbs}
+use lib.ListN.{length}
+use Rattle.boolean.specs.Sums.{listBelow}
+use Rattle.boolean.specs.Functions.{valueAt, autocorrelation, component, Within}
+use Rattle.boolean.specs.Selection.{Candidate}
+use Rattle.refusals.specs.Table.{Box}
+use Rattle.avalanche.specs.declared.FoundChange.{FoundChange}
+
+-- the best so far, as a candidate
+abbrev pub candidate : FoundChange → Candidate
+candidate f = record { figure = f .figure; witness = f .c ∷ f .s ∷ [] }
+
+-- the truth table of component c
+abbrev pub truthTable : (n : ℕ) (rows : List ℕ) (c : ℕ) → List ℕ
+truthTable n rows c = listBelow (2 ^ n) (λ x. component rows c x)
+
+-- 2^n times the autocorrelation of component c at each s
+unfoldable pub correlations : (n : ℕ) (rows : List ℕ) (c : ℕ) → List ℤ
+correlations n rows c = listBelow (2 ^ n) (λ s. pos (2 ^ n) *ℤ autocorrelation n (component rows c) s)
+
+-- the correlations of component c, to be compared with the best so far. A best of figure 0 has a single output, so that no component is
+-- preferred to it for fewer outputs.
+pub record Compared (n m : ℕ) (rows : List ℕ) (j : ℕ) (found : FoundChange) (c : ℕ) (values : List ℤ) : Type 0 where
+  pub box : Box n m rows
+  pub j-low : 1 ≤ j
+  pub c-low : 1 ≤ c
+  pub values-are : values ≡ correlations n rows c
+  pub single : found .figure ≡ 0 → ones (found .c) ≤ 1
+
+-- the magnitude of a value at s, or 0 where s has more than j ones
+unfoldable pub sizeWithin : (j s : ℕ) (value : ℤ) → ℕ
+sizeWithin j s value = cond (leb (ones s) j) (natAbs value) 0
+
+-- the largest magnitude at a change within the limit j, and 0 where there is none
+pub record LargestWithin (values : List ℤ) (j largest : ℕ) : Type 0 where
+  pub bounds : (s : ℕ) → Within j (length values) s → natAbs (valueAt values s) ≤ largest
+  pub reached : 0 < largest → (s : ℕ) × Within j (length values) s × (natAbs (valueAt values s) ≡ largest)
+
+-- the first such change that has a magnitude
+pub record FirstWithin (values : List ℤ) (j size s : ℕ) : Type 0 where
+  pub within : Within j (length values) s
+  pub has : natAbs (valueAt values s) ≡ size
+  pub first : (t : ℕ) → t < s → Within j (length values) t → natAbs (valueAt values t) ≡ size → ⊥
