@@ -2,7 +2,7 @@
 //! buffer with 63 records of eight inputs; adding and compacting on that buffer beside one that
 //! is half as long, since both are to be linear in the buffer.
 use crate::library;
-use crate::table::Table;
+use crate::table::{rounds, Table};
 use second_model::boxes::random_rows;
 use second_model::catalogue::{self, Catalogue, Record, FIRST, LONGEST};
 use second_model::model::file_of;
@@ -74,7 +74,7 @@ fn remove(bytes: &mut [u8], _: &[u8]) {
 /// The least time of a call, each on its own copy of the buffer.
 fn least_time(bytes: &[u8], file: &[u8], call: fn(&mut [u8], &[u8])) -> f64 {
     let mut least = f64::MAX;
-    for _ in 0..ROUNDS {
+    for _ in 0..rounds(ROUNDS) {
         let mut copy = bytes.to_vec();
         let start = Instant::now();
         call(black_box(&mut copy), file);
@@ -86,7 +86,7 @@ fn least_time(bytes: &[u8], file: &[u8], call: fn(&mut [u8], &[u8])) -> f64 {
 /// The least times of two programs that take turns.
 fn least_times(one: impl Fn() -> u32, other: impl Fn() -> u32) -> (f64, f64) {
     let (mut of_one, mut of_other) = (f64::MAX, f64::MAX);
-    for _ in 0..ROUNDS {
+    for _ in 0..rounds(ROUNDS) {
         let start = Instant::now();
         black_box(one());
         of_one = of_one.min(start.elapsed().as_secs_f64());

@@ -1,6 +1,7 @@
 //! Times of the library beside those of the second program, on the same boxes.
 //!
-//!     bench [SEED] [--anchor FILE.c]
+//!     bench [SEED] [--processes K] [--anchor FILE.c]
+//!     bench [SEED] --short
 //!
 //! Each figure is measured on random boxes of 6 by 4, 8 by 8, 8 by 16 and 8 by 32, with the
 //! sheet's limit on combinations, and the list of cells and the degree on a few boxes that are
@@ -8,7 +9,10 @@
 //! of four boxes. Then the calls on a catalogue, packing and unpacking on random boxes of a few
 //! sizes, the raising swap of a few boxes, and boxes that the evaluation server runs to the end.
 //! Both programs take turns, several rounds each, and the least time of all rounds is shown:
-//! what disturbs a measurement only ever makes it longer. With --anchor the C program FILE.c,
+//! what disturbs a measurement only ever makes it longer. All of it is done in K processes, one
+//! after the other (5 unless said otherwise), and each line shows the least of them: where the
+//! arrays of a process lie on the stack may make it slower by a fifth from start to end. With
+//! --short there is one process and one round, for the gate. With --anchor the C program FILE.c,
 //! which measures the nonlinearity of an 8 by 16 box and prints its time as `... T s`, is
 //! compiled with gcc -O3 and run too. No time is asserted; that both programs give the same
 //! figures is.
@@ -28,8 +32,8 @@ use calls::{library_nonlinearity, library_nonlinearity_of_one, DEGREE, LIST, MEA
 use second_model::boxes::{affine_columns, cubes, random_rows};
 use second_model::published;
 use second_model::random::Random;
-use std::process::ExitCode;
-use table::{least_times, Sample, Table};
+use std::process::{Command, ExitCode, Stdio};
+use table::{least_times, Line, Sample, Table};
 
 /// One size of random boxes: its widths, how many boxes make a round, and how many rounds
 /// there are. Short rounds are repeated more often, since a disturbance weighs more in them.
@@ -47,9 +51,19 @@ const SIZES: [Size; 4] = [
     Size { n: 8, m: 32, boxes: 1, rounds: 15 },
 ];
 
+const USAGE: &str = "usage: bench [SEED] [--processes K] [--anchor FILE.c] | bench [SEED] --short";
+
+/// What the command line asks for. `--measure` is how this program starts itself.
+struct Wanted {
+    seed: u64,
+    processes: usize,
+    short: bool,
+    measure: bool,
+    anchor: Option<String>,
+}
+
 fn main() -> ExitCode {
-    let outcome = arguments().and_then(|(seed, anchor)| run(seed, anchor.as_deref()));
-    match outcome {
+    match arguments().and_then(|wanted| run(&wanted)) {
         Ok(()) => ExitCode::SUCCESS,
         Err(message) => {
             eprintln!("{message}");
@@ -58,22 +72,70 @@ fn main() -> ExitCode {
     }
 }
 
-fn arguments() -> Result<(u64, Option<String>), String> {
-    let (mut seed, mut anchor) = (1, None);
+fn arguments() -> Result<Wanted, String> {
+    let mut wanted = Wanted { seed: 1, processes: 5, short: false, measure: false, anchor: None };
     let mut words = std::env::args().skip(1);
     while let Some(word) = words.next() {
-        if word == "--anchor" {
-            anchor = Some(words.next().ok_or("--anchor needs a file")?);
-        } else {
-            seed = word.parse().map_err(|_| format!("not a number: {word}\nusage: bench [SEED] [--anchor FILE.c]"))?;
+        match word.as_str() {
+            "--anchor" => wanted.anchor = Some(words.next().ok_or("--anchor needs a file")?),
+            "--processes" => wanted.processes = words.next().and_then(|k| k.parse().ok()).filter(|&k| k > 0).ok_or(USAGE)?,
+            "--short" => wanted.short = true,
+            "--measure" => wanted.measure = true,
+            _ => wanted.seed = word.parse().map_err(|_| format!("not a number: {word}\n{USAGE}"))?,
         }
     }
-    Ok((seed, anchor))
+    Ok(wanted)
 }
 
-fn run(seed: u64, anchor: Option<&str>) -> Result<(), String> {
-    println!("seed {seed}, times for one box, least of several rounds");
-    let mut table = Table::new();
+fn run(wanted: &Wanted) -> Result<(), String> {
+    if wanted.measure || wanted.short {
+        table::SHORT.store(wanted.short, std::sync::atomic::Ordering::Relaxed);
+        return measure(wanted.seed, Table::new(wanted.short));
+    }
+    println!("seed {}, times for one box, least of several rounds in each of {} processes", wanted.seed, wanted.processes);
+    let mut lines = in_processes(wanted.seed, wanted.processes)?;
+    if let Some(source) = &wanted.anchor {
+        let library = time_of(&lines, "8x16", "nonlinearity");
+        let name = "nonlinearity, second is the C anchor".to_string();
+        lines.push(Line { size: "8x16".to_string(), name, library, second: anchor::time(source)? });
+    }
+    println!("{}", table::head());
+    for line in &lines {
+        println!("{}", line.shown());
+    }
+    let (wide, narrow) = (time_of(&lines, "8x32", "whole sheet"), time_of(&lines, "8x16", "whole sheet"));
+    println!("whole 8 by 32 sheet against whole 8 by 16 sheet, both by the library: {:.2}", wide / narrow);
+    Ok(())
+}
+
+/// The library's time in a line.
+fn time_of(lines: &[Line], size: &str, name: &str) -> f64 {
+    lines.iter().find(|line| line.size == size && line.name == name).expect("it was measured").library
+}
+
+/// The least times of each line over so many processes of this program.
+fn in_processes(seed: u64, processes: usize) -> Result<Vec<Line>, String> {
+    let mut least: Vec<Line> = Vec::new();
+    for _ in 0..processes {
+        let here = std::env::current_exe().map_err(|e| e.to_string())?;
+        let output = Command::new(here).args([&seed.to_string(), "--measure"]).stderr(Stdio::inherit()).output().map_err(|e| e.to_string())?;
+        if !output.status.success() {
+            return Err("a process that measures failed".to_string());
+        }
+        let lines: Vec<Line> = String::from_utf8_lossy(&output.stdout).lines().filter_map(Line::read).collect();
+        if least.is_empty() {
+            least = lines;
+        } else {
+            for (best, line) in least.iter_mut().zip(lines) {
+                best.library = best.library.min(line.library);
+                best.second = best.second.min(line.second);
+            }
+        }
+    }
+    Ok(least)
+}
+
+fn measure(seed: u64, mut table: Table) -> Result<(), String> {
     let mut random = Random::new(seed);
     for size in &SIZES {
         figures_of_random_boxes(size, &mut table, &mut random)?;
@@ -84,14 +146,7 @@ fn run(seed: u64, anchor: Option<&str>) -> Result<(), String> {
     catalogues::measure(&table, &mut random)?;
     packing::measure(&table, &mut random)?;
     swaps::measure(&mut table, &mut random)?;
-    evaluations::measure(&table, &mut random)?;
-    if let Some(source) = anchor {
-        let library = table.library("8x16", "nonlinearity");
-        table.line("8x16", "nonlinearity, second is the C anchor", library, anchor::time(source)?);
-    }
-    let (wide, narrow) = (table.library("8x32", "whole sheet"), table.library("8x16", "whole sheet"));
-    println!("whole 8 by 32 sheet against whole 8 by 16 sheet, both by the library: {:.2}", wide / narrow);
-    Ok(())
+    evaluations::measure(&table, &mut random)
 }
 
 fn figures_of_random_boxes(size: &Size, table: &mut Table, random: &mut Random) -> Result<(), String> {

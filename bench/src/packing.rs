@@ -1,7 +1,7 @@
 //! Packed columns: both ways, on random boxes. A call takes about a microsecond, so that each
 //! measurement repeats it, and what the two programs write is compared outside of it.
 use crate::library;
-use crate::table::Table;
+use crate::table::{rounds, Table};
 use second_model::boxes::random_rows;
 use second_model::packing::{bytes_of_a_column, pack_quickly, unpack_quickly};
 use second_model::random::Random;
@@ -23,7 +23,7 @@ fn measure_size(n: u32, m: u32, table: &Table, random: &mut Random) -> Result<()
     let mut packed = [vec![0; m as usize * bytes_of_a_column(n)], vec![1; m as usize * bytes_of_a_column(n)]];
     let mut back = [vec![0; 1 << n], vec![1; 1 << n]];
     let (mut pack, mut unpack) = ([f64::MAX; 2], [f64::MAX; 2]);
-    for _ in 0..ROUNDS {
+    for _ in 0..rounds(ROUNDS as usize) {
         let [ours, theirs] = &mut packed;
         pack[0] = pack[0].min(time(|| assert_eq!(library::pack_columns(n, m, black_box(&rows), black_box(ours)), 0)));
         pack[1] = pack[1].min(time(|| pack_quickly(n, black_box(&rows), black_box(theirs))));

@@ -79,6 +79,29 @@ mod tests {
         assert_eq!(standing_after(3, 3, &[0; 8], &list), [0; 8]);
     }
 
+    /// A short list has at most one addition for each column, all of them accepted, and is no
+    /// longer than the list.
+    #[test]
+    fn a_short_list_is_short() {
+        let mut random = Random::new(6);
+        for _ in 0..300 {
+            let (n, m) = (random.between(1, 4), random.between(1, 6));
+            let rows = boxes::random_rows(n, m, &mut random);
+            let mut any = || Addition {
+                column: random.between(0, m + 1),
+                mask: random.below(2 << n),
+                constant: random.below(3),
+                lent: (1 << n) + random.below(6) as usize / 5,
+            };
+            let list: Vec<Addition> = (0..12).map(|_| any()).collect();
+            let short = shortened(n, m, &rows, &list);
+            assert!(short.windows(2).all(|pair| pair[0].column < pair[1].column), "{short:?}");
+            assert!(short.iter().all(|a| a.made(n, m, &rows).is_ok()), "{short:?}");
+            assert!(short.len() <= list.len());
+            assert_eq!(standing_after(n, m, &rows, &short), standing_after(n, m, &rows, &list), "{list:?}");
+        }
+    }
+
     /// No list changes the figure or the witness of the autocorrelation or of a dynamic
     /// distance, by the definitions alone.
     #[test]
@@ -87,12 +110,7 @@ mod tests {
         for round in 0..60 {
             let (n, m) = (random.between(1, 4), random.between(1, 4));
             let rows = boxes::of_kind(round % KINDS, n, m, &mut random);
-            let mut any = || Addition {
-                column: random.between(1, m),
-                mask: random.below(1 << n),
-                constant: random.below(2),
-                lent: 1 << n,
-            };
+            let mut any = || Addition { column: random.between(1, m), mask: random.below(1 << n), constant: random.below(2), lent: 1 << n };
             let list = [any(), any(), any()];
             let later = standing_after(n, m, &rows, &list);
             for i in 1..=m {

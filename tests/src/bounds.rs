@@ -1,4 +1,4 @@
-//! Every refusal from both sides of its bound, one fault at a time, and the order of the checks.
+//! Every refusal from both sides of its bound, one fault at a time.
 use crate::calls::{Run, FIGURE_CALLS, LIMITED_CALLS};
 use crate::compare::{every_box_call, usual_limits};
 use second_model::boxes;
@@ -13,7 +13,6 @@ pub fn all(run: &mut Run) {
     truth_values(run);
     parameters_of_boxes(run);
     limits(run);
-    checks_one_after_the_other(run);
     parameters_of_enlargements(run);
     lengths_written(run);
     bent_forms(run);
@@ -170,29 +169,6 @@ fn limits(run: &mut Run) {
         }
         for i in 1..=m {
             run.dynamic_distance(2, m, &rows, (i, 1), 4);
-        }
-    }
-}
-
-/// At first everything is wrong, then one argument after the other is put right, in the order
-/// of the checks: 1, 2, 3, 4, 6, 7, and nothing.
-fn checks_one_after_the_other(run: &mut Run) {
-    for right in 0..=6 {
-        for m in [1, 5, 16, 17, 31] {
-            let n = if right >= 1 { 3 } else { 9 };
-            let length = if right >= 3 { 8 } else { 7 };
-            let mut rows = boxes::random_rows(3, m, &mut run.random);
-            rows[0] = if right >= 4 { all_outputs(m) } else { 1 << m };
-            let i = if right >= 5 { 1 } else { m + 1 };
-            let more = if right >= 6 { 0 } else { 1 };
-            let wrong_m = |most: u32| if right >= 2 { m } else { most + 1 };
-            for call in &LIMITED_CALLS {
-                run.limited_figures(call, n, wrong_m(32), &rows[..length], i, call.figures + more);
-            }
-            run.dynamic_distance(n, wrong_m(32), &rows[..length], (i, 1), 3 + more);
-            // An XOR row has its own bound on m, so that more values of m are wrong here.
-            let a = if right >= 5 { 7 } else { 8 };
-            run.xor_row(n, wrong_m(16), &rows[..length], a, (1 << m.min(17)) + more);
         }
     }
 }

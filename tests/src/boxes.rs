@@ -150,6 +150,22 @@ fn one_affine_combination(n: u32, m: u32, random: &mut Random) -> Vec<u32> {
     rows
 }
 
+/// A combination of exactly k outputs is affine, and as a rule none of fewer: what is found within
+/// the limit k is not found within k - 1.
+pub fn affine_from(k: u32, n: u32, m: u32, random: &mut Random) -> Vec<u32> {
+    let mut outputs: Vec<u32> = (0..m).collect();
+    random.shuffle(&mut outputs);
+    let c = outputs[..k as usize].iter().fold(0, |c, j| c | 1 << j);
+    let (sum, changed) = (affine(n, random), 1 << outputs[0]);
+    let mut rows = random_rows(n, m, random);
+    for (row, &wanted) in rows.iter_mut().zip(&sum) {
+        if model::parity(*row & c) != wanted {
+            *row ^= changed;
+        }
+    }
+    rows
+}
+
 /// All rows but a few are 0, and the last one is as large as can be.
 fn few_ones(n: u32, m: u32, random: &mut Random) -> Vec<u32> {
     let mut rows = vec![0; 1 << n];
@@ -161,11 +177,29 @@ fn few_ones(n: u32, m: u32, random: &mut Random) -> Vec<u32> {
 #[cfg(test)]
 mod tests {
     use super::*;
+    use crate::counted;
 
     #[test]
     fn each_pair_of_the_cube_has_its_own_difference() {
         let cells = model::largest_cells(8, 8, &cubes(), 255 * 128, 1).expect("nothing to refuse");
         assert_eq!(cells.len(), 255 * 128);
+    }
+
+    /// Every limit that an affine combination is made for has figures of its own, from three inputs
+    /// on; with fewer, most boxes have an affine combination of few outputs anyway.
+    #[test]
+    fn limits_matter_where_a_combination_is_made_affine() {
+        let mut random = Random::new(9);
+        for (n, m) in [(5, 6), (6, 9), (8, 4), (8, 8)] {
+            for k in 2..=m {
+                let rows = affine_from(k, n, m, &mut random);
+                let pairs = counted::nonlinearities(n, m, &rows, m);
+                let [below, at] = [k - 1, k].map(|i| pairs[i as usize - 1]);
+                assert!(below[0] > 0 && at[0] == 0 && at[1].count_ones() == k, "{n} by {m}, k = {k}: {below:?}, {at:?}");
+                let degrees = counted::degrees(n, m, &rows, m);
+                assert!(degrees[k as usize - 1][0] <= 1 && degrees[k as usize - 2][0] > 1, "{degrees:?}");
+            }
+        }
     }
 
     #[test]

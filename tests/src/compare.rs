@@ -1,54 +1,29 @@
 //! `second compare`: every call of the library against the model.
-use crate::avalanches;
-use crate::bounds;
-use crate::calls::{Run, FIGURE_CALLS, LIMITED_CALLS};
-use crate::damage;
-use crate::library;
-use crate::lists;
-use crate::sums;
-use crate::packed;
-use crate::raised;
+use crate::calls::{Run, AUTOCORRELATION, DEGREE, FIGURE_CALLS, LIMITED_CALLS, NONLINEARITY};
+use crate::parts::Work;
+use crate::{avalanches, bounds, damage, far, limits, lists, orders, packed, raised, sums};
 use second_model::boxes::{self, KINDS};
 use second_model::combinations::quick_limit;
 use second_model::model::{self, all_outputs};
+use second_model::published::{self, Published};
 use second_model::sheet;
-use std::time::Instant;
 
-/// How many damaged argument sets each call gets if nothing else is said.
-pub const DEFAULT_COUNT: u64 = 1000;
-
-type Part<'a> = &'a dyn Fn(&mut Run);
-
-/// True if there were no differences.
-pub fn run(seed: u64, count: u64) -> bool {
-    println!("seed {seed}, count {count}");
-    let mut run = Run::new(seed);
-    let start = Instant::now();
-    let damaged = |run: &mut Run| damage::all(run, count);
-    let sums_of_boxes = |run: &mut Run| sums::all(run, count);
-    let packing = |run: &mut Run| packed::all(run, count);
-    let swaps = |run: &mut Run| raised::all(run, count);
-    let shorter_lists = |run: &mut Run| lists::all(run, count);
-    let parts: [(&str, Part); 10] = [
-        ("bounds", &bounds::all),
-        ("boxes of all widths", &boxes_of_all_widths),
-        ("truth tables", &truth_tables),
-        ("damaged arguments", &damaged),
-        ("lists of column additions", &lists_of_additions),
-        ("sums of boxes", &sums_of_boxes),
-        ("packed columns", &packing),
-        ("raising swaps", &swaps),
-        ("shorter lists of additions", &shorter_lists),
-        ("even and bent boxes", &avalanches::all),
-    ];
-    for (name, part) in parts {
-        let before = run.comparisons;
-        part(&mut run);
-        println!("{name}: {} comparisons, {:.1} s", run.comparisons - before, start.elapsed().as_secs_f64());
-    }
-    println!("{} comparisons, {} differences", run.comparisons, run.differences);
-    run.differences == 0
-}
+pub const PARTS: &[(&str, Work)] = &[
+    ("boxes of all widths", &boxes_of_all_widths),
+    ("limits of sums", &limits::of_sums),
+    ("bounds", &bounds::all),
+    ("order of checks", &orders::all),
+    ("truth tables", &truth_tables),
+    ("damaged arguments", &damage::all),
+    ("lists of column additions", &lists_of_additions),
+    ("sums of boxes", &sums::all),
+    ("packed columns", &packed::all),
+    ("raising swaps", &raised::all),
+    ("shorter lists of additions", &lists::all),
+    ("even and bent boxes", &avalanches::all),
+    ("lengths above 2^32", &far::all),
+    ("published boxes", &published_boxes),
+];
 
 /// The limits that a box of these widths is asked with: the sheet's, and a quick one.
 pub fn usual_limits(run: &mut Run, n: u32, m: u32) -> [u32; 2] {
@@ -93,9 +68,11 @@ fn distances(run: &mut Run, n: u32, m: u32, rows: &[u32]) {
 
 /// The list of cells exactly long enough, one too short, longer, and empty.
 fn cell_lists(run: &mut Run, n: u32, m: u32, rows: &[u32]) {
-    let number = model::largest_cells(n, m, rows, usize::MAX, 1).map_or(1, |cells| cells.len());
+    let cells = model::largest_cells(n, m, rows, usize::MAX, 1);
+    let number = cells.as_ref().map_or(1, |cells| cells.len());
     for list_len in [number, number - 1, number + 1, number + 100, 0] {
-        run.largest_cells(n, m, rows, list_len, 1);
+        let wanted = cells.clone().and_then(|cells| if list_len < number { Err(model::LIST_TOO_SHORT) } else { Ok(cells) });
+        run.largest_cells_known(n, m, rows, list_len, 1, wanted);
     }
 }
 
@@ -106,7 +83,7 @@ fn boxes_at(n: u32, m: u32) -> u32 {
         (_, 1..=16) if m + 2 * n <= 18 => KINDS,
         (_, 1..=16) if m + 2 * n <= 21 => 4,
         (1..=4, _) => 3,
-        _ => 1,
+        _ => 2,
     }
 }
 
@@ -147,7 +124,9 @@ fn truth_tables(run: &mut Run) {
             bent_functions(run, n);
         }
     }
-    every_small_function(run);
+    if run.round == 0 {
+        every_small_function(run);
+    }
 }
 
 fn enlargements(run: &mut Run, n: u32, table: &[u8]) {
@@ -192,24 +171,49 @@ fn lists_of_additions(run: &mut Run) {
 }
 
 fn list_of_additions(run: &mut Run, n: u32, m: u32, mut rows: Vec<u32>, i: u32) {
-    let first = library_nonlinearity(n, m, &rows, i);
+    let first = nonlinearity(run, n, m, &rows, i);
     for _ in 0..run.random.below(6) {
         // Column m + 1 and b = 2 are refused and must leave the rows that stand.
         let (j, w, b) = (run.random.between(1, m + 1), run.random.below(1 << n), run.random.below(3));
-        run.add_to_column(n, m, &rows, (j, w, b), 1 << n);
-        let mut new_rows = vec![0; 1 << n];
-        if library::add_to_column(n, m, &rows, j, w, b, &mut new_rows) == 0 {
+        if let Some(new_rows) = run.add_to_column(n, m, &rows, (j, w, b), 1 << n) {
             rows = new_rows;
         }
-        run.limited_figures(&LIMITED_CALLS[0], n, m, &rows, i, 4);
-        let now = library_nonlinearity(n, m, &rows, i);
-        run.count(now == first, || {
+        let now = nonlinearity(run, n, m, &rows, i);
+        run.law("the nonlinearity after additions", now.is_some() && now == first, || {
             format!("nonlinearity {first:?} is now {now:?} for n = {n}, m = {m}, i = {i}, rows = {rows:?}")
         });
     }
 }
 
-fn library_nonlinearity(n: u32, m: u32, rows: &[u32], i: u32) -> (u32, u32) {
-    let mut figures = [0; 4];
-    (library::nonlinearity(n, m, rows, i, &mut figures), figures[0])
+/// The library's figure, if it accepts the box.
+fn nonlinearity(run: &mut Run, n: u32, m: u32, rows: &[u32], i: u32) -> Option<u32> {
+    run.limited_figures(&NONLINEARITY, n, m, rows, i, 4).map(|figures| figures[0])
+}
+
+/// The library against what was published, where a published figure is at hand.
+fn published_boxes(run: &mut Run) {
+    let (mut known_figures, mut unknown) = (0, 0);
+    for known in published::all() {
+        let Published { n, m, ref rows, ref name, .. } = known;
+        let i = sheet::limit(m);
+        let measured = [
+            (known.nonlinearity, run.limited_figures(&NONLINEARITY, n, m, rows, i, 4)),
+            (known.xor, run.figures(&FIGURE_CALLS[0], n, m, rows, 3)),
+            (known.autocorrelation, run.limited_figures(&AUTOCORRELATION, n, m, rows, i, 3)),
+            (known.degree, run.limited_figures(&DEGREE, n, m, rows, i, 2)),
+            (known.avalanche.then_some(0), run.dynamic_distance(n, m, rows, (1, 1), 3)),
+            (Some(u32::from(known.bijective)), run.figures(&FIGURE_CALLS[2], n, m, rows, 1)),
+        ];
+        for (figure, found) in measured {
+            let Some(figure) = figure else {
+                unknown += 1;
+                continue;
+            };
+            known_figures += 1;
+            run.law("published figures", found.as_ref().is_some_and(|found| found[0] == figure), || {
+                format!("{name}: {figure} was published, the library says {found:?}")
+            });
+        }
+    }
+    println!("published boxes: {known_figures} figures compared with published ones; of {unknown} more none is at hand");
 }

@@ -5,9 +5,11 @@ use second_model::combinations::quick_limit;
 use second_model::model::{self, all_outputs};
 use second_model::random::Random;
 
-/// Each call gets `count` argument sets.
-pub fn all(run: &mut Run, count: u64) {
-    for _ in 0..count {
+/// Each call gets so many argument sets.
+const SETS: u64 = 1000;
+
+pub fn all(run: &mut Run) {
+    for _ in 0..SETS {
         box_calls(run);
         table_calls(run);
         enlargements(run);

@@ -270,6 +270,60 @@ pub fn degree(n: u32, m: u32, rows: &[u32], i: u32) -> [u32; 2] {
     [(n as i32 - best.figure) as u32, best.c]
 }
 
+// ---------------------------------------------------------------------------
+// The same figures within every limit from 1 to `most`, in one go over the combinations.
+// ---------------------------------------------------------------------------
+
+/// The best within each limit: the best of all combinations with as many outputs, one number of
+/// outputs after the other, of which a later one must be better.
+fn bests_within(m: u32, rows: &[u32], most: u32, mut figure: impl FnMut(&[u8]) -> i32) -> Vec<Best> {
+    let mut of_outputs: Vec<Best> = (0..=most).map(|_| Best::none()).collect();
+    visit_combinations(m, rows, most, |c, table| of_outputs[c.count_ones() as usize].offer(figure(table), c));
+    let mut now = Best::none();
+    let mut within = Vec::new();
+    for best in &of_outputs[1..] {
+        now.offer(best.figure, best.c);
+        within.push(Best { ..now });
+    }
+    within
+}
+
+/// Figures within each limit: d, c, w, b.
+pub fn nonlinearities(n: u32, m: u32, rows: &[u32], most: u32) -> Vec<[u32; 4]> {
+    let mut buffer = [0i32; ROWS];
+    let values = &mut buffer[..1 << n];
+    let bests = bests_within(m, rows, most, |table| {
+        signs_32(table, values);
+        walsh(values);
+        values.iter().fold(0, |most, value| most.max(value.abs()))
+    });
+    bests.iter().map(|best| nonlinearity_witness(n, rows, best)).collect()
+}
+
+/// Figures within each limit: figure, c, s.
+pub fn autocorrelations(n: u32, m: u32, rows: &[u32], most: u32) -> Vec<[u32; 3]> {
+    let mut buffer = [0i32; ROWS];
+    let values = &mut buffer[..1 << n];
+    let bests = bests_within(m, rows, most, |table| {
+        correlations(n, table, values);
+        values[1..].iter().fold(0, |most, value| most.max(value.abs()))
+    });
+    bests.iter().map(|best| [best.figure as u32, best.c, correlation_witness(n, rows, best, 1..1 << n)]).collect()
+}
+
+/// Figures of order (i, j) for each i: the doubled figure, c, d.
+pub fn dynamic_distances(n: u32, m: u32, rows: &[u32], most: u32, j: u32) -> Vec<[u32; 3]> {
+    let mut buffer = [0i32; ROWS];
+    let values = &mut buffer[..1 << n];
+    let changes: Vec<u32> = (1..1u32 << n).filter(|d| d.count_ones() <= j).collect();
+    let bests = bests_within(m, rows, most, |table| {
+        correlations(n, table, values);
+        changes.iter().fold(0, |most, &d| most.max(values[d as usize].abs()))
+    });
+    let figures = |best: &Best| [best.figure as u32 / 2, best.c, correlation_witness(n, rows, best, changes.iter().copied())];
+    bests.iter().map(figures).collect()
+}
+
 pub fn complete(n: u32, m: u32, rows: &[u32]) -> bool {
     let all_columns = u32::MAX >> (32 - m);
     (0..n).all(|k| {
@@ -288,18 +342,20 @@ mod tests {
     use super::*;
     use crate::boxes::{self, KINDS};
     use crate::combinations::{how_many, quick_limit, within};
+    use crate::counted;
     use crate::model;
     use crate::random::Random;
 
+    /// Against what is counted, which the tests of `counted` hold to the definitions.
     fn agrees(n: u32, m: u32, rows: &[u32], i: u32, random: &mut Random) {
         let shown = format!("n = {n}, m = {m}, i = {i}, rows = {rows:?}");
-        assert_eq!(nonlinearity(n, m, rows, i), model::nonlinearity_by_definition(n, m, rows, i), "{shown}");
+        assert_eq!(Some(&nonlinearity(n, m, rows, i)), counted::nonlinearities(n, m, rows, i).last(), "{shown}");
         assert_eq!(nonlinearity_16(n, m, rows, i), nonlinearity(n, m, rows, i), "{shown}");
-        assert_eq!(autocorrelation(n, m, rows, i), model::autocorrelation_by_definition(n, m, rows, i), "{shown}");
-        assert_eq!(degree(n, m, rows, i), model::degree_by_definition(m, rows, i), "{shown}");
+        assert_eq!(Some(&autocorrelation(n, m, rows, i)), counted::autocorrelations(n, m, rows, i).last(), "{shown}");
+        assert_eq!(Some(&degree(n, m, rows, i)), counted::degrees(n, m, rows, i).last(), "{shown}");
         let j = random.between(1, n);
-        let distance = model::dynamic_distance_by_definition(n, m, rows, i, j);
-        assert_eq!(dynamic_distance(n, m, rows, i, j), distance, "j = {j}, {shown}");
+        let distances = counted::dynamic_distances(n, m, rows, i, j);
+        assert_eq!(Some(&dynamic_distance(n, m, rows, i, j)), distances.last(), "j = {j}, {shown}");
     }
 
     fn cheap_figures_agree(n: u32, m: u32, rows: &[u32], c: u32) {
@@ -329,14 +385,14 @@ mod tests {
         }
     }
 
-    /// A limit at random among those at which the definitions take no long time.
+    /// A limit at random among those that take no long time.
     fn short_limit(n: u32, m: u32, random: &mut Random) -> u32 {
-        let most = (1..=m).rev().find(|&i| how_many(m, i) << (2 * n) <= 1 << 20).unwrap_or(1);
+        let most = (1..=m).rev().find(|&i| how_many(m, i) << (2 * n) <= 1 << 21).unwrap_or(1);
         random.between(1, most)
     }
 
     #[test]
-    fn agrees_with_the_definitions_at_every_width() {
+    fn agrees_with_what_is_counted_at_every_width() {
         let mut random = Random::new(11);
         for (n, m) in (1..=8).flat_map(|n| (1..=32).map(move |m| (n, m))) {
             for kind in 0..3 {
@@ -348,11 +404,11 @@ mod tests {
         }
     }
 
-    /// As many outputs together as the definitions bear, and the widest box there is.
+    /// Many outputs together, and the widest boxes there are.
     #[test]
-    fn agrees_with_the_definitions_at_high_limits() {
+    fn agrees_with_what_is_counted_at_high_limits() {
         let mut random = Random::new(13);
-        let widths = [(2, 20, 20), (4, 16, 16), (4, 32, 4), (5, 14, 14), (6, 12, 12), (7, 10, 10), (8, 8, 8), (8, 16, 2), (8, 32, 3)];
+        let widths = [(2, 20, 20), (4, 16, 16), (4, 32, 4), (5, 14, 14), (6, 12, 12), (7, 16, 16), (8, 16, 16), (8, 32, 4), (6, 32, 5)];
         for (n, m, i) in widths {
             let rows = boxes::random_rows(n, m, &mut random);
             agrees(n, m, &rows, i, &mut random);
@@ -360,7 +416,7 @@ mod tests {
     }
 
     #[test]
-    fn agrees_with_the_definitions_on_boxes_of_every_kind() {
+    fn agrees_with_what_is_counted_on_boxes_of_every_kind() {
         let mut random = Random::new(12);
         for (n, m) in (1..=5).flat_map(|n| (1..=8).map(move |m| (n, m))) {
             for kind in 0..KINDS {
@@ -418,6 +474,24 @@ mod tests {
         }
     }
 
+    /// Each limit, at widths where one way or the other is used.
+    #[test]
+    fn the_figures_within_each_limit_are_those_of_the_limits() {
+        let mut random = Random::new(17);
+        for (n, m, most) in [(1, 1, 1), (2, 5, 5), (3, 17, 6), (5, 9, 9), (6, 20, 3), (8, 8, 8), (8, 20, 3)] {
+            for kind in [0, 4, 6, 10] {
+                let rows = boxes::of_kind(kind, n, m, &mut random);
+                let j = random.between(1, n);
+                let pairs: Vec<_> = (1..=most).map(|i| nonlinearity(n, m, &rows, i)).collect();
+                assert_eq!(nonlinearities(n, m, &rows, most), pairs, "{n} by {m}, {rows:?}");
+                let largest: Vec<_> = (1..=most).map(|i| autocorrelation(n, m, &rows, i)).collect();
+                assert_eq!(autocorrelations(n, m, &rows, most), largest, "{n} by {m}, {rows:?}");
+                let distances: Vec<_> = (1..=most).map(|i| dynamic_distance(n, m, &rows, i, j)).collect();
+                assert_eq!(dynamic_distances(n, m, &rows, most, j), distances, "{n} by {m}, j = {j}, {rows:?}");
+            }
+        }
+    }
+
     /// With a higher limit more combinations are looked at, and the worst of more is no better.
     #[test]
     fn a_higher_limit_never_gives_a_better_figure() {
@@ -430,17 +504,6 @@ mod tests {
                 assert!(autocorrelation(5, 32, &rows, i + 1)[0] >= autocorrelation(5, 32, &rows, i)[0], "{shown}");
                 assert!(degree(5, 32, &rows, i + 1)[0] <= degree(5, 32, &rows, i)[0], "{shown}");
             }
-        }
-    }
-
-    /// Beyond the definitions' reach, the two number widths at least check each other.
-    #[test]
-    fn both_number_widths_agree_at_the_widest() {
-        let mut random = Random::new(17);
-        for (m, i) in [(14, 14), (32, 4)] {
-            assert!(!model::bearable(8, m, i) && how_many(m, i) < 50_000);
-            let rows = boxes::random_rows(8, m, &mut random);
-            assert_eq!(nonlinearity(8, m, &rows, i), nonlinearity_16(8, m, &rows, i));
         }
     }
 }

@@ -2,8 +2,9 @@
 //! A refused call changes nothing, a step serves only what has a box's widths, and a run ends.
 use crate::calls::Run;
 use crate::evaluations::{any_box, any_place, figures_of};
+use crate::guarded::server::{self as library, Place, Server};
 use crate::lent::Lent;
-use crate::library_server::{self as library, Place, Server, EMPTY};
+use crate::library_server::{untouched_box, EMPTY};
 use second_model::model::{all_outputs, check_box_up_to, refuse_when, Answer};
 use second_model::random::Random;
 use second_model::server::{NO_PLACE, PLACES, PLACE_STATE};
@@ -73,22 +74,26 @@ fn outcome(server: &Server, place: u32, held: Place, checked: Answer<()>) -> (Se
     (left, 0)
 }
 
-fn compare(run: &mut Run, what: &str, given: library::Outcome, wanted: (Server, u32)) -> Server {
+fn compare(run: &mut Run, call: &'static str, given: library::Outcome, wanted: (Server, u32)) -> Server {
+    run.calling(call);
     let same = (given.server, given.status) == wanted;
-    run.count(same, || format!("{what} on a forged server: {}, wanted {}", given.status, wanted.1));
+    run.compared(wanted.1 != 0, same, || format!("{call} on a forged server: {}, wanted {}", given.status, wanted.1));
     given.server
 }
 
 fn put(run: &mut Run, server: Server, place: u32) -> Server {
     let (n, m, rows) = any_box(&mut run.random);
     let checked = check_place(&server, place, false).and_then(|()| check_box_up_to(16, n, m, &rows));
-    let held = if checked.is_ok() { library::untouched_box(n, m, &rows) } else { EMPTY };
-    compare(run, "putting", library::put(server, place, n, m, &rows), outcome(&server, place, held, checked))
+    let held = if checked.is_ok() { untouched_box(n, m, &rows) } else { EMPTY };
+    let read = run.copy(&rows);
+    let given = library::put(server, place, n, m, read.content());
+    run.law("the rows of a box are only read", read.untouched(), || "putting on a forged server writes to the rows".to_string());
+    compare(run, "server_put", given, outcome(&server, place, held, checked))
 }
 
 fn withdraw(run: &mut Run, server: Server, place: u32) -> Server {
     let checked = check_place(&server, place, true);
-    compare(run, "withdrawing", library::withdraw(server, place), outcome(&server, place, EMPTY, checked))
+    compare(run, "server_withdraw", library::withdraw(server, place), outcome(&server, place, EMPTY, checked))
 }
 
 /// Whether a step may serve a place: widths of a box that may stand there, and a combination left.
@@ -116,7 +121,8 @@ fn step(run: &mut Run, server: Server) -> Server {
         }
         wanted.last = place;
     }
-    run.count(given == wanted, || format!("a step on a forged server serves {:?}", served(&server)));
+    run.calling("server_step");
+    run.compared(false, given == wanted, || format!("a step on a forged server serves {:?}", served(&server)));
     given
 }
 
@@ -125,21 +131,24 @@ fn steps(run: &mut Run, server: Server) -> Server {
     let budget = run.random.below(50);
     let given = library::run(server, budget);
     let wanted = (0..budget).fold(server, |server, _| library::step(server));
-    run.count(given == wanted, || format!("{budget} steps on a forged server"));
+    run.calling("server_run");
+    run.compared(false, given == wanted, || format!("{budget} steps on a forged server"));
     given
 }
 
 fn ask(run: &mut Run, server: Server, place: u32) -> Server {
-    let mut figures: Lent<u32> = Lent::new(5, &mut run.random);
+    run.calling("server_ask");
+    let mut figures: Lent<u32> = run.lend(5);
     let status = library::ask(server, place, figures.part());
-    let same = match check_place(&server, place, true) {
+    let checked = check_place(&server, place, true);
+    let same = match checked {
         Err(number) => status == number && figures.untouched(),
         Ok(()) => {
             let held = &server.places[place as usize - 1];
             status == 0 && figures.holds(&figures_of((!unfinished(held)).then_some(held.found)))
         }
     };
-    run.count(same, || format!("asking a forged server: {status}, {:?}", figures.content()));
+    run.compared(checked.is_err(), same, || format!("asking a forged server: {status}, {:?}", figures.content()));
     server
 }
 
@@ -147,5 +156,5 @@ fn ask(run: &mut Run, server: Server, place: u32) -> Server {
 fn run_to_the_end(run: &mut Run, server: Server) {
     let ended = library::run(server, MOST_STEPS);
     let more = library::run(ended, u32::MAX);
-    run.count(served(&ended).is_none() && more == ended, || "a forged server is never done".to_string());
+    run.law("a run on a forged server ends", served(&ended).is_none() && more == ended, || "a forged server is never done".to_string());
 }

@@ -1,102 +1,89 @@
 //! `second catalogue`: every call on a catalogue against the model, in long histories, on
 //! damaged and on forged catalogues, and at each bound.
 use crate::calls::Run;
-use crate::lent::Lent;
 use crate::library;
+use crate::parts::Work;
 use second_model::boxes::{self, KINDS};
-use second_model::catalogue::{self, Catalogue, FIRST, LONGEST, MOST_RECORDS};
+use second_model::catalogue::{self, Catalogue, Record, FIRST, LONGEST, MOST_RECORDS};
 use second_model::model;
 use second_model::random::Random;
-use std::time::Instant;
 
-/// How many calls the histories make if nothing else is said.
-pub const DEFAULT_COUNT: u64 = 60_000;
+pub const PARTS: &[(&str, Work)] = &[
+    ("bounds", &bounds),
+    ("histories", &histories),
+    ("damaged bytes", &damaged_bytes),
+    ("forged catalogues", &forged_catalogues),
+    ("narrow gaps", &narrow_gaps),
+    ("full catalogues", &full_catalogues),
+];
 
-type Part<'a> = &'a dyn Fn(&mut Run);
-
-/// True if there were no differences.
-pub fn run(seed: u64, count: u64) -> bool {
-    println!("seed {seed}, {count} calls in histories");
-    let mut run = Run::new(seed);
-    let start = Instant::now();
-    let histories = |run: &mut Run| histories(run, count);
-    let parts: [(&str, Part); 5] = [
-        ("bounds", &bounds),
-        ("histories", &histories),
-        ("damaged bytes", &damaged_bytes),
-        ("forged catalogues", &forged_catalogues),
-        ("full catalogues", &full_catalogues),
-    ];
-    for (name, part) in parts {
-        let before = run.comparisons;
-        part(&mut run);
-        println!("{name}: {} comparisons, {:.1} s", run.comparisons - before, start.elapsed().as_secs_f64());
-    }
-    println!("{} comparisons, {} differences", run.comparisons, run.differences);
-    run.differences == 0
-}
+/// How many calls the histories make.
+const CALLS: u64 = 60_000;
 
 // ---------------------------------------------------------------------------
 // One call each. The bytes that stand afterwards are the library's.
 // ---------------------------------------------------------------------------
 
 fn described(bytes: &[u8]) -> String {
-    let used: Vec<String> = bytes.iter().enumerate().filter(|(_, &byte)| byte != 0).map(|(place, byte)| format!("{place}:{byte}")).collect();
+    let used: Vec<String> =
+        bytes.iter().enumerate().filter(|(_, &byte)| byte != 0).map(|(place, byte)| format!("{place}:{byte}")).collect();
     format!("a buffer of {} bytes, not 0 at {}", bytes.len(), used.join(" "))
 }
 
 fn check(run: &mut Run, bytes: &[u8], figures_len: usize) {
-    let mut figures: Lent<u32> = Lent::new(figures_len, &mut run.random);
-    let code = library::check_catalogue(bytes, figures.part());
-    let wanted = catalogue::check(bytes, figures_len);
-    let same = match &wanted {
-        Ok(found) => code == 0 && figures.holds(found),
-        Err(number) => code == *number && figures.untouched(),
-    };
-    run.count(same, || format!("check: {code}, {:?}; the model says {wanted:?} of {}", figures.content(), described(bytes)));
+    run.calling("check_catalogue");
+    let (read, mut figures) = (run.copy(bytes), run.lend(figures_len));
+    let code = library::check_catalogue(read.content(), figures.part());
+    let wanted = catalogue::check(bytes, figures_len).map(Vec::from);
+    run.judge(code, &[&read], &figures, &wanted, || described(bytes));
 }
 
-/// Also: an accepted addition, taken back by its index, leaves what was there before.
-fn add(run: &mut Run, bytes: &mut Vec<u8>, file: &[u8], figures_len: usize) {
-    let mut lent: Lent<u8> = Lent::of(bytes, &mut run.random);
-    let mut figures: Lent<u32> = Lent::new(figures_len, &mut run.random);
-    let code = library::add_record(lent.part(), file, figures.part());
+/// Also: an accepted addition, taken back by its index, leaves what was there before. Says whether
+/// the library added the file.
+fn add(run: &mut Run, bytes: &mut Vec<u8>, file: &[u8], figures_len: usize) -> bool {
+    run.calling("add_record");
+    let (mut lent, read, mut figures) = (run.copy(bytes), run.copy(file), run.lend(figures_len));
+    let code = library::add_record(lent.part(), read.content(), figures.part());
     let wanted = catalogue::add(bytes, file, figures_len);
     let same = match &wanted {
         Ok((found, after)) => code == 0 && figures.holds(found) && lent.holds(after),
         Err(number) => code == *number && figures.untouched() && lent.untouched(),
     };
-    run.count(same, || format!("add {file:?}: {code}, {:?}; {} became {}", figures.content(), described(bytes), described(lent.content())));
+    run.compared(wanted.is_err(), same && read.untouched(), || {
+        let (told, after) = (figures.content(), described(lent.content()));
+        format!("add_record {file:?}: {code}, {told:?}; {} became {after}, and the file {:?}", described(bytes), read.content())
+    });
+    let after = lent.content().to_vec();
     if let Ok(([index], _)) = wanted {
-        let mut back = lent.content().to_vec();
-        let code = library::remove_record(&mut back, index);
-        run.count(code == 0 && back == *bytes, || format!("add {file:?} and remove {index} leave {}", described(&back)));
+        let back = removed(run, &after, index);
+        run.law("a record added and removed", back.as_ref() == Some(bytes), || format!("add {file:?} and remove {index}: {back:?}"));
     }
-    *bytes = lent.content().to_vec();
+    *bytes = after;
+    code == 0
+}
+
+/// The library's bytes afterwards, if it removes the record.
+fn removed(run: &mut Run, bytes: &[u8], index: u32) -> Option<Vec<u8>> {
+    run.calling("remove_record");
+    let mut lent = run.copy(bytes);
+    let code = library::remove_record(lent.part(), index);
+    let wanted = catalogue::remove(bytes, index);
+    run.judge(code, &[], &lent, &wanted, || format!("index = {index}, {}", described(bytes)))
 }
 
 fn remove(run: &mut Run, bytes: &mut Vec<u8>, index: u32) {
-    let mut lent: Lent<u8> = Lent::of(bytes, &mut run.random);
-    let code = library::remove_record(lent.part(), index);
-    let wanted = catalogue::remove(bytes, index);
-    let same = match &wanted {
-        Ok(after) => code == 0 && lent.holds(after),
-        Err(number) => code == *number && lent.untouched(),
-    };
-    run.count(same, || format!("remove {index}: {code}; {} became {}", described(bytes), described(lent.content())));
-    *bytes = lent.content().to_vec();
+    if let Some(after) = removed(run, bytes, index) {
+        *bytes = after;
+    }
 }
 
 /// Also: a fetched record is read as a box, and its rows are what the model reads.
 fn fetch(run: &mut Run, bytes: &[u8], index: u32, figures_len: usize) {
-    let mut figures: Lent<u32> = Lent::new(figures_len, &mut run.random);
-    let code = library::fetch_record(bytes, index, figures.part());
+    run.calling("fetch_record");
+    let (read, mut figures) = (run.copy(bytes), run.lend(figures_len));
+    let code = library::fetch_record(read.content(), index, figures.part());
     let wanted = catalogue::fetch(bytes, index, figures_len);
-    let same = match &wanted {
-        Ok(found) => code == 0 && figures.holds(found),
-        Err(number) => code == *number && figures.untouched(),
-    };
-    run.count(same, || format!("fetch {index}: {code}, {:?}; the model says {wanted:?} of {}", figures.content(), described(bytes)));
+    run.judge(code, &[&read], &figures, &wanted.map(Vec::from), || format!("index = {index}, {}", described(bytes)));
     if let Ok([offset, length]) = wanted {
         let file = &bytes[offset as usize..(offset + length) as usize];
         run.read_box(file, 1 << file[0], 2);
@@ -106,20 +93,26 @@ fn fetch(run: &mut Run, bytes: &[u8], index: u32, figures_len: usize) {
 /// Also: right after it a file is added exactly if fewer than 64 records stand and the free
 /// bytes in all are enough.
 fn compact(run: &mut Run, bytes: &mut Vec<u8>) {
-    let mut lent: Lent<u8> = Lent::of(bytes, &mut run.random);
+    run.calling("compact_catalogue");
+    let mut lent = run.copy(bytes);
     let code = library::compact_catalogue(lent.part());
     let wanted = catalogue::compact(bytes);
-    let same = match &wanted {
-        Ok(after) => code == 0 && lent.holds(after),
-        Err(number) => code == *number && lent.untouched(),
-    };
-    run.count(same, || format!("compact: {code}; {} became {}", described(bytes), described(lent.content())));
-    *bytes = lent.content().to_vec();
+    let compacted = run.judge(code, &[], &lent, &wanted, || described(bytes));
+    drop(lent);
+    if let Some(after) = compacted {
+        *bytes = after;
+        fills_all_gaps(run, bytes);
+    }
+}
+
+fn fills_all_gaps(run: &mut Run, bytes: &[u8]) {
     if let Ok(compacted) = catalogue::read(bytes) {
         let file = sound_file(&mut run.random);
         let fits = compacted.records.len() < MOST_RECORDS && file.len() <= compacted.free();
-        let code = library::add_record(&mut bytes.clone(), &file, &mut [0]);
-        run.count(code == if fits { 0 } else { 14 }, || format!("add after compaction: {code} for {} bytes, {}", file.len(), described(bytes)));
+        let added = add(run, &mut bytes.to_vec(), &file, 1);
+        run.law("an addition after compaction", added == fits, || {
+            format!("added after compaction: {added}, {} bytes to {}", file.len(), described(bytes))
+        });
     }
 }
 
@@ -156,7 +149,8 @@ fn any_file(random: &mut Random) -> Vec<u8> {
 fn size(random: &mut Random) -> usize {
     let tight = FIRST + 10 * random.below(70) as usize + 8 * random.below(3) as usize;
     let usual = FIRST + random.below(4000) as usize;
-    random.pick(&[FIRST - 1, FIRST, FIRST + 1, FIRST + 9, FIRST + 10, tight, tight, tight, usual, usual, usual, usual, LONGEST, LONGEST + 1])
+    let bound = random.pick(&[FIRST - 1, FIRST, FIRST + 1, FIRST + 9, FIRST + 10, LONGEST, LONGEST + 1]);
+    random.pick(&[bound, tight, usual, usual])
 }
 
 /// An index that a record has, the first that none has, and now and then a far one.
@@ -184,9 +178,9 @@ fn room(random: &mut Random, right: usize) -> usize {
 
 /// Histories that begin with an empty buffer and go on for a while; the longest are the shortest
 /// buffers'. The calls after each other are of one kind for a while, so that catalogues fill up.
-fn histories(run: &mut Run, count: u64) {
+fn histories(run: &mut Run) {
     let mut made = 0;
-    while made < count {
+    while made < CALLS {
         let length = size(&mut run.random);
         let steps = if length > 10_000 { 150 } else { 400 };
         let mut bytes = vec![0; length];
@@ -199,7 +193,6 @@ fn histories(run: &mut Run, count: u64) {
             made += 1;
         }
     }
-    println!("{made} calls in histories");
 }
 
 fn step(run: &mut Run, bytes: &mut Vec<u8>, filling: bool) {
@@ -240,7 +233,9 @@ fn every_call(run: &mut Run, bytes: &[u8]) {
 /// Both ends of the length, and no record, one, and one too many for the buffer.
 fn bounds(run: &mut Run) {
     let file = model::file_of(1, 1, &[0, 1]);
-    for length in [0, 1, 2, 256, FIRST - 1, FIRST, FIRST + 9, FIRST + 10, FIRST + 19, FIRST + 20, LONGEST - 1, LONGEST, LONGEST + 1, 2 * LONGEST] {
+    let around_the_first = [FIRST - 1, FIRST, FIRST + 9, FIRST + 10, FIRST + 19, FIRST + 20];
+    let around_the_longest = [LONGEST - 1, LONGEST, LONGEST + 1, 2 * LONGEST];
+    for length in [0, 1, 2, 256].into_iter().chain(around_the_first).chain(around_the_longest) {
         let mut bytes = vec![0; length];
         every_call(run, &bytes);
         for _ in 0..3 {
@@ -321,7 +316,7 @@ fn full_records(random: &mut Random, length: usize) -> Vec<u8> {
     while found.records.len() < MOST_RECORDS && offset + 1026 <= length {
         let m = random.pick(&[8, 16, 31, 32]);
         let file = model::file_of(8, m, &boxes::random_rows(8, m, random));
-        found.records.push(catalogue::Record { offset, file });
+        found.records.push(Record { offset, file });
         offset += 1026;
     }
     found.bytes()
@@ -351,7 +346,10 @@ fn forged_catalogues(run: &mut Run) {
             4 => forged[place + 2] = random.pick(&[0, 1, 2, 10, 18, 34, 66]),
             5 => forged[place + 1] = random.pick(&[0, 1, 2, 255]),
             6 => {
-                found.records[which].offset += 1;
+                // One byte up, or down where the buffer ends there.
+                let record = &mut found.records[which];
+                let at_the_end = record.offset + record.file.len() == bytes.len();
+                record.offset = if at_the_end { record.offset - 1 } else { record.offset + 1 };
                 forged = found.bytes();
             }
             _ => {
@@ -362,6 +360,31 @@ fn forged_catalogues(run: &mut Run) {
             }
         }
         every_call(run, &forged);
+    }
+}
+
+/// A sound catalogue with gaps of none to three bytes before each record and at the end. All files
+/// have even lengths, so that no history makes gaps like these.
+fn narrowly_gapped(random: &mut Random) -> Vec<u8> {
+    let mut found = Catalogue { size: FIRST, records: Vec::new() };
+    for _ in 0..random.between(1, 12) {
+        let file = sound_file(random);
+        let offset = found.size + random.pick(&[0, 1, 1, 2, 3]);
+        found.size = offset + file.len();
+        found.records.push(Record { offset, file });
+    }
+    found.size += random.pick(&[0, 1, 2, 9, 10, 11]);
+    found.bytes()
+}
+
+/// Every call on such catalogues, and short histories from them on.
+fn narrow_gaps(run: &mut Run) {
+    for round in 0..400 {
+        let mut bytes = narrowly_gapped(&mut run.random);
+        every_call(run, &bytes);
+        for _ in 0..20 {
+            step(run, &mut bytes, round % 2 == 0);
+        }
     }
 }
 

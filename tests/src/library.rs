@@ -4,7 +4,8 @@
 //! returns 0, or the number of a refusal.
 #![allow(dead_code)] // the benchmark shares this file and calls fewer of the functions
 
-mod raw {
+#[rustfmt::skip]
+pub mod raw {
     #[link(name = "satmegwo", kind = "static")]
     extern "C" {
         pub fn satmegwo_spectrum(n: u32, table: *const u8, table_len: usize, out: *mut i32, out_len: usize) -> u32;
@@ -126,6 +127,7 @@ pub fn read_box(file: &[u8], rows: &mut [u32], figures: &mut [u32]) -> u32 {
 /// One box as it is handed over: n, m and the rows.
 pub type BoxLent<'a> = (u32, u32, &'a [u32]);
 
+#[rustfmt::skip]
 pub fn sum_nonlinearity(count: u32, boxes: [BoxLent; 4], i: u32, figures: &mut [u32]) -> u32 {
     let [(n1, m1, rows1), (n2, m2, rows2), (n3, m3, rows3), (n4, m4, rows4)] = boxes;
     unsafe {

@@ -2,6 +2,7 @@
 //!
 //! A design goes in and comes out by value, beside 0 or the number of a refusal. Its fields
 //! are those of the header.
+#![allow(dead_code)] // the comparing program makes most of these calls by guarded.rs
 use second_model::design::Operation;
 
 pub const MOST_ROWS: usize = 256;
@@ -30,7 +31,7 @@ pub struct Outcome {
     pub status: u32,
 }
 
-mod raw {
+pub mod raw {
     use super::{Design, Outcome};
 
     #[link(name = "satmegwo_design", kind = "static")]

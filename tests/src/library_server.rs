@@ -38,7 +38,7 @@ pub struct Outcome {
     pub status: u32,
 }
 
-mod raw {
+pub mod raw {
     use super::{Outcome, Server};
 
     #[link(name = "satmegwo_server", kind = "static")]

@@ -1,19 +1,28 @@
 //! The second program beside the library. See the usage text below.
 mod avalanches;
 mod bounds;
+mod by_value;
 mod calls;
 mod compare;
 mod damage;
 mod evaluations;
+mod far;
 mod files;
 mod forged;
+mod guarded;
+#[cfg(test)]
+mod headers;
 mod histories;
 mod lent;
 mod library;
 mod library_design;
 mod library_server;
+mod limits;
 mod lists;
+mod orders;
 mod packed;
+mod pages;
+mod parts;
 mod raised;
 mod sheets;
 mod sums;
@@ -23,40 +32,30 @@ use std::path::Path;
 use std::process::ExitCode;
 
 const USAGE: &str = "usage:
-  second compare [SEED] [COUNT]
-      every call of the library against the model; COUNT damaged argument sets for each call
-  second catalogue [SEED] [COUNT]
-      the library's calls on a catalogue against the model; COUNT calls in histories
-  second designs [SEED] [COUNT]
-      the library's calls on a design against the model; COUNT operations in histories
-  second server [SEED] [COUNT]
-      the library's calls on the evaluation server against the model; COUNT calls in histories
-  second sheets PROGRAM DIR [SEED] [COUNT]
-      the box sheet PROGRAM against the model, on COUNT files made from SEED and on DIR/*.box
+  second PART.. [SEED] [COUNT]
+      compares, each part COUNT times (1 for either number if nothing is said); a PART is
+        all         everything below
+        compare     every call of the library against the model
+        limits      the calls that take a limit, at every limit that takes no long time
+        turns       two of these calls at limits above 16 outputs, at other widths by other seeds
+        catalogue   the calls on a catalogue, in long histories
+        designs     the calls on a design, in long histories
+        server      the calls on the evaluation server, in long histories
+        sheets      the program boxsheet, on stored files and on files made from SEED
+      or a single part of these, as it is called in their output
   second files DIR
-      writes the published boxes and their sheets to DIR";
+      writes the published boxes, their sheets and what the example programs print to DIR
+  second stored
+      compares the same with what is stored in examples/ and crates/";
 
 fn main() -> ExitCode {
+    pages::tell_of_crashes();
     let arguments: Vec<String> = std::env::args().skip(1).collect();
     let words: Vec<&str> = arguments.iter().map(String::as_str).collect();
     let outcome = match words[..] {
-        ["compare", ref rest @ ..] if rest.len() <= 2 => {
-            numbers(rest, 1, compare::DEFAULT_COUNT).map(|(seed, count)| compare::run(seed, count))
-        }
-        ["catalogue", ref rest @ ..] if rest.len() <= 2 => {
-            numbers(rest, 1, histories::DEFAULT_COUNT).map(|(seed, count)| histories::run(seed, count))
-        }
-        ["designs", ref rest @ ..] if rest.len() <= 2 => {
-            numbers(rest, 1, tuning::DEFAULT_COUNT).map(|(seed, count)| tuning::run(seed, count))
-        }
-        ["server", ref rest @ ..] if rest.len() <= 2 => {
-            numbers(rest, 1, evaluations::DEFAULT_COUNT).map(|(seed, count)| evaluations::run(seed, count))
-        }
-        ["sheets", program, directory, ref rest @ ..] if rest.len() <= 2 => {
-            numbers(rest, 1, sheets::DEFAULT_COUNT).and_then(|(seed, count)| sheets::run(program, Path::new(directory), seed, count))
-        }
         ["files", directory] => files::write(Path::new(directory)),
-        _ => Err(USAGE.to_string()),
+        ["stored"] => files::compare_stored(),
+        _ => run(&words),
     };
     match outcome {
         Ok(true) => ExitCode::SUCCESS,
@@ -68,11 +67,16 @@ fn main() -> ExitCode {
     }
 }
 
-/// The optional seed and count at the end of the command line.
-fn numbers(words: &[&str], seed: u64, count: u64) -> Result<(u64, u64), String> {
-    let number = |place: usize, default: u64| match words.get(place) {
+/// Runs parts, with the optional seed and count at the end of the command line.
+fn run(words: &[&str]) -> Result<bool, String> {
+    let is_number = |word: &&str| word.bytes().all(|byte| byte.is_ascii_digit());
+    let (parts, numbers) = words.split_at(words.iter().position(is_number).unwrap_or(words.len()));
+    let number = |place: usize| match numbers.get(place) {
         Some(word) => word.parse().map_err(|_| format!("not a number: {word}\n{USAGE}")),
-        None => Ok(default),
+        None => Ok(1),
     };
-    Ok((number(0, seed)?, number(1, count)?))
+    if parts.is_empty() || numbers.len() > 2 {
+        return Err(USAGE.to_string());
+    }
+    parts::run(parts, number(0)?, number(1)?)
 }

@@ -74,6 +74,42 @@ mod tests {
         }
     }
 
+    /// A bent box is even at each limit, and one bit away from it nothing is. With a column twice
+    /// it is even within the limit 1 alone, since the two columns together are constant.
+    #[test]
+    fn boxes_near_a_bent_one() {
+        let mut random = Random::new(4);
+        for round in 0..24 {
+            let h = 1 + round % 4;
+            let permutation = boxes::random_permutation(h, &mut random);
+            let g = boxes::random_rows(h, h, &mut random);
+            let rows = bent_box(h, &permutation, &g);
+            assert!((1..=h).all(|i| changes_evenly(2 * h, h, &rows, i)), "{rows:?}");
+            // The column whose bit is changed is among the combinations at every limit.
+            let mut near = rows.clone();
+            near[random.below(1 << (2 * h)) as usize] ^= 1 << random.below(h);
+            assert!((1..=h).all(|i| !changes_evenly(2 * h, h, &near, i)), "{near:?}");
+            let twice: Vec<u32> = rows.iter().map(|row| row | (row & 1) << h).collect();
+            assert!((1..=h + 1).all(|i| changes_evenly(2 * h, h + 1, &twice, i) == (i == 1)), "{twice:?}");
+        }
+    }
+
+    /// With an odd number of inputs neither side occurs, and with an even one both or none.
+    #[test]
+    fn both_sides_are_the_same() {
+        let mut random = Random::new(5);
+        for (n, m) in (1..=6).flat_map(|n| [1, 2, 3, 5].map(|m| (n, m))) {
+            for kind in 0..boxes::KINDS {
+                let rows = boxes::of_kind(kind, n, m, &mut random);
+                let i = random.between(1, m);
+                let even = changes_evenly(n, m, &rows, i);
+                let [d, ..] = model::nonlinearity_by_definition(n, m, &rows, i);
+                assert_eq!(even, meets_the_bound(n, d), "{n} by {m}, i = {i}: {rows:?}");
+                assert!(!even || n % 2 == 0, "{n} by {m}, i = {i}: {rows:?}");
+            }
+        }
+    }
+
     #[test]
     fn bent_boxes_are_bent() {
         let mut random = Random::new(3);

@@ -4,6 +4,7 @@
 //! inputs and adds up plus and minus ones as the definition says. A lent array shows up
 //! here only as its length; what the call would write to it is the value returned.
 use crate::combinations::{how_many, within};
+use crate::counted;
 use crate::fast;
 use std::collections::BTreeMap;
 
@@ -269,11 +270,33 @@ pub fn bijective_by_definition(n: u32, m: u32, rows: &[u32]) -> bool {
     n == m && no_two_equal
 }
 
-/// Whether counting by definition over the combinations within the limit takes a bearable
-/// time. For wider boxes the model takes the figure from `fast`, which the unit tests
-/// compare with the definitions at every width within this bound.
-pub fn bearable(n: u32, m: u32, i: u32) -> bool {
-    how_many(m, i) << (2 * n) <= 1 << 24
+/// How a figure over the combinations within a limit is reached: the first way that takes no long
+/// time. The unit tests hold each of the later ways to the first.
+#[derive(Clone, Copy, Debug, PartialEq)]
+pub enum Way {
+    /// Value by value, as it stands above.
+    ByDefinition,
+    /// The same counts by packed words: `counted`.
+    ByCounting,
+    /// By transforms, as the library does: `fast`. No limit of a box of at most 16 outputs needs
+    /// it, nor the limits 1 to 4 of any box.
+    ByTransform,
+}
+
+pub fn way(n: u32, m: u32, i: u32) -> Way {
+    let combinations = how_many(m, i);
+    if combinations << (2 * n) <= 1 << 20 {
+        Way::ByDefinition
+    } else if combinations << n <= 1 << 24 {
+        Way::ByCounting
+    } else {
+        Way::ByTransform
+    }
+}
+
+/// The figures within the last of the limits that were counted.
+fn last<F: Copy>(within_each_limit: Vec<F>) -> F {
+    *within_each_limit.last().expect("there is a limit")
 }
 
 // ---------------------------------------------------------------------------
@@ -313,10 +336,10 @@ pub fn nonlinearity(n: u32, m: u32, rows: &[u32], i: u32, figures_len: usize) ->
     check_box(n, m, rows)?;
     check_parameter(i, 1, m)?;
     check_written(figures_len, 4)?;
-    Ok(if bearable(n, m, i) {
-        nonlinearity_by_definition(n, m, rows, i)
-    } else {
-        fast::nonlinearity(n, m, rows, i)
+    Ok(match way(n, m, i) {
+        Way::ByDefinition => nonlinearity_by_definition(n, m, rows, i),
+        Way::ByCounting => last(counted::nonlinearities(n, m, rows, i)),
+        Way::ByTransform => fast::nonlinearity(n, m, rows, i),
     })
 }
 
@@ -358,10 +381,10 @@ pub fn autocorrelation(n: u32, m: u32, rows: &[u32], i: u32, figures_len: usize)
     check_box(n, m, rows)?;
     check_parameter(i, 1, m)?;
     check_written(figures_len, 3)?;
-    Ok(if bearable(n, m, i) {
-        autocorrelation_by_definition(n, m, rows, i)
-    } else {
-        fast::autocorrelation(n, m, rows, i)
+    Ok(match way(n, m, i) {
+        Way::ByDefinition => autocorrelation_by_definition(n, m, rows, i),
+        Way::ByCounting => last(counted::autocorrelations(n, m, rows, i)),
+        Way::ByTransform => fast::autocorrelation(n, m, rows, i),
     })
 }
 
@@ -371,10 +394,10 @@ pub fn dynamic_distance(n: u32, m: u32, rows: &[u32], i: u32, j: u32, figures_le
     check_parameter(i, 1, m)?;
     check_parameter(j, 1, n)?;
     check_written(figures_len, 3)?;
-    Ok(if bearable(n, m, i) {
-        dynamic_distance_by_definition(n, m, rows, i, j)
-    } else {
-        fast::dynamic_distance(n, m, rows, i, j)
+    Ok(match way(n, m, i) {
+        Way::ByDefinition => dynamic_distance_by_definition(n, m, rows, i, j),
+        Way::ByCounting => last(counted::dynamic_distances(n, m, rows, i, j)),
+        Way::ByTransform => fast::dynamic_distance(n, m, rows, i, j),
     })
 }
 
@@ -389,10 +412,10 @@ pub fn degree(n: u32, m: u32, rows: &[u32], i: u32, figures_len: usize) -> Answe
     check_box(n, m, rows)?;
     check_parameter(i, 1, m)?;
     check_written(figures_len, 2)?;
-    Ok(if bearable(n, m, i) {
-        degree_by_definition(m, rows, i)
-    } else {
-        fast::degree(n, m, rows, i)
+    Ok(match way(n, m, i) {
+        Way::ByDefinition => degree_by_definition(m, rows, i),
+        Way::ByCounting => last(counted::degrees(n, m, rows, i)),
+        Way::ByTransform => fast::degree(n, m, rows, i),
     })
 }
 
@@ -496,6 +519,16 @@ mod tests {
     use super::*;
 
     const F: [u32; 8] = [3, 1, 4, 0, 2, 5, 6, 7];
+
+    /// What the comment of `Way::ByTransform` says.
+    #[test]
+    fn no_limit_of_16_outputs_needs_a_transform() {
+        for (n, m) in (1..=8).flat_map(|n| (1..=32).map(move |m| (n, m))) {
+            let most = if m <= 16 { m } else { 4 };
+            assert!((1..=most).all(|i| way(n, m, i) != Way::ByTransform), "{n} by {m}");
+        }
+        assert_eq!(way(8, 32, 5), Way::ByTransform);
+    }
 
     #[test]
     fn case_1_the_identity_of_one_bit() {

@@ -6,34 +6,37 @@ use second_model::boxes::{self, KINDS};
 use second_model::model::all_outputs;
 use second_model::packing::{self, bytes_of_a_column};
 
-pub fn all(run: &mut Run, count: u64) {
+/// How many damaged argument sets each call gets.
+const DAMAGED: u64 = 1000;
+
+pub fn all(run: &mut Run) {
     all_widths(run);
     wrong_widths(run);
     wrong_lengths(run);
     largest_rows(run);
     single_bits(run);
     checks_one_after_the_other(run);
-    for _ in 0..count {
+    for _ in 0..DAMAGED {
         damaged_box(run);
         damaged_bytes(run);
     }
 }
 
 impl Run {
-    fn pack(&mut self, n: u32, m: u32, rows: &[u32], out_len: usize) {
-        let mut out = self.lend(out_len);
-        let code = library::pack_columns(n, m, rows, out.part());
+    fn pack(&mut self, n: u32, m: u32, rows: &[u32], out_len: usize) -> Option<Vec<u8>> {
+        self.calling("pack_columns");
+        let (read, mut out) = (self.copy(rows), self.lend(out_len));
+        let code = library::pack_columns(n, m, read.content(), out.part());
         let wanted = packing::pack(n, m, rows, out_len);
-        self.judge(code, &out, &wanted, || format!("pack_columns n = {n}, m = {m}, rows = {rows:?}, out_len = {out_len}"));
+        self.judge(code, &[&read], &out, &wanted, || format!("n = {n}, m = {m}, rows = {rows:?}, out_len = {out_len}"))
     }
 
-    fn unpack(&mut self, n: u32, m: u32, packed: &[u8], out_len: usize) {
-        let mut out = self.lend(out_len);
-        let code = library::unpack_columns(n, m, packed, out.part());
+    fn unpack(&mut self, n: u32, m: u32, packed: &[u8], out_len: usize) -> Option<Vec<u32>> {
+        self.calling("unpack_columns");
+        let (read, mut out) = (self.copy(packed), self.lend(out_len));
+        let code = library::unpack_columns(n, m, read.content(), out.part());
         let wanted = packing::unpack(n, m, packed, out_len);
-        self.judge(code, &out, &wanted, || {
-            format!("unpack_columns n = {n}, m = {m}, packed = {packed:?}, out_len = {out_len}")
-        });
+        self.judge(code, &[&read], &out, &wanted, || format!("n = {n}, m = {m}, packed = {packed:?}, out_len = {out_len}"))
     }
 }
 
@@ -67,28 +70,26 @@ fn all_widths(run: &mut Run) {
     for (n, m) in (1..=8).flat_map(|n| (1..=32).map(move |m| (n, m))) {
         for kind in 0..KINDS {
             let rows = boxes::of_kind(kind, n, m, &mut run.random);
-            run.pack(n, m, &rows, packed_length(n, m));
             rows_come_back(run, n, m, &rows);
         }
         for _ in 0..4 {
             let packed = sound_bytes(run, n, m);
-            run.unpack(n, m, &packed, 1 << n);
             bytes_come_back(run, n, m, &packed);
         }
     }
 }
 
-/// The library alone, there and back.
+/// What the library packs, it unpacks to the same rows.
 fn rows_come_back(run: &mut Run, n: u32, m: u32, rows: &[u32]) {
-    let (mut packed, mut back) = (vec![0; packed_length(n, m)], vec![0; 1 << n]);
-    let codes = (library::pack_columns(n, m, rows, &mut packed), library::unpack_columns(n, m, &packed, &mut back));
-    run.count(codes == (0, 0) && back == rows, || format!("{n} by {m}: {rows:?} comes back as {back:?} with {codes:?}"));
+    let packed = run.pack(n, m, rows, packed_length(n, m));
+    let back = packed.and_then(|packed| run.unpack(n, m, &packed, 1 << n));
+    run.law("packed rows come back", back.as_deref() == Some(rows), || format!("{n} by {m}: {rows:?} comes back as {back:?}"));
 }
 
 fn bytes_come_back(run: &mut Run, n: u32, m: u32, packed: &[u8]) {
-    let (mut rows, mut back) = (vec![0; 1 << n], vec![0; packed.len()]);
-    let codes = (library::unpack_columns(n, m, packed, &mut rows), library::pack_columns(n, m, &rows, &mut back));
-    run.count(codes == (0, 0) && back == packed, || format!("{n} by {m}: {packed:?} comes back as {back:?} with {codes:?}"));
+    let rows = run.unpack(n, m, packed, 1 << n);
+    let back = rows.and_then(|rows| run.pack(n, m, &rows, packed.len()));
+    run.law("unpacked bytes come back", back.as_deref() == Some(packed), || format!("{n} by {m}: {packed:?} comes back as {back:?}"));
 }
 
 fn wrong_widths(run: &mut Run) {

@@ -28,15 +28,15 @@ pub const EXAMPLE: [u32; 8] = [3, 1, 4, 0, 2, 5, 6, 7];
 /// The box with three inputs of its Example 2, put together from three columns:
 const KIM_3: [u32; 8] = [6, 4, 2, 7, 3, 5, 0, 1];
 /// The box with four inputs of its Example 4, and the two with six inputs after it:
-const KIM_4: [u32; 16] = [
-    11, 1, 4, 0, 10, 13, 6, 15, 9, 3, 8, 12, 5, 2, 7, 14,
-];
+const KIM_4: [u32; 16] = [11, 1, 4, 0, 10, 13, 6, 15, 9, 3, 8, 12, 5, 2, 7, 14];
+#[rustfmt::skip]
 const KIM_6A: [u32; 64] = [
     4, 53, 16, 57, 43, 45, 2, 6, 12, 55, 63, 33, 8, 26, 30, 51,
     37, 20, 41, 0, 61, 59, 22, 18, 39, 28, 49, 47, 10, 24, 35, 14,
     21, 36, 25, 48, 13, 11, 38, 34, 23, 44, 1, 31, 58, 40, 19, 62,
     52, 5, 32, 9, 27, 29, 50, 54, 60, 7, 15, 17, 56, 42, 46, 3,
 ];
+#[rustfmt::skip]
 const KIM_6B: [u32; 64] = [
     36, 21, 48, 57, 43, 45, 2, 38, 12, 23, 63, 1, 8, 58, 30, 19,
     37, 20, 9, 0, 29, 27, 22, 50, 39, 60, 49, 15, 10, 56, 35, 46,
@@ -44,9 +44,7 @@ const KIM_6B: [u32; 64] = [
     52, 5, 32, 41, 59, 61, 18, 54, 28, 7, 47, 17, 24, 42, 14, 3,
 ];
 
-const PRESENT: [u32; 16] = [
-    12, 5, 6, 11, 9, 0, 10, 13, 3, 14, 15, 8, 4, 7, 1, 2,
-];
+const PRESENT: [u32; 16] = [12, 5, 6, 11, 9, 0, 10, 13, 3, 14, 15, 8, 4, 7, 1, 2];
 
 const SERPENT: [[u32; 16]; 8] = [
     [3, 8, 15, 1, 10, 6, 5, 11, 14, 13, 4, 2, 7, 0, 9, 12],
@@ -60,6 +58,7 @@ const SERPENT: [[u32; 16]; 8] = [
 ];
 
 /// S1 to S8 as the standard prints them.
+#[rustfmt::skip]
 const DES: [[u32; 64]; 8] = [
     [
         14, 4, 13, 1, 2, 15, 11, 8, 3, 10, 6, 12, 5, 9, 0, 7,
@@ -114,6 +113,7 @@ const DES: [[u32; 64]; 8] = [
 /// The nonlinearity of S1 to S8.
 const DES_NONLINEARITY: [u32; 8] = [14, 16, 16, 16, 12, 18, 14, 16];
 
+#[rustfmt::skip]
 const AES: [u32; 256] = [
     99, 124, 119, 123, 242, 107, 111, 197, 48, 1, 103, 43, 254, 215, 171, 118,
     202, 130, 201, 125, 250, 89, 71, 240, 173, 212, 162, 175, 156, 164, 114, 192,
@@ -262,26 +262,29 @@ mod tests {
     use crate::model;
     use crate::sheet;
 
-    fn same(name: &str, published: Option<u32>, measured: u32) {
-        if let Some(figure) = published {
-            assert_eq!(figure, measured, "{name}");
-        }
-    }
-
+    /// Of the 96 figures of the 24 boxes 43 are at hand.
     #[test]
     fn the_model_finds_the_published_figures() {
+        let mut compared = 0;
         for known in all() {
             let Published { ref name, n, m, ref rows, .. } = known;
             let i = sheet::limit(m);
-            same(name, known.nonlinearity, model::nonlinearity(n, m, rows, i, 4).unwrap()[0]);
-            same(name, known.xor, model::largest_cell(n, m, rows, 3).unwrap()[0]);
-            same(name, known.autocorrelation, model::autocorrelation(n, m, rows, i, 3).unwrap()[0]);
-            same(name, known.degree, model::degree(n, m, rows, i, 2).unwrap()[0]);
+            let figures = [
+                (known.nonlinearity, model::nonlinearity(n, m, rows, i, 4).unwrap()[0]),
+                (known.xor, model::largest_cell(n, m, rows, 3).unwrap()[0]),
+                (known.autocorrelation, model::autocorrelation(n, m, rows, i, 3).unwrap()[0]),
+                (known.degree, model::degree(n, m, rows, i, 2).unwrap()[0]),
+            ];
+            for (published, measured) in figures {
+                assert_eq!(published.unwrap_or(measured), measured, "{name}");
+                compared += u32::from(published.is_some());
+            }
             assert_eq!(known.bijective, model::bijective(n, m, rows, 1) == Ok([1]), "{name}");
             if known.avalanche {
                 assert_eq!(model::dynamic_distance(n, m, rows, 1, 1, 3).unwrap()[0], 0, "{name}");
             }
         }
+        assert_eq!(compared, 43);
     }
 
     #[test]

@@ -9,6 +9,12 @@ impl Random {
         Random { state: seed }
     }
 
+    /// A generator of its own for each part of a run, so that a part can be run alone.
+    pub fn of_part(seed: u64, part: &str) -> Random {
+        let mixed = part.bytes().fold(seed, |state, byte| Random::new(state ^ u64::from(byte)).draw());
+        Random::new(mixed)
+    }
+
     pub fn draw(&mut self) -> u64 {
         self.state = self.state.wrapping_add(0x9E37_79B9_7F4A_7C15);
         let mut z = self.state;
@@ -51,6 +57,13 @@ mod tests {
     #[test]
     fn known_first_number() {
         assert_eq!(Random::new(0).draw(), 0xE220_A839_7B1D_CDAF);
+    }
+
+    #[test]
+    fn parts_and_seeds_have_unlike_numbers() {
+        let first = |seed, part| Random::of_part(seed, part).draw();
+        assert_eq!(first(1, "bounds"), first(1, "bounds"));
+        assert!(first(1, "bounds") != first(2, "bounds") && first(1, "bounds") != first(1, "damaged"));
     }
 
     #[test]

@@ -3,9 +3,9 @@
 //!
 //! An input of the sum is one input for each box: box 1 takes the lowest bits, box 2 the next
 //! ones, and so on. The sum's row there is the XOR of the boxes' rows.
-use crate::combinations::within;
+use crate::combinations::{how_many, within};
 use crate::fast;
-use crate::model::{bearable, check_box, check_parameter, check_written, parity, refuse_when, Answer};
+use crate::model::{check_box, check_parameter, check_written, parity, refuse_when, Answer};
 
 /// The refusals' numbers.
 pub const BOX_COUNT: u32 = 11;
@@ -91,6 +91,46 @@ pub fn by_definition(boxes: &[Summand], i: u32) -> Vec<u32> {
     [&[least as u32], &witness[..]].concat()
 }
 
+/// The words of 64 inputs at which w·x is 1, w and x below 64.
+fn short_lines() -> [u64; 64] {
+    std::array::from_fn(|w| (0..64u32).filter(|&x| parity(w as u32 & x) == 1).fold(0, |word, x| word | 1 << x))
+}
+
+/// Combination c of the sum, 64 inputs to a word; the sum has 64 inputs or more.
+fn packed_combination(rows: &[u32], c: u32) -> Vec<u64> {
+    let word = |rows: &[u32]| rows.iter().rev().fold(0, |word, &row| word << 1 | u64::from(parity(row & c)));
+    rows.chunks(64).map(word).collect()
+}
+
+/// At how many inputs a packed function differs from w·x: in every word from the line of w's lowest
+/// six bits, or from its opposite where the higher bits of w and of the input have an odd AND.
+fn count_of_differing_words(f: &[u64], lines: &[u64; 64], w: u64) -> u64 {
+    let (line, higher) = (lines[w as usize % 64], (w / 64) as u32);
+    let differing = |(k, word): (usize, &u64)| {
+        let ones = (word ^ line).count_ones();
+        u64::from(if parity(higher & k as u32) == 0 { ones } else { 64 - ones })
+    };
+    f.iter().enumerate().map(differing).sum()
+}
+
+/// As `by_definition`, by packed words, for sums of six inputs or more.
+pub fn by_counting(boxes: &[Summand], i: u32) -> Vec<u32> {
+    let (rows, lists, lines) = (rows_of_sum(boxes), lists_of_masks(boxes), short_lines());
+    let (mut least, mut witness) = (u64::MAX, Vec::new());
+    for c in within(boxes[0].m, i) {
+        let f = packed_combination(&rows, c);
+        for masks in &lists {
+            let differing = count_of_differing_words(&f, &lines, put_together(boxes, masks));
+            // With b = 1 they differ at all the other inputs.
+            let nearest = differing.min(rows.len() as u64 - differing);
+            if nearest < least {
+                (least, witness) = (nearest, [&[c], &masks[..], &[u32::from(nearest < differing)]].concat());
+            }
+        }
+    }
+    [&[least as u32], &witness[..]].concat()
+}
+
 /// The first place of the largest |W(w)| of one box's combination, this magnitude, and whether
 /// the value there is below 0.
 fn top(one: &Summand, c: u32) -> (u32, u64, bool) {
@@ -129,8 +169,32 @@ pub fn sum_nonlinearity(number: u32, boxes: &[Summand; MOST], i: u32, figures_le
     refuse_when(read.iter().any(|one| one.m != m), OUTPUT_WIDTHS)?;
     check_parameter(i, 1, m)?;
     check_written(figures_len, 3 + read.len())?;
-    let inputs = all_inputs(read);
-    Ok(if inputs <= 12 && bearable(inputs, m, i) { by_definition(read, i) } else { by_products(read, i) })
+    Ok(match way(all_inputs(read), m, i) {
+        Way::ByDefinition => by_definition(read, i),
+        Way::ByCounting => by_counting(read, i),
+        Way::ByProducts => by_products(read, i),
+    })
+}
+
+/// How the figure is reached: the first way that takes no long time. Nobody can count over all
+/// inputs of a wide sum; the unit tests hold each later way to the first.
+#[derive(Clone, Copy, Debug, PartialEq)]
+pub enum Way {
+    ByDefinition,
+    ByCounting,
+    ByProducts,
+}
+
+pub fn way(inputs: u32, m: u32, i: u32) -> Way {
+    // Every combination is held against every mask, at every input.
+    let values = u128::from(how_many(m, i)) << (2 * inputs);
+    if values <= 1 << 20 {
+        Way::ByDefinition
+    } else if inputs >= 6 && values <= 1 << 32 {
+        Way::ByCounting
+    } else {
+        Way::ByProducts
+    }
 }
 
 #[cfg(test)]
@@ -204,11 +268,13 @@ mod tests {
 
     /// Twelve inputs, as four boxes of three, three of four and two of six.
     #[test]
-    fn products_are_the_definition_at_twelve_inputs() {
+    fn all_ways_agree_at_twelve_inputs() {
         let mut random = Random::new(6);
         for (number, n) in [(4, 3), (3, 4), (2, 6)] {
             let boxes: Vec<Summand> = (0..number).map(|_| Summand { n, m: 2, rows: random_rows(n, 2, &mut random) }).collect();
-            assert_eq!(by_products(&boxes, 1), by_definition(&boxes, 1), "{boxes:?}");
+            let wanted = by_definition(&boxes, 1);
+            assert_eq!(by_products(&boxes, 1), wanted, "{boxes:?}");
+            assert_eq!(by_counting(&boxes, 1), wanted, "{boxes:?}");
         }
     }
 
@@ -280,5 +346,36 @@ mod tests {
                 assert_eq!(call(&[good.clone(), good.clone(), good.clone(), one.clone()], 0), first);
             }
         }
+    }
+
+    /// From six inputs to nine, every kind of box.
+    #[test]
+    fn counting_is_the_definition() {
+        let mut random = Random::new(9);
+        for round in 0..60 {
+            let widths = [&[3, 3][..], &[6], &[2, 4, 1], &[2, 2, 2, 3], &[8], &[1, 5]][round % 6];
+            let m = random.between(1, 3);
+            let i = random.between(1, m);
+            let kind = random.below(KINDS);
+            let boxes: Vec<Summand> = widths.iter().map(|&n| Summand { n, m, rows: of_kind(kind, n, m, &mut random) }).collect();
+            assert_eq!(by_counting(&boxes, i), by_definition(&boxes, i), "i = {i}, {boxes:?}");
+        }
+    }
+
+    /// Beyond what is counted value by value.
+    #[test]
+    fn products_are_counted_up_to_sixteen_inputs() {
+        let mut random = Random::new(10);
+        for widths in [&[8, 5][..], &[4, 3, 7], &[5, 5, 5], &[8, 8], &[4, 4, 4, 4]] {
+            let boxes: Vec<Summand> = widths.iter().map(|&n| Summand { n, m: 1, rows: random_rows(n, 1, &mut random) }).collect();
+            assert_eq!(by_products(&boxes, 1), by_counting(&boxes, 1), "{boxes:?}");
+        }
+    }
+
+    #[test]
+    fn ways() {
+        assert_eq!([way(8, 4, 4), way(10, 1, 1), way(11, 1, 1)], [Way::ByDefinition, Way::ByDefinition, Way::ByCounting]);
+        assert_eq!([way(16, 1, 1), way(16, 2, 1), way(32, 1, 1)], [Way::ByCounting, Way::ByProducts, Way::ByProducts]);
+        assert_eq!([way(1, 20, 20), way(3, 32, 32)], [Way::ByProducts, Way::ByProducts]);
     }
 }

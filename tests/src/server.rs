@@ -55,7 +55,7 @@ impl Analysis {
     pub fn least(&self) -> Option<Found> {
         let mut found: Option<Found> = None;
         for other in &self.examined {
-            let better = found.map_or(true, |best| other[0] < best[0] || other[0] == best[0] && before(other[1], best[1]));
+            let better = found.is_none_or(|best| other[0] < best[0] || other[0] == best[0] && before(other[1], best[1]));
             if better {
                 found = Some(*other);
             }

@@ -27,11 +27,7 @@ fn lines(read: &FileBox) -> Answer<String> {
     text += &line("xor", &model::largest_cell(n, m, rows, 3)?);
     text += &limited_line("autocorrelation", &model::autocorrelation(n, m, rows, i, 3)?, i);
     text += &line("sac", &model::dynamic_distance(n, m, rows, 1, 1, 3)?);
-    text += &if m == 1 {
-        "bic none\n".to_string()
-    } else {
-        line("bic", &model::dynamic_distance(n, m, rows, 2, 1, 3)?)
-    };
+    text += &if m == 1 { "bic none\n".to_string() } else { line("bic", &model::dynamic_distance(n, m, rows, 2, 1, 3)?) };
     text += &limited_line("degree", &model::degree(n, m, rows, i, 2)?, i);
     text += &format!("complete {}\n", yes_or_no(model::complete(n, m, rows, 1)?));
     text += &format!("bijective {}\n", yes_or_no(model::bijective(n, m, rows, 1)?));

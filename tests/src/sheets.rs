@@ -1,91 +1,166 @@
-//! `second sheets`: the box sheet program against the model, byte for byte.
+//! `second sheets`: the program boxsheet against the model, byte for byte: what it prints, that it
+//! prints nothing to standard error, and that it ends with the status 0.
+use crate::calls::Run;
+use crate::files::ROOT;
+use crate::parts::Work;
 use second_model::boxes::{self, KINDS};
 use second_model::model::file_of;
+use second_model::published;
 use second_model::random::Random;
 use second_model::sheet::sheet;
 use std::fs;
 use std::io::Write;
+use std::os::unix::process::ExitStatusExt;
 use std::path::{Path, PathBuf};
-use std::process::{Command, Stdio};
+use std::process::{Child, Command, ExitStatus, Output, Stdio};
+use std::time::{Duration, Instant};
 
-/// How many files are made from the seed if nothing else is said.
-pub const DEFAULT_COUNT: u64 = 800;
+pub const PARTS: &[(&str, Work)] = &[
+    ("made files", &made_files),
+    ("stored files", &stored_files),
+    ("files in pieces", &files_in_pieces),
+    ("outputs that fail", &outputs_that_fail),
+];
 
-struct Tally {
-    sheets: u64,
-    differences: u64,
+/// How many files are made.
+const MADE: u32 = 800;
+
+/// At least so many boxes are stored: all that were published.
+const STORED: usize = 24;
+
+/// Where the program lies. The environment names another one where a wrong one is tried.
+fn program() -> PathBuf {
+    std::env::var_os("SATMEGWO_BOXSHEET").map_or_else(|| Path::new(ROOT).join("target/bin/boxsheet"), PathBuf::from)
 }
 
-/// True if there were no differences.
-pub fn run(program: &str, directory: &Path, seed: u64, count: u64) -> Result<bool, String> {
-    println!("seed {seed}, count {count}");
-    let mut tally = Tally { sheets: 0, differences: 0 };
-    for path in box_files(directory)? {
-        stored_file(program, &path, &mut tally)?;
+fn made_files(run: &mut Run) {
+    for number in 0..MADE {
+        let file = made_file(number, &mut run.random);
+        compare(run, &format!("file {number}"), &file, all_at_once);
     }
-    println!("{} stored files", tally.sheets);
-    let mut random = Random::new(seed);
-    for number in 0..count {
-        let file = made_file(number as u32, &mut random);
-        let wanted = sheet(&file);
-        compare(program, &format!("file {number}"), &file, &wanted, &mut tally)?;
-    }
-    println!("{} sheets, {} differences", tally.sheets, tally.differences);
-    Ok(tally.differences == 0)
 }
 
-/// All DIR/*.box in the order of their names.
-fn box_files(directory: &Path) -> Result<Vec<PathBuf>, String> {
-    let entries = fs::read_dir(directory).map_err(|error| format!("{}: {error}", directory.display()))?;
-    let mut paths: Vec<PathBuf> = entries.filter_map(|entry| entry.ok().map(|e| e.path())).collect();
+/// All examples/*.box in the order of their names.
+fn box_files() -> Vec<PathBuf> {
+    let directory = Path::new(ROOT).join("examples");
+    let entries = fs::read_dir(&directory).unwrap_or_else(|error| panic!("{}: {error}", directory.display()));
+    let mut paths: Vec<PathBuf> = entries.map(|entry| entry.expect("it can be read").path()).collect();
     paths.retain(|path| path.extension().is_some_and(|end| end == "box"));
     paths.sort();
-    Ok(paths)
+    paths
 }
 
-/// A stored box is compared with the model and with the sheet that is stored beside it.
-fn stored_file(program: &str, path: &Path, tally: &mut Tally) -> Result<(), String> {
-    let name = path.display().to_string();
-    let file = fs::read(path).map_err(|error| format!("{name}: {error}"))?;
-    let output = compare(program, &name, &file, &sheet(&file), tally)?;
-    let stored = path.with_extension("sheet");
-    match fs::read(&stored) {
-        Ok(text) if text == output => {}
-        Ok(text) => {
-            tally.differences += 1;
-            println!("difference: {name}: the program prints\n{}but stored is\n{}", shown(&output), shown(&text));
+/// A stored file is the published box of its name, and its sheet is stored beside it.
+fn stored_files(run: &mut Run) {
+    let (paths, published) = (box_files(), published::all());
+    run.law("boxes that are stored", paths.len() >= STORED, || format!("only {} files are stored", paths.len()));
+    for path in paths {
+        let name = path.file_stem().expect("a file has a name").to_string_lossy().into_owned();
+        let read = |path: &Path| fs::read(path).unwrap_or_else(|error| panic!("{}: {error}", path.display()));
+        let (file, stored) = (read(&path), read(&path.with_extension("sheet")));
+        let known = published.iter().find(|known| known.name == name);
+        let same = known.is_some_and(|known| file_of(known.n, known.m, &known.rows) == file);
+        run.law("stored boxes are the published ones", same, || format!("{name}.box is not what was published"));
+        let printed = compare(run, &name, &file, all_at_once);
+        run.law("stored sheets", printed.stdout == stored, || format!("{name}.sheet is\n{}", shown(&stored)));
+    }
+}
+
+/// Files that come one byte after the other or in larger pieces, and one that is too long.
+fn files_in_pieces(run: &mut Run) {
+    for (n, length) in [(1, 1), (3, 1), (8, 1), (2, 2), (8, 3), (8, 500), (8, 1025)] {
+        let m = run.random.between(1, 8);
+        let file = sound_file(n, m, &mut run.random);
+        compare(run, &format!("a file in pieces of {length}"), &file, |input, file| in_pieces(input, file, length));
+    }
+    let longer = [sound_file(8, 4, &mut run.random), vec![0; 70_000]].concat();
+    compare(run, "a long file in pieces", &longer, |input, file| in_pieces(input, file, 1000));
+}
+
+type Input = std::process::ChildStdin;
+
+/// The program may stop reading before the end of a file that it refuses; a write that fails for
+/// this reason is no fault.
+fn all_at_once(mut input: Input, file: &[u8]) {
+    let _ = input.write_all(file);
+}
+
+/// With a pause behind each piece, so that the program has read it before the next one comes.
+fn in_pieces(mut input: Input, file: &[u8], length: usize) {
+    for piece in file.chunks(length) {
+        if input.write_all(piece).is_err() {
+            break;
         }
-        Err(error) => return Err(format!("{}: {error}", stored.display())),
+        std::thread::sleep(Duration::from_micros(200));
     }
-    Ok(())
 }
 
-fn compare(program: &str, name: &str, file: &[u8], wanted: &str, tally: &mut Tally) -> Result<Vec<u8>, String> {
-    let output = output_of(program, file)?;
-    tally.sheets += 1;
-    if output != wanted.as_bytes() {
-        tally.differences += 1;
-        let start = &file[..file.len().min(600)];
-        println!("difference: {name}, {} bytes, {start:?}:\nthe program prints\n{}the model says\n{wanted}", file.len(), shown(&output));
-    }
-    Ok(output)
+/// What the program prints for a file that is handed over in some way, compared with the model.
+fn compare(run: &mut Run, name: &str, file: &[u8], hand_over: impl FnOnce(Input, &[u8]) + Send) -> Output {
+    run.calling("boxsheet");
+    let wanted = sheet(file);
+    let printed = output_of(file, hand_over);
+    let same = printed.status.success() && printed.stderr.is_empty() && printed.stdout == wanted.as_bytes();
+    run.compared(wanted.starts_with("refused"), same, || {
+        let (start, status) = (&file[..file.len().min(600)], printed.status);
+        let told = format!("prints\n{}and to standard error\n{}", shown(&printed.stdout), shown(&printed.stderr));
+        format!("{name}, {} bytes, {start:?}:\nthe program ends with {status}, {told}the model says\n{wanted}", file.len())
+    });
+    printed
 }
 
 fn shown(text: &[u8]) -> String {
     String::from_utf8_lossy(text).into_owned()
 }
 
-/// What the program prints for this file. It may stop reading before the end of a file that
-/// it refuses; a write that fails for this reason is no fault.
-fn output_of(program: &str, file: &[u8]) -> Result<Vec<u8>, String> {
-    let failed = |error| format!("{program}: {error}");
-    let mut child = Command::new(program).stdin(Stdio::piped()).stdout(Stdio::piped()).spawn().map_err(failed)?;
-    let mut input = child.stdin.take().expect("it was asked for");
-    let output = std::thread::scope(|scope| {
-        scope.spawn(move || input.write_all(file));
-        child.wait_with_output()
-    });
-    output.map(|finished| finished.stdout).map_err(failed)
+fn output_of(file: &[u8], hand_over: impl FnOnce(Input, &[u8]) + Send) -> Output {
+    let mut command = Command::new(program());
+    let mut child = started(command.stdin(Stdio::piped()).stdout(Stdio::piped()).stderr(Stdio::piped()));
+    let input = child.stdin.take().expect("it was asked for");
+    std::thread::scope(|scope| {
+        scope.spawn(move || hand_over(input, file));
+        child.wait_with_output().expect("it runs")
+    })
+}
+
+fn started(command: &mut Command) -> Child {
+    command.spawn().unwrap_or_else(|error| panic!("{}: {error}", program().display()))
+}
+
+/// An output that is full, closed, or read by nobody, and an input that is closed: nothing can be
+/// printed then, but the program must end, and by itself. (Only an output that nobody reads may
+/// end it by the signal that there is for this.)
+fn outputs_that_fail(run: &mut Run) {
+    const BROKEN_PIPE: i32 = 13;
+    for (n, m) in [(1, 1), (8, 8), (8, 32)] {
+        let file = sound_file(n, m, &mut run.random);
+        for redirection in [">/dev/full", ">&-", "<&-", ">&- 2>&- <&-"] {
+            let status = status_of(Command::new("sh").args(["-c", &format!("exec \"$0\" {redirection}")]).arg(program()), &file, false);
+            run.law("failing outputs", status.is_some_and(|status| status.signal().is_none()), || {
+                format!("{n} by {m}, {redirection}: {status:?}")
+            });
+        }
+        let status = status_of(&mut Command::new(program()), &file, true);
+        let allowed = |status: ExitStatus| status.signal().is_none_or(|signal| signal == BROKEN_PIPE);
+        run.law("failing outputs", status.is_some_and(allowed), || format!("{n} by {m}, nobody reads: {status:?}"));
+    }
+}
+
+/// How a program ended within twenty seconds, if it did.
+fn status_of(command: &mut Command, file: &[u8], unread: bool) -> Option<ExitStatus> {
+    let mut child = started(command.stdin(Stdio::piped()).stdout(if unread { Stdio::piped() } else { Stdio::null() }));
+    drop(child.stdout.take());
+    all_at_once(child.stdin.take().expect("it was asked for"), file);
+    let start = Instant::now();
+    while start.elapsed() < Duration::from_secs(20) {
+        if let Some(status) = child.try_wait().expect("it runs") {
+            return Some(status);
+        }
+        std::thread::sleep(Duration::from_millis(1));
+    }
+    child.kill().expect("it runs");
+    let _ = child.wait();
+    None
 }
 
 /// The first 256 files are boxes of all widths, one of each; then sound and damaged files

@@ -1,6 +1,7 @@
 //! Sums of one to four boxes: every kind of box, every refusal and the order of the checks,
 //! with nonsense in place of the boxes that are not read.
-use crate::calls::Run;
+use crate::calls::{Run, NONLINEARITY};
+use crate::lent::Kept;
 use crate::library;
 use second_model::boxes::{self, KINDS};
 use second_model::combinations::quick_limit;
@@ -8,9 +9,12 @@ use second_model::model::all_outputs;
 use second_model::random::Random;
 use second_model::rounds::{self, Summand, MOST};
 
-pub fn all(run: &mut Run, count: u64) {
+/// How many damaged argument sets there are.
+const DAMAGED: u64 = 1000;
+
+pub fn all(run: &mut Run) {
     small_sums(run);
-    twelve_inputs(run);
+    twelve_to_sixteen_inputs(run);
     wide_sums(run);
     largest_products(run);
     single_boxes(run);
@@ -18,20 +22,21 @@ pub fn all(run: &mut Run, count: u64) {
     numbers_of_boxes(run);
     faults_in_order(run);
     limits_and_lengths(run);
-    for _ in 0..count {
+    for _ in 0..DAMAGED {
         damaged(run);
     }
 }
 
 /// The call made to the library and to the model, and compared.
-fn compare(run: &mut Run, number: u32, four: &[Summand; MOST], i: u32, figures_len: usize) {
+fn compare(run: &mut Run, number: u32, four: &[Summand; MOST], i: u32, figures_len: usize) -> Option<Vec<u32>> {
+    run.calling("sum_nonlinearity");
+    let read = four.each_ref().map(|one| run.copy(&one.rows));
     let mut figures = run.lend(figures_len);
-    let lent = four.each_ref().map(|one| (one.n, one.m, &one.rows[..]));
+    let lent = std::array::from_fn(|k| (four[k].n, four[k].m, read[k].content()));
     let code = library::sum_nonlinearity(number, lent, i, figures.part());
     let wanted = rounds::sum_nonlinearity(number, four, i, figures_len);
-    run.judge(code, &figures, &wanted, || {
-        format!("sum_nonlinearity number = {number}, boxes = {four:?}, i = {i}, figures_len = {figures_len}")
-    });
+    let kept = read.each_ref().map(|one| one as &dyn Kept);
+    run.judge(code, &kept, &figures, &wanted, || format!("number = {number}, boxes = {four:?}, i = {i}, figures_len = {figures_len}"))
 }
 
 /// The boxes of a sum, with nonsense behind them up to four.
@@ -52,7 +57,7 @@ fn nonsense(random: &mut Random) -> Summand {
 }
 
 /// A sum with nothing to refuse.
-fn ask(run: &mut Run, read: &[Summand], i: u32) {
+pub fn ask(run: &mut Run, read: &[Summand], i: u32) {
     let four = four_of(&mut run.random, read);
     compare(run, read.len() as u32, &four, i, 3 + read.len());
 }
@@ -61,7 +66,7 @@ fn of_kind(random: &mut Random, kind: u32, n: u32, m: u32) -> Summand {
     Summand { n, m, rows: boxes::of_kind(kind, n, m, random) }
 }
 
-fn random_sum(random: &mut Random, number: usize, most_inputs: u32, m: u32) -> Vec<Summand> {
+pub fn random_sum(random: &mut Random, number: usize, most_inputs: u32, m: u32) -> Vec<Summand> {
     let one = |_| {
         let (kind, n) = (random.below(KINDS), random.between(1, most_inputs));
         of_kind(random, kind, n, m)
@@ -80,11 +85,17 @@ fn small_sums(run: &mut Run) {
     }
 }
 
-/// As many inputs as can still be counted over in a bearable time.
-fn twelve_inputs(run: &mut Run) {
-    for (number, n) in [(2, 6), (3, 4), (4, 3)] {
-        let read: Vec<Summand> = (0..number).map(|kind| of_kind(&mut run.random, kind, n, 1)).collect();
-        ask(run, &read, 1);
+/// As many inputs as can still be counted over: the model needs no products for these.
+fn twelve_to_sixteen_inputs(run: &mut Run) {
+    for widths in [&[6, 6][..], &[4, 4, 4], &[3, 3, 3, 3], &[8, 5], &[5, 5, 4], &[4, 4, 4, 3], &[8, 8]] {
+        let inputs: u32 = widths.iter().sum();
+        let m = (1..=3).rev().find(|&m| rounds::way(inputs, m, m) == rounds::Way::ByCounting).expect("one output is counted");
+        let mut read = Vec::new();
+        for &n in widths {
+            let kind = run.random.below(KINDS);
+            read.push(of_kind(&mut run.random, kind, n, m));
+        }
+        ask(run, &read, m);
     }
 }
 
@@ -114,18 +125,17 @@ fn largest_products(run: &mut Run) {
     }
 }
 
-/// One box alone has the figures of the nonlinearity call, refusals too.
+/// One box alone has the figures of the nonlinearity call, and both accept it.
 fn single_boxes(run: &mut Run) {
     for _ in 0..200 {
         let (kind, n, m) = (run.random.below(KINDS), run.random.between(1, 8), run.random.between(1, 32));
         let one = of_kind(&mut run.random, kind, n, m);
-        let i = run.random.between(0, quick_limit(n, m));
-        let four = four_of(&mut run.random, &[one.clone()]);
-        let lent = four.each_ref().map(|one| (one.n, one.m, &one.rows[..]));
-        let (mut sum, mut alone) = ([0; 4], [0; 4]);
-        let codes = (library::sum_nonlinearity(1, lent, i, &mut sum), library::nonlinearity(n, m, &one.rows, i, &mut alone));
-        run.count(codes.0 == codes.1 && sum == alone, || {
-            format!("one box: the sum gives {codes:?} {sum:?}, the nonlinearity {alone:?} for n = {n}, m = {m}, i = {i}, rows = {:?}", one.rows)
+        let i = run.random.between(1, quick_limit(n, m));
+        let four = four_of(&mut run.random, std::slice::from_ref(&one));
+        let sum = compare(run, 1, &four, i, 4);
+        let alone = run.limited_figures(&NONLINEARITY, n, m, &one.rows, i, 4);
+        run.law("a sum of one box", sum.is_some() && sum == alone, || {
+            format!("one box: the sum gives {sum:?}, the nonlinearity {alone:?} for n = {n}, m = {m}, i = {i}, rows = {:?}", one.rows)
         });
     }
 }

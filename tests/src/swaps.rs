@@ -1,9 +1,11 @@
 //! The swap of two unlike rows that raises the nonlinearity: document 02, section 10.
 //!
-//! The first half follows the document word for word. The second half turns swaps down early,
-//! by single combinations.
+//! The first part follows the document word for word; for wide boxes it counts too, but looks at a
+//! swap only until one pair shows that it does not raise. The second part turns swaps down by
+//! transforms of single combinations, much as the library does, and is for times alone.
+use crate::counted::{self, Pairs};
 use crate::fast::{self, walsh};
-use crate::model::{all_outputs, bearable, check_box_up_to, check_written, nonlinearity_by_definition, parity, Answer};
+use crate::model::{all_outputs, check_box_up_to, check_written, nonlinearity_by_definition, parity, Answer};
 
 /// The most outputs of a box whose rows are swapped.
 pub const MOST_OUTPUTS: u32 = 8;
@@ -30,10 +32,10 @@ pub fn swaps_in_order(rows: &[u32]) -> Vec<(usize, usize)> {
 
 /// The nonlinearity over all combinations.
 fn figure(n: u32, m: u32, rows: &[u32]) -> u32 {
-    if bearable(n, m, m) && n <= 3 {
+    if n <= 3 {
         nonlinearity_by_definition(n, m, rows, m)[0]
     } else {
-        fast::nonlinearity(n, m, rows, m)[0]
+        counted::nonlinearities(n, m, rows, m)[m as usize - 1][0]
     }
 }
 
@@ -49,15 +51,33 @@ pub fn raising_swap_by_definition(n: u32, m: u32, rows: &[u32]) -> [u32; 4] {
     NONE
 }
 
+/// The same, by counting: a swap raises the figure exactly if every pair of a combination and an
+/// affine function then differs at more inputs than the present figure. A pair that does not stops
+/// the swap, and is looked at first for the next one.
+pub fn raising_swap_by_counting(n: u32, m: u32, rows: &[u32]) -> [u32; 4] {
+    let present = figure(n, m, rows);
+    let mut pairs = Pairs::new(n, m, rows);
+    let mut last = (1, 0);
+    for (low, high) in swaps_in_order(rows) {
+        pairs.swap(low, high);
+        match pairs.within(present, last) {
+            Some(pair) => last = pair,
+            None => return [1, low as u32, high as u32, figure(n, m, &after_swap(rows, low, high))],
+        }
+        pairs.swap(low, high);
+    }
+    NONE
+}
+
 /// Refusals 1, 2, 3, 4, 7.
 pub fn raising_swap(n: u32, m: u32, rows: &[u32], figures_len: usize) -> Answer<[u32; 4]> {
     check_box_up_to(MOST_OUTPUTS, n, m, rows)?;
     check_written(figures_len, 4)?;
-    Ok(if n <= 5 { raising_swap_by_definition(n, m, rows) } else { raising_swap_quickly(n, m, rows) })
+    Ok(if n <= 5 { raising_swap_by_definition(n, m, rows) } else { raising_swap_by_counting(n, m, rows) })
 }
 
 // ---------------------------------------------------------------------------
-// The quick way. Its arguments have been checked.
+// The quick way, for the benchmark. Its arguments have been checked.
 // ---------------------------------------------------------------------------
 
 /// A combination and an affine function that are as near as any: the nonlinearity's witness.
@@ -176,13 +196,29 @@ mod tests {
     }
 
     #[test]
-    fn both_ways_agree() {
+    fn all_ways_agree() {
         let mut random = Random::new(10);
         for (n, m) in (1..=5).flat_map(|n| (1..=8).map(move |m| (n, m))) {
             for kind in 0..KINDS {
                 let rows = boxes::of_kind(kind, n, m, &mut random);
-                assert_eq!(raising_swap_quickly(n, m, &rows), raising_swap_by_definition(n, m, &rows), "{n} by {m}: {rows:?}");
+                let wanted = raising_swap_by_definition(n, m, &rows);
+                assert_eq!(raising_swap_by_counting(n, m, &rows), wanted, "{n} by {m}: {rows:?}");
+                assert_eq!(raising_swap_quickly(n, m, &rows), wanted, "{n} by {m}: {rows:?}");
             }
+        }
+    }
+
+    /// Whole figures for every swap at six inputs, and the two quicker ways at seven and eight.
+    #[test]
+    fn the_ways_agree_on_wide_boxes() {
+        let mut random = Random::new(12);
+        for (m, kind) in [(1, 0), (4, 5), (6, 5)] {
+            let rows = boxes::of_kind(kind, 6, m, &mut random);
+            assert_eq!(raising_swap_by_counting(6, m, &rows), raising_swap_by_definition(6, m, &rows), "6 by {m}: {rows:?}");
+        }
+        for (n, m, kind) in [(7, 7, 5), (7, 3, 9), (8, 8, 5), (8, 4, 0), (8, 8, 4)] {
+            let rows = boxes::of_kind(kind, n, m, &mut random);
+            assert_eq!(raising_swap_quickly(n, m, &rows), raising_swap_by_counting(n, m, &rows), "{n} by {m}: {rows:?}");
         }
     }
 

@@ -2,44 +2,32 @@
 //! at each bound, and on designs of damaged and of random bytes.
 use crate::calls::{Run, LIMITED_CALLS};
 use crate::compare::usual_limits;
+use crate::guarded::design::{self as library_design, Design, Snapshot, MOST_ROWS};
 use crate::library;
-use crate::library_design::{self, Design, Snapshot, MOST_ROWS};
+use crate::parts::Work;
 use second_model::boxes::{self, KINDS};
 use second_model::design::{self, Operation, MARKS};
 use second_model::model::all_outputs;
 use second_model::random::Random;
 use std::collections::BTreeMap;
-use std::time::Instant;
 
-/// How many operations the histories make if nothing else is said.
-pub const DEFAULT_COUNT: u64 = 40_000;
+/// How many operations the histories make.
+const OPERATIONS: u64 = 40_000;
 
 /// Operations in one history.
 const LENGTH: u64 = 50;
 
-type Part<'a> = &'a dyn Fn(&mut Run);
+pub const PARTS: &[(&str, Work)] = &[
+    ("bounds", &bounds),
+    ("beginning", &beginnings),
+    ("histories", &histories),
+    ("swaps alone", &swaps_alone),
+    ("damaged designs", &damaged_designs),
+    ("random bytes", &random_bytes),
+];
 
-/// True if there were no differences.
-pub fn run(seed: u64, count: u64) -> bool {
-    println!("seed {seed}, {count} operations in histories");
-    let mut run = Run::new(seed);
-    let start = Instant::now();
-    let histories = |run: &mut Run| (0..count.div_ceil(LENGTH)).for_each(|_| history(run));
-    let parts: [(&str, Part); 6] = [
-        ("bounds", &bounds),
-        ("beginning", &beginnings),
-        ("histories", &histories),
-        ("swaps alone", &swaps_alone),
-        ("damaged designs", &damaged_designs),
-        ("random bytes", &random_bytes),
-    ];
-    for (name, part) in parts {
-        let before = run.comparisons;
-        part(&mut run);
-        println!("{name}: {} comparisons, {:.1} s", run.comparisons - before, start.elapsed().as_secs_f64());
-    }
-    println!("{} comparisons, {} differences", run.comparisons, run.differences);
-    run.differences == 0
+fn histories(run: &mut Run) {
+    (0..OPERATIONS.div_ceil(LENGTH)).for_each(|_| history(run));
 }
 
 // ---------------------------------------------------------------------------
@@ -64,15 +52,20 @@ fn whole(model: &design::Design) -> Design {
 
 /// Begins both; refused, neither has a box.
 fn begin(run: &mut Run, n: u32, m: u32, rows: &[u32]) -> Both {
-    let outcome = library_design::begin(n, m, rows);
+    run.calling("design_begin");
+    let read = run.copy(rows);
+    let outcome = library_design::begin(n, m, read.content());
     let (model, wanted) = design::Design::begin(n, m, rows);
     let same = outcome.status == wanted.err().unwrap_or(0) && outcome.design == whole(&model);
-    run.count(same, || format!("begin n = {n}, m = {m}, rows = {rows:?}: {}, the model says {wanted:?}", outcome.status));
+    run.compared(wanted.is_err(), same && read.untouched(), || {
+        format!("begin n = {n}, m = {m}, rows = {rows:?}: {}, the model says {wanted:?}", outcome.status)
+    });
     Both { library: outcome.design, model }
 }
 
 impl Both {
     fn operate(&mut self, run: &mut Run, operation: Operation) {
+        run.calling(name_of(operation));
         let before = self.library;
         let outcome = library_design::operate(&before, operation);
         let wanted = self.model.operate(operation);
@@ -80,11 +73,12 @@ impl Both {
             Ok(()) => outcome.status == 0 && outcome.design == whole(&self.model),
             Err(number) => outcome.status == number && outcome.design == before,
         };
-        run.count(same, || format!("{operation:?}: {}, the model says {wanted:?} of {:?}", outcome.status, self.model));
+        run.compared(wanted.is_err(), same, || format!("{operation:?}: {}, the model says {wanted:?} of {:?}", outcome.status, self.model));
         self.library = outcome.design;
     }
 
     fn read(&self, run: &mut Run, rows_len: usize, figures_len: usize) {
+        run.calling("design_read");
         let (mut rows, mut figures) = (run.lend(rows_len), run.lend(figures_len));
         let code = library_design::read(&self.library, rows.part(), figures.part());
         let wanted = self.model.read(rows_len, figures_len);
@@ -92,7 +86,7 @@ impl Both {
             Ok((widths, box_rows)) => code == 0 && figures.holds(widths) && rows.holds(box_rows),
             Err(number) => code == *number && figures.untouched() && rows.untouched(),
         };
-        run.count(same, || format!("read {rows_len}, {figures_len}: {code}, the model says {wanted:?}"));
+        run.compared(wanted.is_err(), same, || format!("read {rows_len}, {figures_len}: {code}, the model says {wanted:?}"));
     }
 
     /// The rows as the library gives them.
@@ -103,10 +97,20 @@ impl Both {
     }
 
     /// The library's figure, with its witness, over combinations of at most two outputs.
-    fn figure(&self) -> [u32; 4] {
-        let mut found = [0; 4];
-        assert_eq!(library::nonlinearity(self.model.n, self.model.m, &self.rows(), self.model.m.min(2), &mut found), 0);
-        found
+    fn figure(&self, run: &mut Run) -> Vec<u32> {
+        let (rows, mut found) = (run.copy(&self.rows()), run.lend(4));
+        let code = library::nonlinearity(self.model.n, self.model.m, rows.content(), self.model.m.min(2), found.part());
+        assert!(code == 0 && rows.untouched(), "the nonlinearity of a design's box gives {code}");
+        found.content().to_vec()
+    }
+}
+
+fn name_of(operation: Operation) -> &'static str {
+    match operation {
+        Operation::Swap(..) => "design_swap",
+        Operation::Add(..) => "design_add",
+        Operation::Mark(_) => "design_mark",
+        Operation::Return(_) => "design_return",
     }
 }
 
@@ -160,11 +164,13 @@ fn history(run: &mut Run) {
         both.operate(run, operation);
         match operation {
             Operation::Mark(k) if (1..=MARKS).contains(&k) => {
-                figures.insert(k, both.figure());
+                figures.insert(k, both.figure(run));
             }
             Operation::Return(k) if (1..=MARKS).contains(&k) && before.kept(k).is_some() => {
-                let found = both.figure();
-                run.count(figures.get(&k) == Some(&found), || format!("after {operation:?} the figure is {found:?}, at the mark {:?}", figures.get(&k)));
+                let found = both.figure(run);
+                run.law("the figure after a return", figures.get(&k) == Some(&found), || {
+                    format!("after {operation:?} the figure is {found:?}, at the mark {:?}", figures.get(&k))
+                });
             }
             _ => {}
         }
@@ -204,11 +210,13 @@ fn swaps_alone(run: &mut Run) {
             let swap = Operation::Swap(around(&mut run.random, 0, last), around(&mut run.random, 0, last));
             both.operate(run, swap);
         }
-        run.count(times(&both.rows()) == counted, || format!("after swaps the values are {:?}, not {counted:?}", times(&both.rows())));
+        run.law("values after swaps", times(&both.rows()) == counted, || {
+            format!("after swaps the values are {:?}, not {counted:?}", times(&both.rows()))
+        });
         let (rows, x) = (both.rows(), run.random.below(1 << both.model.n));
         let equal = rows.iter().position(|&row| row == rows[x as usize]).expect("it is its own equal") as u32;
         both.operate(run, Operation::Swap(x, equal));
-        run.count(both.rows() == rows, || format!("a swap of {x} with {equal} changed {rows:?}"));
+        run.law("a swap of equal rows", both.rows() == rows, || format!("a swap of {x} with {equal} changed {rows:?}"));
     }
 }
 
@@ -339,7 +347,7 @@ fn damaged_designs(run: &mut Run) {
         let (mut design, random) = (both.library, &mut run.random);
         let (place, mark) = (random.below(256) as usize, random.below(16) as usize);
         match random.below(5) {
-            0 => design.n = random.pick(&[0, 1, 8, 9, 31, 32, 33, 64, u32::MAX]),
+            0 => design.n = random.pick(&[0, 1, 8, 9, 12, 13, 14, 19, 31, 32, 33, 64, u32::MAX]),
             1 => design.m = random.pick(&[0, 1, 32, 33, 64, u32::MAX]),
             2 => design.rows[place] = random.draw() as u32,
             3 => design.marks[mark].taken = random.pick(&[0, 1, 2, 256, u32::MAX]),
@@ -365,5 +373,45 @@ fn random_bytes(run: &mut Run) {
             marks: std::array::from_fn(|_| Snapshot { taken: random.draw() as u32 % 3, rows: random_rows(random) }),
         };
         every_call_ends(run, &design);
+    }
+}
+
+#[cfg(test)]
+mod tests {
+    use super::*;
+
+    /// A design of two inputs with mark 3 set.
+    fn both() -> Both {
+        let mut run = Run::new("a test", 1);
+        let mut both = any_begun(&mut run);
+        while both.model.n != 2 {
+            both = any_begun(&mut run);
+        }
+        both.operate(&mut run, Operation::Mark(3));
+        both.operate(&mut run, Operation::Swap(0, 2));
+        assert_eq!(run.tally.differences, 0);
+        both
+    }
+
+    #[test]
+    fn every_planted_difference_is_noticed() {
+        let changes: [fn(&mut Design); 10] = [
+            |design| design.n += 1,
+            |design| design.m += 1,
+            |design| design.rows[3] ^= 1,
+            |design| design.rows[4] ^= 1,
+            |design| design.rows[255] ^= 1,
+            |design| design.marks[2].taken = 0,
+            |design| design.marks[2].rows[0] ^= 1,
+            |design| design.marks[2].rows[4] ^= 1,
+            |design| design.marks[3].taken = 2,
+            |design| design.marks[15].rows[255] ^= 1,
+        ];
+        for (number, change) in changes.iter().enumerate() {
+            let mut both = both();
+            assert!(both.library == whole(&both.model));
+            change(&mut both.library);
+            assert!(both.library != whole(&both.model), "change {number}");
+        }
     }
 }

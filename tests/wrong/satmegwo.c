@@ -1,0 +1,225 @@
+/* Wrong calls on boxes and catalogues. */
+#include <sched.h>
+#include "satmegwo.h"
+#include "wrong.h"
+
+RIGHT(satmegwo_spectrum);
+RIGHT(satmegwo_nonlinearity);
+RIGHT(satmegwo_largest_cell);
+RIGHT(satmegwo_complete);
+RIGHT(satmegwo_bijective);
+RIGHT(satmegwo_autocorrelation);
+RIGHT(satmegwo_degree);
+RIGHT(satmegwo_add_to_column);
+RIGHT(satmegwo_sum_nonlinearity);
+RIGHT(satmegwo_raising_swap);
+RIGHT(satmegwo_xor_row);
+RIGHT(satmegwo_add_record);
+RIGHT(satmegwo_compact_catalogue);
+
+/* Writes to its array when it refuses. */
+uint32_t satmegwo_spectrum(uint32_t n, const uint8_t *table, size_t table_len, int32_t *out, size_t out_len)
+{
+    uint32_t number = right_satmegwo_spectrum(n, table, table_len, out, out_len);
+    if (is_wrong("written-when-refused") && number != 0 && out_len > 0)
+        out[0] ^= 1;
+    return number;
+}
+
+static uint32_t parity(uint32_t x)
+{
+    return (uint32_t)__builtin_parity(x);
+}
+
+/* The last w and b that reach the figure, in place of the first. */
+static void last_witness(uint32_t n, const uint32_t *rows, uint32_t *figures)
+{
+    for (uint32_t k = 2u << n; k-- > 0;) {
+        uint32_t w = k / 2, b = k % 2, differing = 0;
+        for (uint32_t x = 0; x < 1u << n; x++)
+            differing += parity(rows[x] & figures[1]) != (parity(w & x) ^ b);
+        if (differing == figures[0]) {
+            figures[2] = w;
+            figures[3] = b;
+            return;
+        }
+    }
+}
+
+/* Writes to the rows that it only reads, when it refuses a limit; or gives a wrong witness among
+ * equal ones. */
+uint32_t satmegwo_nonlinearity(uint32_t n, uint32_t m, const uint32_t *rows, size_t rows_len, uint32_t i,
+                               uint32_t *figures, size_t figures_len)
+{
+    uint32_t number = right_satmegwo_nonlinearity(n, m, rows, rows_len, i, figures, figures_len);
+    if (is_wrong("read-array-written-when-refused") && number == 6)
+        ((uint32_t *)rows)[0] ^= 1;
+    if (is_wrong("wrong-witness") && number == 0)
+        last_witness(n, rows, figures);
+    return number;
+}
+
+/* Writes to the rows that it only reads, when it accepts them. */
+uint32_t satmegwo_largest_cell(uint32_t n, uint32_t m, const uint32_t *rows, size_t rows_len, uint32_t *figures,
+                               size_t figures_len)
+{
+    uint32_t number = right_satmegwo_largest_cell(n, m, rows, rows_len, figures, figures_len);
+    if (is_wrong("read-array-written-when-accepted") && number == 0)
+        ((uint32_t *)rows)[rows_len - 1] ^= 1;
+    return number;
+}
+
+static volatile uint32_t seen;
+
+/* Reads one row behind the last. */
+uint32_t satmegwo_complete(uint32_t n, uint32_t m, const uint32_t *rows, size_t rows_len, uint32_t *figures,
+                           size_t figures_len)
+{
+    if (is_wrong("reads-behind"))
+        seen = rows[rows_len];
+    return right_satmegwo_complete(n, m, rows, rows_len, figures, figures_len);
+}
+
+/* Reads one row before the first. */
+uint32_t satmegwo_bijective(uint32_t n, uint32_t m, const uint32_t *rows, size_t rows_len, uint32_t *figures,
+                            size_t figures_len)
+{
+    if (is_wrong("reads-before"))
+        seen = rows[-1];
+    return right_satmegwo_bijective(n, m, rows, rows_len, figures, figures_len);
+}
+
+/* Takes a limit one too small, or at one width a far smaller one. */
+uint32_t satmegwo_autocorrelation(uint32_t n, uint32_t m, const uint32_t *rows, size_t rows_len, uint32_t i,
+                                  uint32_t *figures, size_t figures_len)
+{
+    if (is_wrong("limit-one-too-small") && 1 < i && i <= m)
+        i--;
+    if (is_wrong("limits-of-one-width") && n == 6 && m == 12 && 4 <= i && i <= 11)
+        i = 3;
+    return right_satmegwo_autocorrelation(n, m, rows, rows_len, i, figures, figures_len);
+}
+
+/* Looks at the lowest 32 bits of a length alone. */
+uint32_t satmegwo_degree(uint32_t n, uint32_t m, const uint32_t *rows, size_t rows_len, uint32_t i,
+                         uint32_t *figures, size_t figures_len)
+{
+    if (is_wrong("lengths-cut"))
+        rows_len = (uint32_t)rows_len;
+    return right_satmegwo_degree(n, m, rows, rows_len, i, figures, figures_len);
+}
+
+/* Works in one buffer for all who call. */
+uint32_t satmegwo_add_to_column(uint32_t n, uint32_t m, const uint32_t *rows, size_t rows_len, uint32_t j,
+                                uint32_t w, uint32_t b, uint32_t *out, size_t out_len)
+{
+    static uint32_t buffer[256];
+    if (!is_wrong("one-buffer-for-all") || rows_len > 256)
+        return right_satmegwo_add_to_column(n, m, rows, rows_len, j, w, b, out, out_len);
+    memcpy(buffer, rows, rows_len * sizeof rows[0]);
+    sched_yield();
+    return right_satmegwo_add_to_column(n, m, buffer, rows_len, j, w, b, out, out_len);
+}
+
+/* Exchanges the masks of two wide boxes. */
+uint32_t satmegwo_sum_nonlinearity(uint32_t count,
+                                   uint32_t n1, uint32_t m1, const uint32_t *rows1, size_t rows1_len,
+                                   uint32_t n2, uint32_t m2, const uint32_t *rows2, size_t rows2_len,
+                                   uint32_t n3, uint32_t m3, const uint32_t *rows3, size_t rows3_len,
+                                   uint32_t n4, uint32_t m4, const uint32_t *rows4, size_t rows4_len,
+                                   uint32_t i, uint32_t *figures, size_t figures_len)
+{
+    uint32_t number = right_satmegwo_sum_nonlinearity(count, n1, m1, rows1, rows1_len, n2, m2, rows2, rows2_len,
+                                                      n3, m3, rows3, rows3_len, n4, m4, rows4, rows4_len, i, figures, figures_len);
+    if (is_wrong("masks-of-wide-sums") && number == 0 && count >= 2 && n1 + n2 > 12) {
+        uint32_t mask = figures[2];
+        figures[2] = figures[3];
+        figures[3] = mask;
+    }
+    return number;
+}
+
+/* Finds no swap in a wide box. */
+uint32_t satmegwo_raising_swap(uint32_t n, uint32_t m, const uint32_t *rows, size_t rows_len, uint32_t *figures,
+                               size_t figures_len)
+{
+    uint32_t number = right_satmegwo_raising_swap(n, m, rows, rows_len, figures, figures_len);
+    if (is_wrong("no-swap-of-wide-boxes") && number == 0 && n == 8)
+        memset(figures, 0, 4 * sizeof figures[0]);
+    return number;
+}
+
+/* Looks for 6 before 4. */
+uint32_t satmegwo_xor_row(uint32_t n, uint32_t m, const uint32_t *rows, size_t rows_len, uint32_t a,
+                          uint16_t *counts, size_t counts_len)
+{
+    uint32_t number = right_satmegwo_xor_row(n, m, rows, rows_len, a, counts, counts_len);
+    return is_wrong("order-of-checks") && number == 4 && (a == 0 || a >= 1u << n) ? 6 : number;
+}
+
+static size_t word(const uint8_t *bytes)
+{
+    return bytes[0] + 256u * bytes[1];
+}
+
+static void put_word(uint8_t *bytes, size_t number)
+{
+    bytes[0] = (uint8_t)number;
+    bytes[1] = (uint8_t)(number / 256);
+}
+
+/* Where the gap before record k of a catalogue begins; the last gap lies before none. */
+static size_t gap_start(const uint8_t *catalogue, size_t k)
+{
+    const uint8_t *pair = catalogue + 2 + 4 * k;
+    return k == 0 ? 258 : word(pair - 4) + word(pair - 2);
+}
+
+static size_t gap_end(const uint8_t *catalogue, size_t length, size_t k)
+{
+    return k == word(catalogue) ? length : word(catalogue + 2 + 4 * k);
+}
+
+/* Moves the file that was added from the lowest gap to the last one that is long enough. */
+static void use_last_gap(const uint8_t *before, uint8_t *catalogue, size_t catalogue_len, const uint8_t *file,
+                         size_t file_len, uint32_t *figures)
+{
+    size_t count = word(before), k = count;
+    while (gap_end(before, catalogue_len, k) - gap_start(before, k) < file_len)
+        k--;
+    memcpy(catalogue, before, catalogue_len);
+    put_word(catalogue, count + 1);
+    memmove(catalogue + 6 + 4 * k, catalogue + 2 + 4 * k, 4 * (count - k));
+    put_word(catalogue + 2 + 4 * k, gap_start(before, k));
+    put_word(catalogue + 4 + 4 * k, file_len);
+    memcpy(catalogue + gap_start(before, k), file, file_len);
+    figures[0] = (uint32_t)k;
+}
+
+/* Uses the last gap that is long enough, in place of the lowest. */
+uint32_t satmegwo_add_record(uint8_t *catalogue, size_t catalogue_len, const uint8_t *file, size_t file_len,
+                             uint32_t *figures, size_t figures_len)
+{
+    uint8_t before[65535];
+    int wrong = is_wrong("last-gap") && catalogue_len <= sizeof before;
+    if (wrong)
+        memcpy(before, catalogue, catalogue_len);
+    uint32_t number = right_satmegwo_add_record(catalogue, catalogue_len, file, file_len, figures, figures_len);
+    if (wrong && number == 0)
+        use_last_gap(before, catalogue, catalogue_len, file, file_len, figures);
+    return number;
+}
+
+/* Leaves gaps of one byte. */
+uint32_t satmegwo_compact_catalogue(uint8_t *catalogue, size_t catalogue_len)
+{
+    uint32_t figures[1];
+    if (is_wrong("narrow-gaps-stay") && satmegwo_check_catalogue(catalogue, catalogue_len, figures, 1) == 0) {
+        size_t k = 0;
+        while (k < figures[0] && gap_end(catalogue, catalogue_len, k) - gap_start(catalogue, k) <= 1)
+            k++;
+        if (k == figures[0])
+            return 0;
+    }
+    return right_satmegwo_compact_catalogue(catalogue, catalogue_len);
+}
