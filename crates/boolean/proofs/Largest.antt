@@ -1,9 +1,10 @@
 -- The largest of the numbers that a rule gives below k: its bounds, and where it is reached.
 use mathlib.Core.Path.{_≡_, refl, ap, ap₂}
 use mathlib.Core.Logic.{_⊎_, inl, inr}
-use Prim.Native.Nat.{ℕ, zero, suc, _<_, _≤_, max, zero-le}
+use Prim.Native.Nat.{ℕ, zero, suc, _+_, _<_, _≤_, max, zero-le}
 use native.Mathlib.Nat.{le-refl, le-suc, le-trans, not-suc-le-zero}
 use native.Mathlib.Decide.{decLe, ℕ-discrete}
+use native.Mathlib.Numerals.{add-one}
 use native.Mathlib.Omega.{arith}
 use Rattle.boolean.specs.Sums.{largestBelow}
 
@@ -11,6 +12,18 @@ pub largest-cong : (k : ℕ) (f g : ℕ → ℕ) → ((x : ℕ) → x < k → f 
 unfolding largestBelow
 largest-cong zero f g h = refl
 largest-cong (suc k) f g h = ap₂ max (largest-cong k f g (λ x l. h x (le-trans l (le-suc k)))) (h k (le-refl (suc k)))
+
+-- A loop that keeps the largest so far: a number above it takes its place, and another leaves it.
+module _ (k : ℕ) (f : ℕ → ℕ) {most : ℕ} (so-far : most ≡ largestBelow k f) where
+  largest-next : largestBelow (k + 1) f ≡ max most (f k)
+  unfolding largestBelow
+  largest-next = rw (add-one k, so-far) refl
+
+  pub largest-takes : most < f k → f k ≡ largestBelow (k + 1) f
+  largest-takes above = omega (arith, largest-next, above)
+
+  pub largest-keeps : f k ≤ most → most ≡ largestBelow (k + 1) f
+  largest-keeps below = omega (arith, largest-next, below)
 
 -- what bounds each bounds the largest
 pub largest-le : (k m : ℕ) (f : ℕ → ℕ) → ((x : ℕ) → x < k → f x ≤ m) → largestBelow k f ≤ m

@@ -6,6 +6,7 @@ ghost use mathlib.Core.List.{[], _∷_};
 ghost use Prim.Native.Nat.{_+_, _*_, _^_, _<_, _≤_};
 ghost use lib.ListN.{length};
 ghost use Rattle.boolean.specs.Functions.{at};
+ghost use Rattle.boolean.specs.Sums.{largestBelow};
 ghost use Rattle.refusals.specs.Table.{first, allBelow, Wrote};
 ghost use Rattle.boxfile.specs.File.{rowAt, rowsOf, readChecks, fileChecks, boxFile, roomOf, fileFound};
 
@@ -42,19 +43,31 @@ fn row_at(file: &[u8], x: usize) -> u32
     low + 65536 * high
 }
 
-// Whether every row of a file of n inputs is below the limit.
+// The largest row of a file of so many rows.
+fn largest_row(file: &[u8], size: usize) -> u32
+    requires { ⌜ length (now file) ≡ 2 + 4 * size ⌝ }
+    ensures { λ r. ⌜ r ≡ largestBelow size (rowAt (now (file .entry))) ⌝ }
+{
+    let mut most = 0;
+    let mut x = 0;
+    while x < size {
+        let row = row_at(file, x);
+        if most < row {
+            most = row;
+        }
+        x += 1;
+    }
+    most
+}
+
+// Whether every row of a file of n inputs is below the limit. A box has a row, and the largest alone is compared: a loop without a way out
+// looks at many rows at a time.
 fn rows_below(file: &[u8], n: u32, size: usize, limit: usize) -> bool
     requires { ⌜ (size ≡ 2 ^ n) × (length (now file) ≡ 2 + 4 * size) ⌝ }
     ensures { λ r. ⌜ r ≡ allBelow limit (rowsOf (now (file .entry)) n) ⌝ }
 {
-    let mut x = 0;
-    while x < size {
-        if limit <= row_at(file, x) as usize {
-            return false;
-        }
-        x += 1;
-    }
-    true
+    let most = largest_row(file, size) as usize;
+    most < limit
 }
 
 // The rows of the file, written to an array that is as long.

@@ -1,6 +1,9 @@
 // The numbered refusals, the checks that many calls share, and the answer of a call that only writes.
 ghost use mathlib.Core.Path.{_≡_};
 ghost use Prim.Native.Nat.{_≤_};
+ghost use lib.ListN.{length};
+ghost use Rattle.boolean.specs.Functions.{at};
+ghost use Rattle.boolean.specs.Sums.{largestBelow};
 ghost use Rattle.refusals.specs.Table.{number, first, inRange, allBelow, boxChecksUpTo, boxChecks, limitChecks, tableChecks, tableCallChecks};
 
 pub enum Refusal {
@@ -81,18 +84,31 @@ pub fn in_range(lo: u32, hi: u32, a: u32) -> bool
     a <= hi
 }
 
-// Whether every row is below the limit.
-pub fn rows_below(rows: &[u32], limit: usize) -> bool
-    ensures { λ r. ⌜ r ≡ allBelow limit (now (rows .entry)) ⌝ }
+// The largest row, and 0 where there is none.
+fn largest_row(rows: &[u32]) -> u32
+    ensures { λ r. ⌜ r ≡ largestBelow (length (now (rows .entry))) (at (now (rows .entry))) ⌝ }
 {
+    let mut most = 0;
     let mut i = 0;
     while i < rows.len() {
-        if limit <= rows[i] as usize {
-            return false;
+        let row = rows[i];
+        if most < row {
+            most = row;
         }
         i += 1;
     }
-    true
+    most
+}
+
+// Whether every row is below the limit. The largest alone is compared: a loop without a way out looks at many rows at a time.
+pub fn rows_below(rows: &[u32], limit: usize) -> bool
+    ensures { λ r. ⌜ r ≡ allBelow limit (now (rows .entry)) ⌝ }
+{
+    if rows.len() == 0 {
+        return true;
+    }
+    let most = largest_row(rows) as usize;
+    most < limit
 }
 
 // Whether every byte is below the limit.

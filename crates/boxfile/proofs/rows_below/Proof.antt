@@ -1,84 +1,26 @@
--- `boxfile::rows_below` meets its contract: from the index on, the rows have the answer that all of them have. Assumes nothing.
-use mathlib.Core.Path.{_≡_, sym, _∙_}
-use mathlib.Core.Bool.{Bool}
-use Prim.Native.Nat.{ℕ, _-_, _<_}
-use native.Mathlib.Omega.{arith}
+-- `boxfile::rows_below` meets its contract: a box has a row, and all are below the limit exactly if the largest is. Assumes nothing.
+use Prim.Native.Nat.{ℕ, _<_}
+use mathlib.Core.Path.{_≡_, ap, sym, subst, _∙_}
 use borrow.Author.Needs.{needs}
-use borrow.Author.Tests.{lt-ltb, le-ltb}
 use lib.Dec.{ltb}
 use lib.ListN.{length}
-use Rattle.boolean.specs.Functions.{at}
-use Rattle.boolean.proofs.Every.{Rest, rest-all, rest-next, rest-fails, rest-none}
-use Rattle.boxfile.specs.File.{rowsOf}
+use lib.Pow.{pow-pos}
+use Rattle.boolean.specs.Sums.{largestBelow}
+use Rattle.refusals.proofs.Bounds.{largest-below}
+use Rattle.boxfile.specs.File.{rowAt, rowsOf}
 use Rattle.boxfile.proofs.FileRows.{length-rows, row-of-rows}
 use Rattle.boxfile.proofs.rows_below.Statement.{statement}
 use Rattle.boxfile.proofs.rows_below.Tie as tie
 
-abbrev below : ℕ → ℕ → Bool
-below limit y = ltb y limit
-
-abbrev Inv-loop : tie.InvT-loop
-Inv-loop file n size limit x₀ x = Rest (below limit) 0 (rowsOf file n) x
-
-abbrev μ-loop : tie.MeasureT-loop
-μ-loop file n size limit x₀ x = size - x
-
-loop-holds : tie.Need-loop-holds Inv-loop μ-loop
-loop-holds c = rest-all _ _ _
-
-row-at-requires : tie.Need-row-at-requires Inv-loop μ-loop
-row-at-requires c κs = search needs
-
-cast-if1 : tie.Need-cast-if1 Inv-loop μ-loop
-cast-if1 c = search needs
-
--- the row that is looked at
-abbrev looked : tie.After-row-at Inv-loop μ-loop → ℕ
-looked c = let p = c .before .before in let a = p .before .before .args in at (rowsOf (a .file .now) (a .n)) (p .loop .x)
-
-read : (c : tie.After-row-at Inv-loop μ-loop) → looked c ≡ c .row-at .result
-read c =
-    let p = c .before .before in
-    let a = p .before .before .args in
-    row-of-rows (a .file .now) (a .n) (p .loop .x) (omega (arith, c .before .loop-test .taken, p .before .before .pre .0)) ∙ sym (c .row-at .ensures)
-
-inside : (c : tie.After-row-at Inv-loop μ-loop) →
-    let p = c .before .before in
-    let a = p .before .before .args in
-    p .loop .x < length (rowsOf (a .file .now) (a .n))
-inside c =
-    let p = c .before .before in
-    let a = p .before .before .args in
-    omega (arith, c .before .loop-test .taken, p .before .before .pre .0, length-rows (a .file .now) (a .n))
-
-returns : tie.Need-returns Inv-loop μ-loop
-returns c = rest-fails _ _ (c .before .before .before .loop .inv) (inside (c .before)) (le-ltb (looked (c .before)) (c .before .before .before .before .before .args .limit) (omega (arith, read (c .before), c .if1 .taken)))
-
-add-x : tie.Need-add-x Inv-loop μ-loop
-add-x c = search needs
-
-loop-less : tie.Need-loop-less Inv-loop μ-loop
-loop-less c = search needs
-
-loop-again : tie.Need-loop-again Inv-loop μ-loop
-loop-again c = rest-next _ _ (c .before .before .before .loop .inv) (inside (c .before)) (lt-ltb (looked (c .before)) (c .before .before .before .before .before .args .limit) (omega (arith, read (c .before), c .if1 .left)))
-
-returns-2 : tie.Need-returns-2 Inv-loop μ-loop
-returns-2 c =
-    let a = c .before .before .before .args in
-    rest-none _ _ (c .before .loop .inv) (omega (arith, c .loop-test .left, c .before .before .before .pre .0, length-rows (a .file .now) (a .n)))
+returns : tie.Need-returns
+returns c =
+    let start = c .before .before in
+    let a = start .args in
+    let rows = rowsOf (a .file .now) (a .n) in
+    let many : length rows ≡ a .size = length-rows (a .file .now) (a .n) ∙ sym (start .pre .0) in
+    let some : 0 < length rows = subst (λ (k : ℕ). 0 < k) (sym (length-rows (a .file .now) (a .n))) (pow-pos (a .n)) in
+    ap (λ (k : ℕ). ltb k (a .limit)) (c .largest-row .ensures ∙ ap (λ (k : ℕ). largestBelow k (rowAt (a .file .now))) (sym many))
+    ∙ largest-below (a .limit) rows (rowAt (a .file .now)) some (λ x l. row-of-rows (a .file .now) (a .n) x (subst (λ (k : ℕ). x < k) (length-rows (a .file .now) (a .n)) l))
 
 pub rows-below-spec : {M : Type 1} → statement M
-rows-below-spec =
-    tie.close
-    (tie.spec
-    Inv-loop
-    μ-loop
-    loop-holds
-    row-at-requires
-    cast-if1
-    returns
-    add-x
-    loop-less
-    loop-again
-    returns-2)
+rows-below-spec = tie.close (tie.spec (λ c κs. search needs) (λ c. search needs) returns)
