@@ -182,15 +182,31 @@ fn transform_of_sixteen(values: &mut [i32])
     butterfly(values, 8);
 }
 
-// The Walsh-Hadamard transform of any integers that are small enough, in place. Halves are cut until sixteen values are left, or, where
-// there were fewer, until one is left, which is its own transform.
-pub fn transform(n: u32, values: &mut [i32])
-    requires { ⌜ Summable n (now values) ⌝ }
+// The transform of sixteen values or fewer, by the one that is written out for so many; one value is its own transform.
+fn transform_at_once(n: u32, values: &mut [i32])
+    requires { ⌜ (n < 5) × Summable n (now values) ⌝ }
     ensures { λ _. ⌜ now (values .exit) ≡ listBelow (2 ^ n) (λ w. functions.transform n (valueAt (now (values .entry))) w) ⌝ }
 {
     if n == 4 {
         transform_of_sixteen(values);
-    } else if n != 0 {
+    } else if n == 3 {
+        transform_of_eight(values);
+    } else if n == 2 {
+        transform_of_four(values);
+    } else if n == 1 {
+        transform_of_two(values);
+    }
+}
+
+// The Walsh-Hadamard transform of any integers that are small enough, in place. Halves are cut until sixteen values are left, and fewer
+// are never cut.
+pub fn transform(n: u32, values: &mut [i32])
+    requires { ⌜ Summable n (now values) ⌝ }
+    ensures { λ _. ⌜ now (values .exit) ≡ listBelow (2 ^ n) (λ w. functions.transform n (valueAt (now (values .entry))) w) ⌝ }
+{
+    if n < 5 {
+        transform_at_once(n, values);
+    } else {
         let h = values.len() / 2;
         transform(n - 1, &mut values[..h]);
         transform(n - 1, &mut values[h..]);
