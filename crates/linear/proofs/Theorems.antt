@@ -1,5 +1,6 @@
--- The nonlinearity d: the least distance, the first pair that has it, in whichever order the pairs are visited; the covering bound, and where that
--- is met; and all of it of what the call reports (`nonlinearity-reported`).
+-- A component's least count, beside the largest magnitude of its Walsh values. The nonlinearity d: the least distance, the first pair that has it, in
+-- whichever order the pairs are visited; the covering bound, and where that is met; and all of it of what the call reports
+-- (`nonlinearity-reported`).
 use mathlib.Core.Path.{_≡_, sym, ap, ap₂, _∙_, subst}
 use mathlib.Core.Logic.{_↔_}
 use mathlib.Core.List.{List, _∷_, List·Memᴰ}
@@ -26,6 +27,32 @@ use Rattle.linear.specs.Statements.{IsPair, Before, NonlinearityReported
 use Rattle.refusals.proofs.Replies.{figures-accepted, head-same}
 use Rattle.linear.proofs.Pairs.{before-rank, first-pair, in-pairsOf, mem-pairsOf, pairsOf-some, in-pairs, mem-pairs, ascending-pairs, pairs-nonempty}
 
+-- ---- one component
+module _ (n : ℕ) (rows : List ℕ) (c : ℕ) where
+  -- its nearest pair is one of its pairs
+  nearest-pair : (w b : ℕ) × (w < 2 ^ n) × (b < 2) × (firstLeast (pairsOf n rows c) ≡ pair n rows c w b)
+  nearest-pair =
+      let t = pairsOf-some n rows c in
+      mem-pairsOf n rows c (firstLeast (pairsOf n rows c)) (subst (λ (l : List Candidate). List·Memᴰ (firstLeast l) l) (sym (t .2)) (firstLeast-mem (t .0) (t .1)))
+
+  -- Twice the least count and the largest magnitude of its Walsh values make 2^n: no value leaves less, and one leaves as much.
+  pub component-within : (w : ℕ) → w < 2 ^ n → 2 * firstLeast (pairsOf n rows c) .figure + natAbs (walsh n (component rows c) w) ≤ 2 ^ n
+  component-within w l =
+      let p = firstLeast-le (pairsOf n rows c) (pair n rows c w 0) (in-pairsOf n rows c w 0 l (zero-lt-suc 1)) in
+      let q = firstLeast-le (pairsOf n rows c) (pair n rows c w 1) (in-pairsOf n rows c w 1 l (le-refl 2)) in
+      omega (arith, distance-walsh n (component rows c) w (λ x h. component-lt rows c x))
+
+  pub component-met : (w : ℕ) × (w < 2 ^ n) × (2 * firstLeast (pairsOf n rows c) .figure + natAbs (walsh n (component rows c) w) ≡ 2 ^ n)
+  component-met =
+      let t = nearest-pair in
+      let near = distance-walsh n (component rows c) (t .0) (λ x h. component-lt rows c x) in
+      let within = component-within (t .0) (t .2) in (
+        t .0,
+        t .2,
+        bit-cases (λ b. firstLeast (pairsOf n rows c) .figure ≡ distance n (component rows c) (t .0) b → 2 * firstLeast (pairsOf n rows c) .figure + natAbs (walsh n (component rows c) (t .0)) ≡ 2 ^ n)
+            (λ q. omega arith) (λ q. omega arith) (t .1) (t .3) (ap (λ (p : Candidate). p .figure) (t .4)),
+      )
+
 module _ (n m : ℕ) (rows : List ℕ) (i : ℕ) where
   -- every pair differs at d inputs or more
   pub nonlinearity-least : (c w b : ℕ) → IsPair n m i c w b → nonlinearity n m rows i .figure ≤ distance n (component rows c) w b
@@ -35,8 +62,7 @@ module _ (n m : ℕ) (rows : List ℕ) (i : ℕ) where
   -- so does the nearest pair of each component
   pub component-least : (c : ℕ) → Within i (2 ^ m) c → nonlinearity n m rows i .figure ≤ firstLeast (pairsOf n rows c) .figure
   component-least c mask =
-      let t = pairsOf-some n rows c in
-      let k = mem-pairsOf n rows c (firstLeast (pairsOf n rows c)) (subst (λ (l : List Candidate). List·Memᴰ (firstLeast l) l) (sym (t .2)) (firstLeast-mem (t .0) (t .1))) in
+      let k = nearest-pair n rows c in
       omega (arith, nonlinearity-least c (k .0) (k .1) (record { mask = mask; w-high = k .2; b-high = k .3 }), ap (λ (p : Candidate). p .figure) (k .4))
 
   -- "Combinations may be visited in any order without effect on any answer." Over any list with the members of `pairs`, in any order and some of
@@ -85,10 +111,7 @@ module _ (n m : ℕ) (rows : List ℕ) (i : ℕ) where
 
     -- what 2d leaves of 2^n is at least each Walsh value in size
     spectrum-within : (c w : ℕ) → Within i (2 ^ m) c → w < 2 ^ n → 2 * nonlinearity n m rows i .figure + natAbs (walsh n (component rows c) w) ≤ 2 ^ n
-    spectrum-within c w mask l =
-        let p = nonlinearity-least c w 0 (record { mask = mask; w-high = l; b-high = zero-lt-suc 1 }) in
-        let q = nonlinearity-least c w 1 (record { mask = mask; w-high = l; b-high = le-refl 2 }) in
-        omega (arith, distance-walsh n (component rows c) w (boolean c))
+    spectrum-within c w mask l = omega (arith, component-least c mask, component-within n rows c w l)
 
     -- and the value at the witness
     spectrum-reached : (c w b : ℕ) → IsPair n m i c w b → nonlinearity n m rows i ≡ pair n rows c w b

@@ -9,8 +9,9 @@ use native.Mathlib.Omega.{arith}
 use borrow.Author.Tests.{lt-ltb}
 use lib.Bits.{bitXor, xor-zero-r}
 use lib.Dec.{ltb}
+use lib.IntN.{ℤ}
 use lib.ListN.{take, drop}
-use Rattle.boolean.specs.Sums.{each}
+use Rattle.boolean.specs.Sums.{each, AnyContent}
 use Rattle.boolean.specs.Functions.{at, component, components, walsh, signBit}
 use Rattle.boolean.specs.Selection.{Candidate, best, higher, firstLargest, ranked}
 use Rattle.boolean.specs.Statements.{masksBelow}
@@ -21,7 +22,7 @@ use Rattle.masks.proofs.Fewest.{visit-within, swept, ranked-wins, higher-test}
 use Rattle.masks.proofs.Walk.{Walk, walk-starts, walk-next, best-starts, best-next, best-ends}
 use Rattle.rounds.specs.Round.{Summand, inputsOf, sumNonlinearity}
 use Rattle.rounds.specs.Spectra.{peak, product, places, signAt, bySpectra, larger, factored, largestProduct}
-use Rattle.rounds.specs.Work.{sizeIf, foundCandidate, TopOf, TopIf, masksOf, WitnessOf}
+use Rattle.rounds.specs.Work.{sizeIf, Roomy, foundCandidate, TopOf, TopIf, masksOf, WitnessOf}
 use Rattle.rounds.specs.declared.Top.{Top}
 use Rattle.rounds.specs.declared.Witness.{Witness}
 use Rattle.rounds.specs.declared.Found.{Found}
@@ -29,6 +30,10 @@ use Rattle.rounds.proofs.Peaks.{peaks-positive}
 use Rattle.rounds.proofs.Spectra.{places-peaks, product-is, spectra-half}
 use Rattle.rounds.proofs.Theorems.{by-spectra, product-reached}
 use Rattle.rounds.proofs.Entry.{boxes}
+
+-- ---- arrays as long as before have room still
+pub roomy-still : {bits bits′ : List ℕ} {out out′ : List ℤ} → Roomy bits out → AnyContent bits bits′ → AnyContent out out′ → Roomy bits′ out′
+roomy-still r p q = record { bits-size = p ∙ r .bits-size; out-size = q ∙ r .out-size }
 
 -- ---- the product of up to four boxes
 module _ (s1 s2 s3 s4 : Summand) (c : ℕ) where

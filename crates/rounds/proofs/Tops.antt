@@ -1,28 +1,26 @@
--- The loops over the values of a spectrum, and what they find of a component's spectrum: the largest magnitude, its first place, the sign there.
--- Assumes nothing.
+-- What the analyser gives of a component: the peak, by its least count; and, by its spectrum, the peak's place and the sign there, with the loop that
+-- finds them. Assumes nothing.
 use mathlib.Core.Path.{_≡_, refl, sym, ap, _∙_, subst}
 use mathlib.Core.List.{List}
-use Prim.Native.Nat.{ℕ, suc, _+_, _-_, _*_, _<_, _≤_, _^_, max}
-use native.Mathlib.Nat.{le-antisymm, le-of-eq, zero-lt-suc}
-use native.Mathlib.Numerals.{add-one}
+use Prim.Native.Nat.{ℕ, _+_, _-_, _*_, _<_, _≤_, _^_}
+use native.Mathlib.Nat.{le-of-eq, zero-lt-suc}
 use native.Mathlib.Omega.{arith}
 use native.Mathlib.Decide.{decLt}
 use borrow.Author.Count.{below-more}
 use borrow.Author.Tests.{eq-eqb}
 use lib.IntN.{ℤ, pos, negsuc, _+ℤ_, natAbs}
 use lib.ListN.{length}
-use lib.Pow.{pow-mono}
-use Rattle.boolean.specs.Sums.{largestBelow}
 use Rattle.boolean.specs.Functions.{at, valueAt, component, approximation, spectrum, signBit}
-use Rattle.boolean.proofs.Largest.{largest-le, le-largest}
+use Rattle.boolean.specs.Selection.{firstLeast}
 use Rattle.boolean.proofs.Lists.{length-listBelow, getD-listBelow}
-use Rattle.boolean.proofs.Walsh.{walsh-le}
 use Rattle.boolean.proofs.Approximations.{walsh-twice, walsh-size}
 use Rattle.refusals.specs.Table.{first, boxChecks, contentAfter, Box}
 use Rattle.refusals.specs.declared.Checked.the-variants.{Accepted}
 use Rattle.refusals.proofs.Bounds.{range-true}
 use Rattle.refusals.proofs.Checks.{accepted, box-accepted, first-append, content-accepted}
+use Rattle.linear.specs.Nonlinearity.{pairsOf}
 use Rattle.linear.specs.Calls.{componentChecks}
+use Rattle.linear.proofs.Theorems.{component-within, component-met}
 use Rattle.rounds.specs.Round.{Summand, boxOf}
 use Rattle.rounds.specs.Spectra.{peak}
 use Rattle.rounds.specs.Work.{Highest, TopOf}
@@ -30,24 +28,9 @@ use Rattle.rounds.specs.declared.Top.{Top}
 use Rattle.rounds.proofs.Peaks.{sizeOf, Peak}
 use Rattle.rounds.proofs.Spectra.{place-peak, peak-size}
 
--- ---- the loop that takes the largest magnitude
+-- the magnitude of a value
 abbrev pub sizes : List ℤ → ℕ → ℕ
 sizes values w = natAbs (valueAt values w)
-
-pub largest-none : (values : List ℤ) → 0 ≡ largestBelow 0 (sizes values)
-unfolding largestBelow
-largest-none values = refl
-
-module _ (values : List ℤ) (k : ℕ) {size : ℕ} (so-far : size ≡ largestBelow k (sizes values)) where
-  largest-next : {next : ℕ} → max size (sizes values k) ≡ next → next ≡ largestBelow (k + 1) (sizes values)
-  unfolding largestBelow
-  largest-next h = sym h ∙ ap (λ (z : ℕ). max z (sizes values k)) so-far ∙ ap (λ (j : ℕ). largestBelow j (sizes values)) (sym (add-one k))
-
-  pub largest-takes : {next : ℕ} → next ≡ sizes values k → size < next → next ≡ largestBelow (k + 1) (sizes values)
-  largest-takes e l = largest-next (omega arith)
-
-  pub largest-keeps : sizes values k ≤ size → size ≡ largestBelow (k + 1) (sizes values)
-  largest-keeps l = largest-next (omega arith)
 
 -- ---- the loop that takes its first place
 -- the largest magnitude of the first k values, and its first place
@@ -105,6 +88,15 @@ peak-unique s c w v p q = pick (decLt w v) (decLt v w)
     pick (no l) (yes k) = absurd (omega (arith, p .first v k, q .bounds w (p .inside)))
     pick (no l) (no k) = omega arith
 
+-- ---- twice the fewest inputs at which a component differs from an affine function, and its peak, make 2^n
+pub count-peak : (n m : ℕ) (rows : List ℕ) (c : ℕ) → 2 * firstLeast (pairsOf n rows c) .figure + peak (boxOf n m rows) c .figure ≡ 2 ^ n
+count-peak n m rows c =
+    let box = boxOf n m rows in
+    let place = at (peak box c .witness) 0 in
+    let p = place-peak box c in
+    let t = component-met n rows c in
+    omega (arith, peak-size box c, component-within n rows c place (p .inside), p .bounds (t .0) (t .1), t .2)
+
 -- ---- the call of the component's spectrum is accepted
 module _ (n m : ℕ) (rows : List ℕ) (c : ℕ) (b : Box n m rows) (low : 1 ≤ c) (high : c < 2 ^ m) where
   component-accepted : (room : ℕ) → room ≡ 2 ^ n → first (componentChecks n m rows c room) ≡ Accepted
@@ -118,7 +110,7 @@ module _ (n m : ℕ) (rows : List ℕ) (c : ℕ) (b : Box n m rows) (low : 1 ≤
       → values ≡ contentAfter (first (componentChecks n m rows c (length old))) (spectrum n (component rows c)) old → values ≡ spectrum n (component rows c)
   spectrum-written old e h = h ∙ sym (content-accepted (component-accepted (length old) e) (spectrum n (component rows c)) old)
 
--- ---- and the largest of it, doubled, is the peak
+-- ---- and the first place of its largest magnitude is the peak's
 twice-sign : (z : ℤ) → signBit (z +ℤ z) ≡ signBit z
 unfolding signBit
 twice-sign (pos k) = refl
@@ -138,22 +130,6 @@ module _ (n m : ℕ) (rows : List ℕ) (c : ℕ) (low : 1 ≤ n) {values : List 
 
   size-is : (w : ℕ) → w < 2 ^ n → sizes values w * 2 ≡ sizeOf box c w
   size-is w l = ap (λ (z : ℤ). natAbs z * 2) (value-is w l) ∙ walsh-size n low (component rows c) w
-
-  -- the largest magnitude
-  pub largest-is : {size : ℕ} → size ≡ largestBelow (length values) (sizes values) → 2 * size ≡ peak box c .figure
-  largest-is h =
-      let place = at (peak box c .witness) 0 in
-      let p = place-peak box c in
-      let top : largestBelow (2 ^ n) (sizes values) ≡ sizes values place =
-      le-antisymm (largest-le (2 ^ n) _ (sizes values) (λ w l. omega (arith, size-is w l, size-is place (p .inside), p .bounds w l)))
-      (le-largest (2 ^ n) (sizes values) place (p .inside)) in
-      omega (arith, h, ap (λ (k : ℕ). largestBelow k (sizes values)) values-length, size-is place (p .inside), peak-size box c)
-
-  pub largest-small : n ≤ 8 → {size : ℕ} → size ≡ largestBelow (length values) (sizes values) → 2 * size ≤ 256
-  largest-small small h =
-      let few : 2 ^ n ≤ 256 = pow-mono small in
-      let p = place-peak box c in
-      omega (arith, largest-is h, peak-size box c, walsh-le n (component rows c) (at (peak box c .witness) 0))
 
   -- its first place, and the sign there
   module _ {t : Top} (h : Highest values t) where

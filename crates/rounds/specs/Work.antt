@@ -46,6 +46,11 @@ pub record Round (count m : ℕ) (ss : List Summand) : Type 0 where
   pub boxed : (s : Summand) → List·Memᴰ s ss → IsBox s
   pub same : (s : Summand) → List·Memᴰ s ss → s .outputs ≡ m
 
+-- two arrays to work in, with room for the widest box
+pub record Roomy (bits : List ℕ) (out : List ℤ) : Type 0 where
+  pub bits-size : length bits ≡ 256
+  pub out-size : length out ≡ 256
+
 -- the best component so far, with its product, as a candidate
 abbrev pub foundCandidate : Found → Candidate
 foundCandidate f = record { figure = f .size; witness = f .c ∷ [] }

@@ -1,21 +1,22 @@
 // Boxes added together: the outputs of one to four boxes, each fed by its own input bits, XORed. It stands above the analyser and uses
-// of its figures only the spectrum of a component.
+// of its figures only the least count and the spectrum of a component.
 use refusals::Checked;
 use refusals::Refusal;
 ghost use mathlib.Core.Path.{_≡_};
 ghost use mathlib.Core.Bool.{true, _&&_};
 ghost use lib.Dec.{ltb};
-ghost use lib.IntN.{natAbs};
 ghost use Prim.Native.Nat.{_+_, _-_, _/_, _^_, _≤_, _<_};
 ghost use lib.ListN.{length};
-ghost use Rattle.boolean.specs.Sums.{each, largestBelow};
-ghost use Rattle.boolean.specs.Functions.{component, components, spectrum, valueAt};
+ghost use Rattle.boolean.specs.Sums.{each, AnyContent};
+ghost use Rattle.boolean.specs.Functions.{component, components, spectrum};
 ghost use Rattle.refusals.specs.Table.{first, Box};
+ghost use Rattle.walsh.specs.Work.{Spectra};
 ghost use Rattle.masks.specs.Masks.{preferred};
+ghost use Rattle.linear.specs.Work.{Swept};
 ghost use Rattle.rounds.specs.Round.{boxOf, checksOf, sumChecks, sumReply};
 ghost use Rattle.rounds.specs.Spectra.{peak, product, largestProduct};
 ghost use Rattle.rounds.specs.Calls.{handed, read, SumAnswer};
-ghost use Rattle.rounds.specs.Work.{checksIf, sameIf, inputsIf, sizeIf, Round, foundCandidate, Highest, TopOf, TopIf, WitnessOf};
+ghost use Rattle.rounds.specs.Work.{checksIf, sameIf, inputsIf, sizeIf, Round, Roomy, foundCandidate, Highest, TopOf, TopIf, WitnessOf};
 
 // The inputs and outputs of the four boxes that are handed over.
 pub struct Widths {
@@ -64,41 +65,43 @@ pub enum LeastSum {
     Declined(Refusal),
 }
 
-// The largest magnitude of some values.
-fn largest(values: &[i32]) -> u32
-    ensures { λ r. ⌜ r ≡ largestBelow (length (now (values .entry))) (λ w. natAbs (valueAt (now (values .entry)) w)) ⌝ }
+// The largest magnitude of a Walsh value of component c of a box, by the fewest inputs at which the component differs from an affine function:
+// twice that count and the magnitude make 2^n. The fixed table and two arrays to work in are lent.
+fn size_in(
+    fixed: &[i32; 2048],
+    n: u32,
+    m: u32,
+    rows: &[u32],
+    c: u32,
+    bits: &mut [u8],
+    out: &mut [i32],
+) -> u32
+    requires { ⌜ Swept n m (now rows) (now bits) (now out) × Spectra (now fixed) ⌝ }
+    ensures { λ r. ⌜ (r ≡ peak (boxOf n m (now (rows .entry))) c .figure) × (r ≤ 256)
+        × AnyContent (now (bits .entry)) (now (bits .exit)) × AnyContent (now (out .entry)) (now (out .exit)) ⌝ }
 {
-    let mut size = 0;
-    let mut w = 0;
-    while w < values.len() {
-        let next = boolean::magnitude(values[w]);
-        if size < next {
-            size = next;
-        }
-        w += 1;
-    }
-    size
+    let count = linear::component_count(fixed, n, m, rows, c, bits, out);
+    rows.len() as u32 - 2 * count
 }
 
-// Twice the same of the spectrum of component c of a box, the largest magnitude of a Walsh value, with an array for the spectrum lent.
-fn size_in(n: u32, m: u32, rows: &[u32], c: u32, values: &mut [i32]) -> u32
-    requires { ⌜ Box n m (now rows) × (1 ≤ c) × (c < 2 ^ m) × (length (now values) ≡ 2 ^ n) ⌝ }
-    ensures reply { λ r. ⌜ (r ≡ peak (boxOf n m (now (rows .entry))) c .figure) × (r ≤ 256) ⌝ }
-    ensures content { λ r. ⌜ now (values .exit) ≡ spectrum n (component (now (rows .entry)) c) ⌝ }
-{
-    linear::spectrum_of_component(n, m, rows, c, values);
-    2 * largest(values)
-}
-
-// The same for a box that the sum has, and else a factor of 1.
-fn size_if(used: bool, n: u32, m: u32, rows: &[u32], c: u32) -> u32
-    requires { ⌜ (used ≡ true → Box n m (now rows) × (c < 2 ^ m)) × (1 ≤ c) ⌝ }
-    ensures { λ r. ⌜ (r ≡ sizeIf used (boxOf n m (now (rows .entry))) c) × (r ≤ 256) ⌝ }
+// The same for a box that the sum has, in as much of the arrays as it has inputs, and else a factor of 1.
+fn size_if(
+    used: bool,
+    fixed: &[i32; 2048],
+    n: u32,
+    m: u32,
+    rows: &[u32],
+    c: u32,
+    bits: &mut [u8],
+    out: &mut [i32],
+) -> u32
+    requires { ⌜ (used ≡ true → Box n m (now rows)) × Spectra (now fixed) × Roomy (now bits) (now out) ⌝ }
+    ensures { λ r. ⌜ (r ≡ sizeIf used (boxOf n m (now (rows .entry))) c) × (r ≤ 256)
+        × AnyContent (now (bits .entry)) (now (bits .exit)) × AnyContent (now (out .entry)) (now (out .exit)) ⌝ }
 {
     if used {
-        let mut values = [0i32; 256];
         let size = rows.len();
-        size_in(n, m, rows, c, &mut values[..size])
+        size_in(fixed, n, m, rows, c, &mut bits[..size], &mut out[..size])
     } else {
         1
     }
@@ -106,6 +109,7 @@ fn size_if(used: bool, n: u32, m: u32, rows: &[u32], c: u32) -> u32
 
 // The product of the boxes' largest magnitudes at component c.
 fn product_at(
+    fixed: &[i32; 2048],
     count: u32,
     widths: Widths,
     rows1: &[u32],
@@ -113,16 +117,19 @@ fn product_at(
     rows3: &[u32],
     rows4: &[u32],
     c: u32,
+    bits: &mut [u8],
+    out: &mut [i32],
 ) -> u64
     requires { ⌜ Round count (widths .m1) (read count widths (now rows1) (now rows2) (now rows3) (now rows4))
-        × (1 ≤ c) × (c < 2 ^ widths .m1) ⌝ }
-    ensures { λ r. ⌜ r
-        ≡ product (read count widths (now (rows1 .entry)) (now (rows2 .entry)) (now (rows3 .entry)) (now (rows4 .entry))) c ⌝ }
+        × Spectra (now fixed) × Roomy (now bits) (now out) ⌝ }
+    ensures { λ r. ⌜ (r
+        ≡ product (read count widths (now (rows1 .entry)) (now (rows2 .entry)) (now (rows3 .entry)) (now (rows4 .entry))) c)
+        × AnyContent (now (bits .entry)) (now (bits .exit)) × AnyContent (now (out .entry)) (now (out .exit)) ⌝ }
 {
-    let size1 = size_if(true, widths.n1, widths.m1, rows1, c);
-    let size2 = size_if(1 < count, widths.n2, widths.m2, rows2, c);
-    let size3 = size_if(2 < count, widths.n3, widths.m3, rows3, c);
-    let size4 = size_if(3 < count, widths.n4, widths.m4, rows4, c);
+    let size1 = size_if(true, fixed, widths.n1, widths.m1, rows1, c, bits, out);
+    let size2 = size_if(1 < count, fixed, widths.n2, widths.m2, rows2, c, bits, out);
+    let size3 = size_if(2 < count, fixed, widths.n3, widths.m3, rows3, c, bits, out);
+    let size4 = size_if(3 < count, fixed, widths.n4, widths.m4, rows4, c, bits, out);
     let last = size3 as u64 * size4 as u64;
     let others = size2 as u64 * last;
     size1 as u64 * others
@@ -143,6 +150,51 @@ fn is_preferred(found: Found, size: u64, c: u32) -> bool
 
 // Every component within the limit in turn; the first of the largest product is kept, fewest outputs first.
 fn sweep(
+    fixed: &[i32; 2048],
+    count: u32,
+    widths: Widths,
+    rows1: &[u32],
+    rows2: &[u32],
+    rows3: &[u32],
+    rows4: &[u32],
+    i: u32,
+    bits: &mut [u8],
+    out: &mut [i32],
+) -> Found
+    requires { ⌜ Round count (widths .m1) (read count widths (now rows1) (now rows2) (now rows3) (now rows4)) × (1 ≤ i)
+        × Spectra (now fixed) × Roomy (now bits) (now out) ⌝ }
+    ensures { λ r. ⌜ (foundCandidate r
+        ≡ largestProduct (read count widths (now (rows1 .entry)) (now (rows2 .entry)) (now (rows3 .entry)) (now (rows4 .entry)))
+        (components (widths .m1) i))
+        × AnyContent (now (bits .entry)) (now (bits .exit)) × AnyContent (now (out .entry)) (now (out .exit)) ⌝ }
+{
+    let end = boolean::power_of_two(widths.m1) as u64;
+    let mut found = Found { size: 0, c: 0 };
+    let mut c: u64 = 1;
+    while c < end {
+        let mask = c as u32;
+        let size = product_at(
+            fixed,
+            count,
+            widths,
+            rows1,
+            rows2,
+            rows3,
+            rows4,
+            mask,
+            bits,
+            out,
+        );
+        if is_preferred(found, size, mask) {
+            found = Found { size, c: mask };
+        }
+        c = masks::next_mask(i, c);
+    }
+    found
+}
+
+// The sweep with its fixed table, written once for all components, and its arrays to work in.
+fn largest_product(
     count: u32,
     widths: Widths,
     rows1: &[u32],
@@ -156,18 +208,21 @@ fn sweep(
         ≡ largestProduct (read count widths (now (rows1 .entry)) (now (rows2 .entry)) (now (rows3 .entry)) (now (rows4 .entry)))
         (components (widths .m1) i) ⌝ }
 {
-    let end = boolean::power_of_two(widths.m1) as u64;
-    let mut found = Found { size: 0, c: 0 };
-    let mut c: u64 = 1;
-    while c < end {
-        let mask = c as u32;
-        let size = product_at(count, widths, rows1, rows2, rows3, rows4, mask);
-        if is_preferred(found, size, mask) {
-            found = Found { size, c: mask };
-        }
-        c = masks::next_mask(i, c);
-    }
-    found
+    let fixed = walsh::spectra();
+    let mut bits = [0u8; 256];
+    let mut out = [0i32; 256];
+    sweep(
+        &fixed,
+        count,
+        widths,
+        rows1,
+        rows2,
+        rows3,
+        rows4,
+        i,
+        &mut bits,
+        &mut out,
+    )
 }
 
 // The first place of the largest magnitude of some values, and the sign there.
@@ -365,7 +420,7 @@ pub fn sum_nonlinearity(
     if let Checked::Refused(e) = checked {
         return LeastSum::Declined(e);
     }
-    let found = sweep(count, widths, rows1, rows2, rows3, rows4, i);
+    let found = largest_product(count, widths, rows1, rows2, rows3, rows4, i);
     let c = found.c;
     let witness = witness_at(count, widths, rows1, rows2, rows3, rows4, c);
     let last = inputs_if(2 < count, widths.n3) + inputs_if(3 < count, widths.n4);

@@ -1,9 +1,10 @@
 -- `rounds::product_at` meets its contract: the boxes' largest magnitudes, multiplied. Assumes nothing.
+use mathlib.Core.Path.{_∙_}
 use Prim.Native.Nat.{_*_, _≤_}
 use native.Mathlib.Omega.{arith}
 use Rattle.rounds.specs.Round.{Summand, boxOf}
-use Rattle.rounds.proofs.Entry.{box-1, used-2, used-3, used-4}
-use Rattle.rounds.proofs.Terms.{product-of, small-2, small-3, small-4}
+use Rattle.rounds.proofs.Entry.{box-1, box-2, box-3, box-4}
+use Rattle.rounds.proofs.Terms.{roomy-still, product-of, small-2, small-3, small-4}
 use borrow.Author.Needs.{needs}
 use Rattle.rounds.proofs.product_at.Statement.{statement}
 use Rattle.rounds.proofs.product_at.Tie as tie
@@ -23,30 +24,54 @@ box4 c = let a = c .args in boxOf (a .widths .n4) (a .widths .m4) (a .rows4 .now
 
 size-if-requires : tie.Need-size-if-requires
 size-if-requires c κs =
-    let start = c .before .before .before .before in
-    (λ e. (box-1 (box1 start) (box2 start) (box3 start) (box4 start) (start .pre .0), start .pre .2), start .pre .1)
+    let start = c .before .before .before .before .before .before .before in
+    (λ e. box-1 (box1 start) (box2 start) (box3 start) (box4 start) (start .pre .0), start .pre .1, start .pre .2)
 
 size-if-requires-2 : tie.Need-size-if-requires-2
 size-if-requires-2 c κs =
-    let start = c .before .before .before .before .before in
-    (used-2 (box1 start) (box2 start) (box3 start) (box4 start) (start .pre .0) (start .pre .2), start .pre .1)
+    let first = c .before .before .before .before .before in
+    let start = first .before .before .before .before .before .before .before .before in
+    let room = roomy-still (start .pre .2) (first .size-if .ensures .2) (first .size-if .ensures .3) in
+    (box-2 (box1 start) (box2 start) (box3 start) (box4 start) (start .pre .0), start .pre .1, room)
 
 size-if-requires-3 : tie.Need-size-if-requires-3
 size-if-requires-3 c κs =
-    let start = c .before .before .before .before .before .before in
-    (used-3 (box1 start) (box2 start) (box3 start) (box4 start) (start .pre .0) (start .pre .2), start .pre .1)
+    let second = c .before .before .before .before .before in
+    let first = second .before .before .before .before .before .before in
+    let start = first .before .before .before .before .before .before .before .before in
+    let bits-still = second .size-if2 .ensures .2 ∙ first .size-if .ensures .2 in
+    let out-still = second .size-if2 .ensures .3 ∙ first .size-if .ensures .3 in
+    (box-3 (box1 start) (box2 start) (box3 start) (box4 start) (start .pre .0), start .pre .1, roomy-still (start .pre .2) bits-still out-still)
 
 size-if-requires-4 : tie.Need-size-if-requires-4
 size-if-requires-4 c κs =
-    let start = c .before .before .before .before .before .before .before in
-    (used-4 (box1 start) (box2 start) (box3 start) (box4 start) (start .pre .0) (start .pre .2), start .pre .1)
+    let third = c .before .before .before .before .before in
+    let second = third .before .before .before .before .before .before in
+    let first = second .before .before .before .before .before .before in
+    let start = first .before .before .before .before .before .before .before .before in
+    let bits-still = third .size-if3 .ensures .2 ∙ second .size-if2 .ensures .2 ∙ first .size-if .ensures .2 in
+    let out-still = third .size-if3 .ensures .3 ∙ second .size-if2 .ensures .3 ∙ first .size-if .ensures .3 in
+    (box-4 (box1 start) (box2 start) (box3 start) (box4 start) (start .pre .0), start .pre .1, roomy-still (start .pre .2) bits-still out-still)
+
+-- the places after the four calls
+abbrev first : tie.After-out4 → tie.After-size-if
+first c = c .before .before .before .before .before .before .before .before .before .before .before .before .before .before .before .before .before .before .before .before .before
+
+abbrev second : tie.After-out4 → tie.After-size-if2
+second c = c .before .before .before .before .before .before .before .before .before .before .before .before .before .before .before
+
+abbrev third : tie.After-out4 → tie.After-size-if3
+third c = c .before .before .before .before .before .before .before .before .before
+
+abbrev fourth : tie.After-out4 → tie.After-size-if4
+fourth c = c .before .before .before
 
 -- the products are small
-last-small : (c : tie.After-size-if4) → c .before .size-if3 .result * c .size-if4 .result ≤ 65536
-last-small c = small-2 (c .before .size-if3 .ensures .1) (c .size-if4 .ensures .1)
+last-small : (c : tie.After-out4) → third c .size-if3 .result * fourth c .size-if4 .result ≤ 65536
+last-small c = small-2 (third c .size-if3 .ensures .1) (fourth c .size-if4 .ensures .1)
 
-others-small : (c : tie.After-size-if4) → c .before .before .size-if2 .result * (c .before .size-if3 .result * c .size-if4 .result) ≤ 16777216
-others-small c = small-3 (c .before .before .size-if2 .ensures .1) (last-small c)
+others-small : (c : tie.After-out4) → second c .size-if2 .result * (third c .size-if3 .result * fourth c .size-if4 .result) ≤ 16777216
+others-small c = small-3 (second c .size-if2 .ensures .1) (last-small c)
 
 cast-last : tie.Need-cast-last
 cast-last c = search needs
@@ -67,14 +92,23 @@ cast-result : tie.Need-cast-result
 cast-result c = search needs
 
 mul-result : tie.Need-mul-result
-mul-result c = omega (arith, small-4 (c .before .before .before .size-if .ensures .1) (others-small c))
+mul-result c = omega (arith, small-4 (first c .size-if .ensures .1) (others-small c))
+
+same-length : tie.Need-same-length
+same-length c = search needs
+
+same-length-2 : tie.Need-same-length-2
+same-length-2 c = search needs
 
 returns : tie.Need-returns
 returns c =
-    let start = c .before .before .before .before .before .before .before .before in
-    let a = start .args in
-    product-of (box1 start) (box2 start) (box3 start) (box4 start) (a .c) (a .count) (start .pre .0 .count-low) (start .pre .0 .count-high)
-    (c .before .before .before .size-if .ensures .0) (c .before .before .size-if2 .ensures .0) (c .before .size-if3 .ensures .0) (c .size-if4 .ensures .0)
+    let start = first c .before .before .before .before .before .before .before .before in
+    let a = start .args in (
+      product-of (box1 start) (box2 start) (box3 start) (box4 start) (a .c) (a .count) (start .pre .0 .count-low) (start .pre .0 .count-high)
+          (first c .size-if .ensures .0) (second c .size-if2 .ensures .0) (third c .size-if3 .ensures .0) (fourth c .size-if4 .ensures .0),
+      same-length c,
+      same-length-2 c,
+    )
 
 pub product-at-spec : {M : Type 1} → statement M
 product-at-spec =
@@ -91,4 +125,6 @@ product-at-spec =
     mul-others
     cast-result
     mul-result
+    same-length
+    same-length-2
     returns)

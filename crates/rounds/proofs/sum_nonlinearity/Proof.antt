@@ -64,14 +64,14 @@ first-box : (c : tie.After-enum-told) → IsBox (box1 (start c))
 first-box c = let s = start c in box-1 (box1 s) (box2 s) (box3 s) (box4 s) (round c)
 
 -- the component that the sweep found
-found : (c : tie.After-sweep) → let s = start (c .before) in Chosen (summed s) (components (s .args .widths .m1) (s .args .i)) (c .sweep .result)
+found : (c : tie.After-largest-product) → let s = start (c .before) in Chosen (summed s) (components (s .args .widths .m1) (s .args .i)) (c .largest-product .result)
 found c =
     let s = start (c .before) in
     let one = in-components (s .args .widths .m1) (s .args .i) 1 (first-mask (s .args .widths .m1) (s .args .i) (first-box (c .before) .m-low) (limit (c .before))) in
-    chosen (summed s) (inputs (c .before)) (components (s .args .widths .m1) (s .args .i)) 1 one (c .sweep .result) (c .sweep .ensures)
+    chosen (summed s) (inputs (c .before)) (components (s .args .widths .m1) (s .args .i)) 1 one (c .largest-product .result) (c .largest-product .ensures)
 
-mask : (c : tie.After-sweep) → let s = start (c .before) in Within (s .args .i) (2 ^ s .args .widths .m1) (c .sweep .result .c)
-mask c = let s = start (c .before) in mem-components (s .args .widths .m1) (s .args .i) (c .sweep .result .c) (found c .member)
+mask : (c : tie.After-largest-product) → let s = start (c .before) in Within (s .args .i) (2 ^ s .args .widths .m1) (c .largest-product .result .c)
+mask c = let s = start (c .before) in mem-components (s .args .widths .m1) (s .args .i) (c .largest-product .result .c) (found c .member)
 
 -- the number of all inputs
 abbrev told : tie.After-inputs-if3 → tie.After-enum-told
@@ -99,8 +99,8 @@ returns c = record { says = reply-refused (sym (c .before .before .before .check
 enum-told : tie.Need-enum-told
 enum-told c = search needs
 
-sweep-requires : tie.Need-sweep-requires
-sweep-requires c κs = (round c, limit c)
+largest-product-requires : tie.Need-largest-product-requires
+largest-product-requires c κs = (round c, limit c)
 
 witness-at-requires : tie.Need-witness-at-requires
 witness-at-requires c κs = let m = mask c in (round (c .before), omega arith, omega arith)
@@ -135,7 +135,7 @@ figure-of-requires c κs =
     let swept = sized .before .before .before .before in (
       omega arith,
       omega (arith, small sized),
-      subst (λ (k : ℕ). swept .sweep .result .size ≤ 2 ^ k) (sym (total-is sized)) (size-within (found swept) (inputs (told sized))),
+      subst (λ (k : ℕ). swept .largest-product .result .size ≤ 2 ^ k) (sym (total-is sized)) (size-within (found swept) (inputs (told sized))),
     )
 
 returns-2 : tie.Need-returns-2
@@ -148,7 +148,7 @@ returns-2 c =
     record {
       says =
           ap (λ (p : Candidate). figures (shown p))
-          (answer-is (found swept) (inputs t) (c .figure-of .ensures ∙ ap (λ (k : ℕ). 2 ^ (k - 1) - swept .sweep .result .size / 2) (total-is sized)) (witnessed .witness-at .ensures))
+          (answer-is (found swept) (inputs t) (c .figure-of .ensures ∙ ap (λ (k : ℕ). 2 ^ (k - 1) - swept .largest-product .result .size / 2) (total-is sized)) (witnessed .witness-at .ensures))
           ∙ ap (λ (m : ℕ). figures (shown (sumNonlinearity (summed s) (components m (s .args .i))))) (sym (widths t))
           ∙ reply-accepted (accepted t) _;
       past = witnessed .witness-at .ensures .past;
@@ -162,7 +162,7 @@ sum-nonlinearity-spec =
     enum-known-checked
     returns
     enum-told
-    sweep-requires
+    largest-product-requires
     witness-at-requires
     inputs-if-requires
     inputs-if-requires-2
