@@ -2,18 +2,14 @@
 use mathlib.Core.Path.{_≡_, sym, ap, ap₂, _∙_}
 use mathlib.Core.Bool.{Bool, true, false, cond}
 use mathlib.Core.List.{List, [], _∷_}
-use Prim.Native.Nat.{ℕ, _≤_}
+use Prim.Native.Nat.{ℕ}
 use native.Mathlib.Nat.{le-refl}
 use native.Mathlib.Omega.{arith}
-use Rattle.boolean.specs.Functions.{swapped}
-use Rattle.boolean.specs.Selection.{Candidate, shown}
+use Rattle.boolean.specs.Selection.{shown}
 use Rattle.refusals.specs.Table.{Box, figures, refusal}
 use Rattle.refusals.proofs.Checks.{limit-accepted, reply-accepted}
-use Rattle.linear.specs.Work.{candidate}
 use Rattle.linear.specs.Nonlinearity.{nonlinearity, nonlinearityReply}
-use Rattle.linear.specs.declared.Found.{Found}
-use Rattle.linear.proofs.Theorems.{nonlinearity-reached}
-use Rattle.swaps.specs.Swaps.{Swap, figureOf, swaps, shownSwap, raised}
+use Rattle.swaps.specs.Swaps.{figureOf, swaps, shownSwap, raised}
 use Rattle.swaps.specs.Calls.{SearchedIn}
 use Rattle.swaps.specs.declared.Searched.{Searched}
 
@@ -22,9 +18,6 @@ module _ {n m : ℕ} {rows : List ℕ} (boxed : Box n m rows) where
   reply-is : nonlinearityReply n m rows m ≡ figures (shown (nonlinearity n m rows m))
   reply-is =
       sym (reply-accepted (limit-accepted n m rows m (record { box = boxed; i-low = boxed .m-low; i-high = le-refl m })) (shown (nonlinearity n m rows m)))
-
-  pub figure-reached : {count c w b : ℕ} → figures (count ∷ c ∷ w ∷ b ∷ []) ≡ nonlinearityReply n m rows m → count ≡ figureOf n m rows
-  figure-reached e = let z = e ∙ reply-is in cc
 
   pub pair-reached : {count c w b : ℕ} → figures (count ∷ c ∷ w ∷ b ∷ []) ≡ nonlinearityReply n m rows m
       → record { figure = count; witness = c ∷ w ∷ b ∷ [] } ≡ nonlinearity n m rows m
@@ -43,8 +36,8 @@ module _ {n m : ℕ} {rows : List ℕ} {s : Searched} (t : SearchedIn n m rows (
   unfolding raised
   shows b e = ap (shownSwap n m rows) (sym (ap (λ (b : Bool). cond b (record { low = s .low; high = s .high } ∷ []) []) e) ∙ t .result)
 
-  pub raised-found : s .found ≡ true → 1 ∷ s .low ∷ s .high ∷ figureOf n m (swapped rows (s .low) (s .high)) ∷ [] ≡ raised n m rows
-  raised-found e = shows true e
+  pub raised-found : s .found ≡ true → 1 ∷ s .low ∷ s .high ∷ s .figure ∷ [] ≡ raised n m rows
+  raised-found e = ap (λ (k : ℕ). 1 ∷ s .low ∷ s .high ∷ k ∷ []) (t .figure-is e) ∙ shows true e
 
   pub raised-none : s .found ≡ false → 0 ∷ 0 ∷ 0 ∷ 0 ∷ [] ≡ raised n m rows
   raised-none e = shows false e

@@ -1,15 +1,15 @@
 -- A swap and one pair: the pair differs at more inputs after it only where it agrees at both of the swapped inputs and the component has unlike
 -- values there. Assumes nothing.
-use mathlib.Core.Path.{_≡_, refl, sym, ap, ap₂, _∙_}
+use mathlib.Core.Path.{_≡_, refl, sym, ap, _∙_}
 use mathlib.Core.Logic.{_≢_}
-use mathlib.Core.Bool.{Bool, true, false, not, cond, _&&_, _||_}
+use mathlib.Core.Bool.{Bool, true, false, not, cond, _||_}
 use mathlib.Core.List.{List}
 use Prim.Native.Nat.{ℕ, zero, suc, _+_, _^_, _<_, _≤_}
 use native.Mathlib.Nat.{le-of-eq, zero-lt-suc}
 use native.Mathlib.Decide.{ℕ-discrete}
 use native.Mathlib.Omega.{arith}
 use borrow.Author.Tests.{leb-true, eq-eqb, ne-eqb}
-use lib.Bits.{bitAnd}
+use lib.Bits.{bitAnd, bitXor}
 use lib.Dec.{T, eqb, leb}
 use lib.ListN.{length, set, length-set}
 use lib.Seq.{getD-set-same, getD-set-other}
@@ -19,7 +19,7 @@ use Rattle.boolean.specs.Sums.{countBelow, one-if}
 use Rattle.boolean.proofs.Cases.{all5}
 use Rattle.boolean.proofs.Counts.{count-cong}
 use Rattle.boolean.proofs.Digits.{affine-lt, component-lt}
-use Rattle.swaps.specs.Calls.{moves}
+use Rattle.swaps.specs.Calls.{entryOf}
 
 -- ---- counts of two tests that differ at one number, and at two
 count-one : (k l : ℕ) (p q : ℕ → Bool) → l < k → ((x : ℕ) → x ≢ l → p x ≡ q x) → countBelow k q + one-if (p l) ≡ countBelow k p + one-if (q l)
@@ -84,10 +84,10 @@ abbrev stays : ℕ → ℕ → ℕ → ℕ → Bool
 stays fl fh al ah = leb (one-if (not (eqb fh al)) + one-if (not (eqb fl ah))) (one-if (not (eqb fl al)) + one-if (not (eqb fh ah)))
 
 abbrev apart : ℕ → ℕ → ℕ → ℕ → Bool
-apart fl fh al ah = eqb fl al && (eqb fh ah && not (eqb fl fh))
+apart fl fh al ah = eqb (bitXor (entryOf fl al) (entryOf fh ah)) 3
 
 bits-stay : (fl fh al ah : ℕ) → fl < 2 → fh < 2 → al < 2 → ah < 2 → apart fl fh al ah ≡ false → stays fl fh al ah ≡ true
-unfolding one-if
+unfolding one-if entryOf
 bits-stay fl fh al ah hf hg ha hb e =
     go (apart fl fh al ah) (stays fl fh al ah) e
     (all5 (λ fl fh al ah z. apart fl fh al ah || stays fl fh al ah) tt fl fh al ah 0 hf hg ha hb (zero-lt-suc 1))
@@ -98,8 +98,9 @@ bits-stay fl fh al ah hf hg ha hb e =
     go false false q h = absurd h
 
 module _ (n : ℕ) (rows : List ℕ) (size : length rows ≡ 2 ^ n) (c w b : ℕ) (hb : b < 2) (l h : ℕ) (hl : l < 2 ^ n) (hh : h < 2 ^ n) where
-  pub pair-stays : moves (component rows c) w b l h ≡ false → distance n (component (swapped rows l h) c) w b ≤ distance n (component rows c) w b
-  unfolding moves distance
+  pub pair-stays : eqb (bitXor (entryOf (component rows c l) (affine w b l)) (entryOf (component rows c h) (affine w b h))) 3 ≡ false
+      → distance n (component (swapped rows l h) c) w b ≤ distance n (component rows c) w b
+  unfolding distance
   pair-stays e = pick (ℕ-discrete (f l) (f h))
     where
       f : ℕ → ℕ
@@ -132,25 +133,3 @@ module _ (n : ℕ) (rows : List ℕ) (size : length rows ≡ 2 ^ n) (c w b : ℕ
             ap (λ (v : ℕ). one-if (not (eqb v (affine w b l)))) (at-low rows l h il ih c ne),
             ap (λ (v : ℕ). one-if (not (eqb v (affine w b h)))) (at-high rows l h il ih c),
           )
-
--- ---- what the code tests
-module _ (f : ℕ → ℕ) (w b l h : ℕ) {fl fh al ah : ℕ} (el : fl ≡ f l) (eh : fh ≡ f h) (nl : al ≡ affine w b l) (nh : ah ≡ affine w b h) where
-  pub differs-low : (fl ≡ al → ⊥) → false ≡ moves f w b l h
-  unfolding moves
-  differs-low d = sym (ap (λ (t : Bool). t && (eqb (f h) (affine w b h) && not (eqb (f l) (f h)))) (ne-eqb (f l) (affine w b l) (λ q. d (el ∙ q ∙ sym nl))))
-
-  pub differs-high : (fh ≡ ah → ⊥) → false ≡ moves f w b l h
-  unfolding moves
-  differs-high d =
-      sym (ap (λ (t : Bool). eqb (f l) (affine w b l) && (t && not (eqb (f l) (f h)))) (ne-eqb (f h) (affine w b h) (λ q. d (eh ∙ q ∙ sym nh)))
-      ∙ never (eqb (f l) (affine w b l)))
-    where
-      never : (t : Bool) → (t && false) ≡ false
-      never true = refl
-      never false = refl
-
-  pub agrees-both : fl ≡ al → fh ≡ ah → not (eqb fl fh) ≡ moves f w b l h
-  unfolding moves
-  agrees-both p q =
-      ap₂ (λ (x y : ℕ). not (eqb x y)) el eh
-      ∙ sym (ap₂ (λ (s t : Bool). s && (t && not (eqb (f l) (f h)))) (eq-eqb (f l) (affine w b l) (sym el ∙ p ∙ nl)) (eq-eqb (f h) (affine w b h) (sym eh ∙ q ∙ nh)))

@@ -1,5 +1,6 @@
 pub mod Firsts
 pub mod Apart
+pub mod Gathering
 pub mod Trying
 pub mod Raising
 pub mod Searches

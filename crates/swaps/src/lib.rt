@@ -4,19 +4,20 @@ use linear::LeastPair;
 use refusals::Checked;
 use refusals::Refusal;
 ghost use mathlib.Core.Path.{_≡_};
-ghost use mathlib.Core.List.{[], _∷_};
-ghost use Prim.Native.Nat.{_+_, _*_, _^_, _≤_, _<_};
+ghost use Prim.Native.Nat.{_+_, _^_, _≤_, _<_};
 ghost use lib.Bits.{bitXor};
 ghost use lib.Count.{ones};
 ghost use lib.ListN.{length};
-ghost use Rattle.boolean.specs.Functions.{component, swapped, Within};
-ghost use Rattle.boolean.specs.Sums.{AnyContent};
+ghost use lib.Seq.{sets};
+ghost use Rattle.boolean.specs.Bits.{dot, affine};
+ghost use Rattle.boolean.specs.Functions.{swapped, Within};
+ghost use Rattle.boolean.specs.Sums.{listBelow, every, AnyContent};
 ghost use Rattle.refusals.specs.Table.{figures, Box};
 ghost use Rattle.walsh.specs.Work.{Spectra};
 ghost use Rattle.linear.specs.Nonlinearity.{nonlinearity};
 ghost use Rattle.linear.specs.Work.{candidate, Swept};
-ghost use Rattle.swaps.specs.Swaps.{figureOf, swapAt, swapsFrom, swapsBy, swaps, raised, raisingReply};
-ghost use Rattle.swaps.specs.Calls.{raisingSwap, moves, Searching, Tried, Passed, SearchedIn};
+ghost use Rattle.swaps.specs.Swaps.{swapAt, swapsFrom, swapsBy, swaps, raised, raisingReply};
+ghost use Rattle.swaps.specs.Calls.{raisingSwap, entryOf, tableOf, apartIn, NearestPair, Gathered, Searching, Tried, Passed, SearchedIn};
 
 // The answer of the call: both inputs and the new figure, none, or a refusal.
 pub enum RaisingSwap {
@@ -25,11 +26,18 @@ pub enum RaisingSwap {
     Declined(Refusal),
 }
 
-// What a part of the search found, and the component to try first next time.
+// What a try of a swap found: no component and the new figure, where it raises the nonlinearity; or else a component that turned it down.
+struct Attempt {
+    mask: u32,
+    figure: u32,
+}
+
+// What a part of the search found, with the new figure, and the component to try first next time.
 struct Searched {
     found: bool,
     low: usize,
     high: usize,
+    figure: u32,
     hint: u32,
 }
 
@@ -43,7 +51,17 @@ fn write_swapped(rows: &[u32], low: usize, high: usize, out: &mut [u32])
     out[high] = rows[low];
 }
 
-// 0, where the nonlinearity is above a count. Or else a component with a pair of that count or less, found as soon as there is one: the
+// A try that a component turned down.
+fn turned_down(by: u32) -> Attempt
+    ensures { λ r. ⌜ (r .mask ≡ by) × (r .figure ≡ 0) ⌝ }
+{
+    Attempt {
+        mask: by,
+        figure: 0,
+    }
+}
+
+// The nonlinearity, where it is above a count. Or else a component with a pair of that count or less, found as soon as there is one: the
 // component `hint` is tried before the others. The two arrays are lent to work in.
 fn reaching(
     fixed: &[i32; 2048],
@@ -54,23 +72,31 @@ fn reaching(
     hint: u32,
     bits: &mut [u8],
     out: &mut [i32],
-) -> u32
+) -> Attempt
     requires { ⌜ Swept n m (now rows) (now bits) (now out) × Spectra (now fixed) × Within m (2 ^ m) hint × (m ≤ 8) ⌝ }
     ensures { λ r. ⌜ Tried n m (now (rows .entry)) count r
         × AnyContent (now (bits .entry)) (now (bits .exit)) × AnyContent (now (out .entry)) (now (out .exit)) ⌝ }
 {
     if linear::component_count(fixed, n, m, rows, hint, bits, out) <= count {
-        return hint;
+        return turned_down(hint);
     }
     let masks = boolean::power_of_two(m) as u32;
+    let mut least = rows.len() as u32;
     let mut c: u32 = 1;
     while c < masks {
-        if linear::component_count(fixed, n, m, rows, c, bits, out) <= count {
-            return c;
+        let near = linear::component_count(fixed, n, m, rows, c, bits, out);
+        if near <= count {
+            return turned_down(c);
+        }
+        if near < least {
+            least = near;
         }
         c += 1;
     }
-    0
+    Attempt {
+        mask: 0,
+        figure: least,
+    }
 }
 
 // In how many bits two rows differ.
@@ -80,36 +106,98 @@ fn differing(a: u32, b: u32) -> u32
     u32::count_ones(a ^ b)
 }
 
-// Whether a swap takes the present pair apart: it agrees at both inputs, and its component's values there are unlike. No other swap raises
-// the nonlinearity.
-fn pair_moves(rows: &[u32], pair: Found, low: usize, high: usize) -> bool
-    requires { ⌜ (low < length (now rows)) × (high < length (now rows)) × (length (now rows) ≤ 256) ⌝ }
-    ensures { λ r. ⌜ r ≡ moves (component (now (rows .entry)) (pair .c)) (pair .w) (pair .b) low high ⌝ }
+// What the table of a pair has at an input x: 0 where the component differs from the affine function, and else 1 plus its value.
+fn table_entry(row: u32, x: u32, pair: Found) -> u8
+    ensures { λ r. ⌜ r ≡ entryOf (dot row (pair .c)) (affine (pair .w) (pair .b) x) ⌝ }
 {
-    let c = pair.c;
-    let w = pair.w;
-    let b = pair.b;
-    let at_low = boolean::dot(rows[low], c);
-    let at_high = boolean::dot(rows[high], c);
-    let near_low = boolean::dot(w, low as u32) ^ b;
-    let near_high = boolean::dot(w, high as u32) ^ b;
-    if at_low != near_low {
-        return false;
+    let value = boolean::dot(row, pair.c);
+    let near = boolean::dot(pair.w, x) ^ pair.b;
+    if value != near {
+        return 0;
     }
-    if at_high != near_high {
-        return false;
-    }
-    at_low != at_high
+    value as u8 + 1
 }
 
-// One swap, if its rows differ in d bits: 0 where it raises the nonlinearity, or else the component to try first next time. The test that
-// turns most swaps down comes first.
+// The table of a pair, written from a start on.
+fn write_table(rows: &[u32], pair: Found, start: usize, tables: &mut [u8])
+    requires { ⌜ (length (now rows) ≤ 256) × (start + length (now rows) ≤ 4096) × (length (now tables) ≡ 4096) ⌝ }
+    ensures { λ _. ⌜ now (tables .exit) ≡ sets (now (tables .entry)) start (tableOf (now (rows .entry)) pair) ⌝ }
+{
+    let mut x = 0;
+    while x < rows.len() {
+        tables[start + x] = table_entry(rows[x], x as u32, pair);
+        x += 1;
+    }
+}
+
+// The tables of up to 16 nearest pairs, one every 256 bytes, and how many they are: that of the present witness, and from six inputs on also
+// those of the first nearest pair of each component that has one. (With fewer inputs the whole search takes less time than to gather them.)
+fn gather_pairs(
+    fixed: &[i32; 2048],
+    n: u32,
+    m: u32,
+    rows: &[u32],
+    present: Found,
+    bits: &mut [u8],
+    out: &mut [i32],
+    tables: &mut [u8],
+) -> usize
+    requires { ⌜ Swept n m (now rows) (now bits) (now out) × Spectra (now fixed) × (m ≤ 8)
+        × NearestPair n m (now rows) (present .count) present × (length (now tables) ≡ 4096) ⌝ }
+    ensures { λ r. ⌜ Gathered n m (now (rows .entry)) (present .count) (now (tables .exit)) r
+        × AnyContent (now (bits .entry)) (now (bits .exit)) × AnyContent (now (out .entry)) (now (out .exit)) ⌝ }
+{
+    write_table(rows, present, 0, tables);
+    if n < 6 {
+        return 1;
+    }
+    let figure = present.count;
+    let mut farther = present;
+    farther.count = figure + 1;
+    let masks = boolean::power_of_two(m) as u32;
+    let mut count: usize = 1;
+    let mut mask: u32 = 1;
+    while mask < masks {
+        if count == 16 {
+            return count;
+        }
+        linear::component_spectrum(fixed, n, m, rows, mask, bits, out);
+        let pair = linear::with_spectrum(farther, n, m, rows, mask, out);
+        if pair.count == figure {
+            write_table(rows, pair, 256 * count, tables);
+            count += 1;
+        }
+        mask += 1;
+    }
+    count
+}
+
+// Whether a swap takes every gathered pair apart: that pair agrees at both inputs, and its component's values there are unlike, so that its
+// entries are 1 and 2. No other swap raises the nonlinearity.
+fn all_apart(tables: &[u8], count: usize, low: usize, high: usize) -> bool
+    requires { ⌜ (length (now tables) ≡ 4096) × (count ≤ 16) × (low < 256) × (high < 256) ⌝ }
+    ensures { λ r. ⌜ r ≡ every (apartIn (now (tables .entry)) low high) (listBelow count (λ k. k)) ⌝ }
+{
+    let mut k = 0;
+    while k < count {
+        if tables[256 * k + low] ^ tables[256 * k + high] != 3 {
+            return false;
+        }
+        k += 1;
+    }
+    true
+}
+
+// One swap, if its rows differ in d bits: the new figure where it raises the nonlinearity, or else the component to try first next time.
+// The test that turns most swaps down comes first.
 fn try_swap(
     fixed: &[i32; 2048],
     n: u32,
     m: u32,
     rows: &[u32],
-    pair: Found,
+    figure: u32,
+    tables: &[u8],
+    count: usize,
     hint: u32,
     d: u32,
     low: usize,
@@ -117,22 +205,21 @@ fn try_swap(
     work: &mut [u32],
     bits: &mut [u8],
     out: &mut [i32],
-) -> u32
-    requires { ⌜ Searching n m (now rows) pair (now work) (now bits) (now out) × Spectra (now fixed) × Within m (2 ^ m) hint
+) -> Attempt
+    requires { ⌜ Searching n m (now rows) figure (now tables) count (now work) (now bits) (now out) × Spectra (now fixed) × Within m (2 ^ m) hint
         × (low < 2 ^ n) × (high < 2 ^ n) ⌝ }
     ensures { λ r. ⌜ Passed n m (now (rows .entry)) (swapAt (now (rows .entry)) d low high) low high r
         × AnyContent (now (work .entry)) (now (work .exit)) × AnyContent (now (bits .entry)) (now (bits .exit))
         × AnyContent (now (out .entry)) (now (out .exit)) ⌝ }
 {
-    if !pair_moves(rows, pair, low, high) {
-        return hint;
+    if !all_apart(tables, count, low, high) {
+        return turned_down(hint);
     }
     if differing(rows[low], rows[high]) != d {
-        return hint;
+        return turned_down(hint);
     }
     write_swapped(rows, low, high, work);
-    let count = pair.count;
-    reaching(fixed, n, m, work, count, hint, bits, out)
+    reaching(fixed, n, m, work, figure, hint, bits, out)
 }
 
 // The swaps of one input with each higher one.
@@ -141,7 +228,9 @@ fn search_from(
     n: u32,
     m: u32,
     rows: &[u32],
-    pair: Found,
+    figure: u32,
+    tables: &[u8],
+    count: usize,
     start: u32,
     d: u32,
     low: usize,
@@ -149,7 +238,7 @@ fn search_from(
     bits: &mut [u8],
     out: &mut [i32],
 ) -> Searched
-    requires { ⌜ Searching n m (now rows) pair (now work) (now bits) (now out) × Spectra (now fixed) × Within m (2 ^ m) start
+    requires { ⌜ Searching n m (now rows) figure (now tables) count (now work) (now bits) (now out) × Spectra (now fixed) × Within m (2 ^ m) start
         × (low < 2 ^ n) ⌝ }
     ensures { λ r. ⌜ SearchedIn n m (now (rows .entry)) (swapsFrom n (now (rows .entry)) d low) r
         × AnyContent (now (work .entry)) (now (work .exit)) × AnyContent (now (bits .entry)) (now (bits .exit))
@@ -158,22 +247,39 @@ fn search_from(
     let mut hint = start;
     let mut high = low + 1;
     while high < rows.len() {
-        let next = try_swap(fixed, n, m, rows, pair, hint, d, low, high, work, bits, out);
-        if next == 0 {
+        let next = try_swap(
+            fixed,
+            n,
+            m,
+            rows,
+            figure,
+            tables,
+            count,
+            hint,
+            d,
+            low,
+            high,
+            work,
+            bits,
+            out,
+        );
+        if next.mask == 0 {
             return Searched {
                 found: true,
                 low,
                 high,
+                figure: next.figure,
                 hint,
             };
         }
-        hint = next;
+        hint = next.mask;
         high += 1;
     }
     Searched {
         found: false,
         low: 0,
         high: 0,
+        figure: 0,
         hint,
     }
 }
@@ -184,14 +290,16 @@ fn search_by(
     n: u32,
     m: u32,
     rows: &[u32],
-    pair: Found,
+    figure: u32,
+    tables: &[u8],
+    count: usize,
     start: u32,
     d: u32,
     work: &mut [u32],
     bits: &mut [u8],
     out: &mut [i32],
 ) -> Searched
-    requires { ⌜ Searching n m (now rows) pair (now work) (now bits) (now out) × Spectra (now fixed) × Within m (2 ^ m) start ⌝ }
+    requires { ⌜ Searching n m (now rows) figure (now tables) count (now work) (now bits) (now out) × Spectra (now fixed) × Within m (2 ^ m) start ⌝ }
     ensures { λ r. ⌜ SearchedIn n m (now (rows .entry)) (swapsBy n (now (rows .entry)) d) r
         × AnyContent (now (work .entry)) (now (work .exit)) × AnyContent (now (bits .entry)) (now (bits .exit))
         × AnyContent (now (out .entry)) (now (out .exit)) ⌝ }
@@ -199,7 +307,21 @@ fn search_by(
     let mut hint = start;
     let mut low = 0;
     while low < rows.len() {
-        let part = search_from(fixed, n, m, rows, pair, hint, d, low, work, bits, out);
+        let part = search_from(
+            fixed,
+            n,
+            m,
+            rows,
+            figure,
+            tables,
+            count,
+            hint,
+            d,
+            low,
+            work,
+            bits,
+            out,
+        );
         if part.found {
             return part;
         }
@@ -210,6 +332,7 @@ fn search_by(
         found: false,
         low: 0,
         high: 0,
+        figure: 0,
         hint,
     }
 }
@@ -220,13 +343,15 @@ fn search(
     n: u32,
     m: u32,
     rows: &[u32],
-    pair: Found,
+    figure: u32,
+    tables: &[u8],
+    count: usize,
     start: u32,
     work: &mut [u32],
     bits: &mut [u8],
     out: &mut [i32],
 ) -> Searched
-    requires { ⌜ Searching n m (now rows) pair (now work) (now bits) (now out) × Spectra (now fixed) × Within m (2 ^ m) start ⌝ }
+    requires { ⌜ Searching n m (now rows) figure (now tables) count (now work) (now bits) (now out) × Spectra (now fixed) × Within m (2 ^ m) start ⌝ }
     ensures { λ r. ⌜ SearchedIn n m (now (rows .entry)) (swaps n m (now (rows .entry))) r
         × AnyContent (now (work .entry)) (now (work .exit)) × AnyContent (now (bits .entry)) (now (bits .exit))
         × AnyContent (now (out .entry)) (now (out .exit)) ⌝ }
@@ -234,7 +359,20 @@ fn search(
     let mut hint = start;
     let mut d = 1;
     while d <= m {
-        let part = search_by(fixed, n, m, rows, pair, hint, d, work, bits, out);
+        let part = search_by(
+            fixed,
+            n,
+            m,
+            rows,
+            figure,
+            tables,
+            count,
+            hint,
+            d,
+            work,
+            bits,
+            out,
+        );
         if part.found {
             return part;
         }
@@ -245,46 +383,63 @@ fn search(
         found: false,
         low: 0,
         high: 0,
+        figure: 0,
         hint,
     }
 }
 
-// The answer for a swap that was found. (The rows after it are a box, so they have a nonlinearity.)
-fn finish(n: u32, m: u32, rows: &[u32], low: usize, high: usize, other: &mut [u32]) -> RaisingSwap
-    requires { ⌜ Box n m (now rows) × (length (now other) ≡ 2 ^ n) × (low < 2 ^ n) × (high < 2 ^ n) ⌝ }
-    ensures { λ r. ⌜ (raisingSwap r ≡ figures (1 ∷ low ∷ high ∷ figureOf n m (swapped (now (rows .entry)) low high) ∷ []))
-        × (now (other .exit) ≡ swapped (now (rows .entry)) low high) ⌝ }
+// The nearest pairs are gathered from the present witness on, and all swaps are searched with their tables.
+fn gather_and_search(
+    fixed: &[i32; 2048],
+    n: u32,
+    m: u32,
+    rows: &[u32],
+    present: Found,
+    tables: &mut [u8],
+    work: &mut [u32],
+    bits: &mut [u8],
+    out: &mut [i32],
+) -> Searched
+    requires { ⌜ Swept n m (now rows) (now bits) (now out) × Spectra (now fixed) × (m ≤ 8)
+        × (candidate present ≡ nonlinearity n m (now rows) m) × (length (now tables) ≡ 4096) × (length (now work) ≡ 2 ^ n) ⌝ }
+    ensures { λ r. ⌜ SearchedIn n m (now (rows .entry)) (swaps n m (now (rows .entry))) r
+        × AnyContent (now (tables .entry)) (now (tables .exit)) × AnyContent (now (work .entry)) (now (work .exit))
+        × AnyContent (now (bits .entry)) (now (bits .exit)) × AnyContent (now (out .entry)) (now (out .exit)) ⌝ }
 {
-    write_swapped(rows, low, high, other);
-    let later = linear::nonlinearity(n, m, other, m);
-    let LeastPair::Reached { count, c, w, b } = later else {
-        return RaisingSwap::NoSwap;
-    };
-    RaisingSwap::Raised {
-        low: low as u32,
-        high: high as u32,
-        figure: count,
-    }
+    let count = gather_pairs(fixed, n, m, rows, present, bits, out, tables);
+    search(
+        fixed,
+        n,
+        m,
+        rows,
+        present.count,
+        tables,
+        count,
+        present.c,
+        work,
+        bits,
+        out,
+    )
 }
 
 // The search in an accepted box, from the present witness on.
-fn search_box(n: u32, m: u32, rows: &[u32], pair: Found) -> RaisingSwap
-    requires { ⌜ Box n m (now rows) × (m ≤ 8) × (candidate pair ≡ nonlinearity n m (now rows) m) ⌝ }
+fn search_box(n: u32, m: u32, rows: &[u32], present: Found) -> RaisingSwap
+    requires { ⌜ Box n m (now rows) × (m ≤ 8) × (candidate present ≡ nonlinearity n m (now rows) m) ⌝ }
     ensures { λ r. ⌜ raisingSwap r ≡ figures (raised n m (now (rows .entry))) ⌝ }
 {
     let fixed = walsh::spectra();
+    let mut tables = [0u8; 4096];
     let mut work = [0u32; 256];
     let mut bits = [0u8; 256];
     let mut out = [0i32; 256];
     let size = rows.len();
-    let start = pair.c;
-    let place = search(
+    let place = gather_and_search(
         &fixed,
         n,
         m,
         rows,
-        pair,
-        start,
+        present,
+        &mut tables,
         &mut work[..size],
         &mut bits[..size],
         &mut out[..size],
@@ -294,8 +449,11 @@ fn search_box(n: u32, m: u32, rows: &[u32], pair: Found) -> RaisingSwap
     }
     let low = place.low;
     let high = place.high;
-    let mut later = [0u32; 256];
-    finish(n, m, rows, low, high, &mut later[..size])
+    RaisingSwap::Raised {
+        low: low as u32,
+        high: high as u32,
+        figure: place.figure,
+    }
 }
 
 // The first swap of two unlike rows that raises the nonlinearity over all combinations, by the number of bits in which the rows differ, the

@@ -1,32 +1,37 @@
--- `swaps::reaching` meets its contract: the nearest pairs of the components before c differ at more inputs. Assumes nothing.
+-- `swaps::reaching` meets its contract: the nearest pairs of the components before c differ at more inputs, and the nearest of them is kept.
+-- Assumes nothing.
 use mathlib.Core.Path.{sym, _∙_}
-use Prim.Native.Nat.{_-_}
+use mathlib.Core.Logic.{⊎-elim}
+use Prim.Native.Nat.{_-_, _^_, _<_}
 use native.Mathlib.Omega.{arith}
 use borrow.Author.Needs.{needs}
 use lib.Pow.{pow-mono}
-use Rattle.swaps.proofs.Trying.{Reaching, again, reaching-starts, reaching-next, reaching-ends, reaches}
+use Rattle.swaps.proofs.Trying.{Reaching, again, reaching-starts, reaching-lower, reaching-same, reaching-ends, reaches}
 use Rattle.swaps.proofs.reaching.Statement.{statement}
 use Rattle.swaps.proofs.reaching.Tie as tie
 
 abbrev Inv-loop : tie.InvT-loop
-Inv-loop fixed n m rows count hint bits₀ out₀ masks c₀ bits out c = Reaching n m rows count bits out c
+Inv-loop fixed n m rows count hint bits₀ out₀ masks least₀ c₀ bits out least c = Reaching n m rows count bits out least c
 
 abbrev μ-loop : tie.MeasureT-loop
-μ-loop fixed n m rows count hint bits₀ out₀ masks c₀ bits out c = masks - c
+μ-loop fixed n m rows count hint bits₀ out₀ masks least₀ c₀ bits out least c = masks - c
 
 component-count-requires : tie.Need-component-count-requires Inv-loop μ-loop
 component-count-requires c κs = (c .before .before .before .before .pre .0, c .before .before .before .before .pre .1)
 
+turned-down-requires : tie.Need-turned-down-requires Inv-loop μ-loop
+turned-down-requires c κs = search needs
+
 same-length : tie.Need-same-length Inv-loop μ-loop
-same-length c = c .before .before .before .bits .given
+same-length c = c .before .before .before .before .bits .given
 
 same-length-2 : tie.Need-same-length-2 Inv-loop μ-loop
-same-length-2 c = c .before .out .given
+same-length-2 c = c .before .before .out .given
 
 returns : tie.Need-returns Inv-loop μ-loop
 returns c =
-    let hint = c .before .before .before .before .before .before .before .before .before .pre .2 in
-    (reaches (hint .low) (hint .high) (c .before .before .before .before .component-count .ensures .0) (c .if1 .taken), search needs, search needs)
+    let a = c .before .before .before .before .before .before .before .before .before .before in
+    (reaches (a .args .hint) (c .turned-down .ensures .0) (a .pre .2 .low) (a .pre .2 .high) (c .before .before .before .before .before .component-count .ensures .0) (c .before .if1 .taken), search needs, search needs)
 
 power-of-two-requires : tie.Need-power-of-two-requires Inv-loop μ-loop
 power-of-two-requires c κs = c .before .before .before .before .before .before .before .before .before .pre .0 .box .m-high
@@ -36,40 +41,52 @@ cast-masks c =
     let most = pow-mono {j = 8} (c .before .before .before .before .before .before .before .before .before .before .pre .3) in
     omega (arith, c .power-of-two .ensures .0)
 
+cast-least : tie.Need-cast-least Inv-loop μ-loop
+cast-least c = omega (arith, c .before .before .before .before .before .before .before .before .before .before .pre .0 .box .small)
+
 loop-holds : tie.Need-loop-holds Inv-loop μ-loop
 loop-holds c = reaching-starts (again (c .before .before .before .before .before .before .before .before .before .before .pre .0) (c .before .before .before .before .bits .given) (c .before .before .out .given))
+
+-- the component is one of the box
+inside : (c : tie.In-loop Inv-loop μ-loop) → c .before .loop .c < 2 ^ c .before .before .before .before .before .before .before .before .before .before .before .before .args .m
+inside c = omega (arith, c .loop-test .taken, c .before .before .power-of-two .ensures .0)
 
 component-count-requires-2 : tie.Need-component-count-requires-2 Inv-loop μ-loop
 component-count-requires-2 c κs = (c .before .before .before .loop .inv .arrays, c .before .before .before .before .before .before .before .before .before .before .before .before .before .before .pre .1)
 
+turned-down-requires-2 : tie.Need-turned-down-requires-2 Inv-loop μ-loop
+turned-down-requires-2 c κs = search needs
+
 same-length-3 : tie.Need-same-length-3 Inv-loop μ-loop
-same-length-3 c = c .before .before .before .bits2 .given ∙ c .before .before .before .before .before .before .before .before .loop .inv .arrays .table-size ∙ sym (c .before .before .before .before .before .before .before .before .before .before .before .before .before .before .before .before .before .before .before .pre .0 .table-size)
+same-length-3 c = c .before .before .before .before .bits2 .given ∙ c .before .before .before .before .before .before .before .before .before .loop .inv .arrays .table-size ∙ sym (c .before .before .before .before .before .before .before .before .before .before .before .before .before .before .before .before .before .before .before .before .pre .0 .table-size)
 
 same-length-4 : tie.Need-same-length-4 Inv-loop μ-loop
-same-length-4 c = c .before .out2 .given ∙ c .before .before .before .before .before .before .before .before .loop .inv .arrays .out-size ∙ sym (c .before .before .before .before .before .before .before .before .before .before .before .before .before .before .before .before .before .before .before .pre .0 .out-size)
+same-length-4 c = c .before .before .out2 .given ∙ c .before .before .before .before .before .before .before .before .before .loop .inv .arrays .out-size ∙ sym (c .before .before .before .before .before .before .before .before .before .before .before .before .before .before .before .before .before .before .before .before .pre .0 .out-size)
 
 returns-2 : tie.Need-returns-2 Inv-loop μ-loop
 returns-2 c =
-    let i = c .before .before .before .before .before .before .before .before .loop .inv in (
-      reaches (i .c-low)
-          (omega (arith, c .before .before .before .before .before .before .before .loop-test .taken, c .before .before .before .before .before .before .before .before .before .power-of-two .ensures .0))
-          (c .before .before .before .before .component-count2 .ensures .0) (c .if2 .taken),
+    let at-loop = c .before .before .before .before .before .before .before .before .before in (
+      reaches (at-loop .loop .c) (c .turned-down2 .ensures .0) (at-loop .loop .inv .c-low) (inside (c .before .before .before .before .before .before .before .before)) (c .before .before .before .before .before .component-count2 .ensures .0) (c .before .if2 .taken),
       search needs,
       search needs,
     )
 
 add-c : tie.Need-add-c Inv-loop μ-loop
 add-c c =
-    let most = pow-mono {j = 8} (c .before .before .before .before .before .before .before .before .before .before .before .before .before .before .before .before .before .before .before .pre .3) in
-    omega (arith, c .before .before .before .before .before .before .before .loop-test .taken, c .before .before .before .before .before .before .before .before .before .power-of-two .ensures .0)
+    let most = pow-mono {j = 8} (c .before .before .before .before .before .before .before .before .before .before .before .before .before .before .before .before .before .before .before .before .pre .3) in
+    omega (arith, inside (c .before .before .before .before .before .before .before .before))
 
 loop-less : tie.Need-loop-less Inv-loop μ-loop
 loop-less c = search needs
 
 loop-again : tie.Need-loop-again Inv-loop μ-loop
 loop-again c =
-    let i = c .before .before .before .before .before .before .before .before .loop .inv in
-    reaching-next i (again (i .arrays) (c .before .before .before .bits2 .given) (c .before .out2 .given)) (c .before .before .before .before .component-count2 .ensures .0) (c .if2 .left)
+    let i = c .before .before .before .before .before .before .before .before .before .loop .inv in
+    let arrays = again (i .arrays) (c .before .before .before .before .bits2 .given) (c .before .before .out2 .given) in
+    let counted = c .before .before .before .before .before .component-count2 .ensures .0 in
+    ⊎-elim
+    (λ t. rw (t .1) (reaching-lower i arrays (inside (c .before .before .before .before .before .before .before .before)) counted (c .before .if2 .left) (t .0 .taken)))
+    (λ t. rw (t .1) (reaching-same i arrays (inside (c .before .before .before .before .before .before .before .before)) counted (c .before .if2 .left) (t .0 .left))) (c .if3 .came)
 
 same-length-5 : tie.Need-same-length-5 Inv-loop μ-loop
 same-length-5 c = c .before .loop .inv .arrays .table-size ∙ sym (c .before .before .before .before .before .before .before .before .before .before .before .before .pre .0 .table-size)
@@ -78,8 +95,7 @@ same-length-6 : tie.Need-same-length-6 Inv-loop μ-loop
 same-length-6 c = c .before .loop .inv .arrays .out-size ∙ sym (c .before .before .before .before .before .before .before .before .before .before .before .before .pre .0 .out-size)
 
 returns-3 : tie.Need-returns-3 Inv-loop μ-loop
-returns-3 c =
-    (reaching-ends (c .before .loop .inv) (omega (arith, c .loop-test .left, c .before .before .power-of-two .ensures .0)), search needs, search needs)
+returns-3 c = (reaching-ends (c .before .loop .inv) (omega (arith, c .loop-test .left, c .before .before .power-of-two .ensures .0)), search needs, search needs)
 
 pub reaching-spec : {M : Type 1} → statement M
 reaching-spec =
@@ -88,13 +104,16 @@ reaching-spec =
     Inv-loop
     μ-loop
     component-count-requires
+    turned-down-requires
     same-length
     same-length-2
     returns
     power-of-two-requires
     cast-masks
+    cast-least
     loop-holds
     component-count-requires-2
+    turned-down-requires-2
     same-length-3
     same-length-4
     returns-2

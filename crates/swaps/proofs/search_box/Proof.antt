@@ -1,11 +1,13 @@
 -- `swaps::search_box` meets its contract: the answer for the swap that the search found, or none. Assumes nothing.
 use mathlib.Core.Path.{sym, ap, _∙_}
+use Prim.Native.Nat.{ℕ, _^_, _<_}
+use native.Mathlib.Omega.{arith}
 use borrow.Author.Tests.{not-true, not-false}
+use lib.ListN.{length-replicate}
 use lib.Seq.{length-take-le}
 use Rattle.refusals.specs.Table.{figures}
 use Rattle.swaps.proofs.Accepted.{raised-found, raised-none}
 use Rattle.swaps.proofs.Members.{found-inside}
-use Rattle.swaps.proofs.Raising.{witness}
 use borrow.Author.Needs.{needs}
 use Rattle.swaps.proofs.search_box.Statement.{statement}
 use Rattle.swaps.proofs.search_box.Tie as tie
@@ -13,72 +15,69 @@ use Rattle.swaps.proofs.search_box.Tie as tie
 spectra-requires : tie.Need-spectra-requires
 spectra-requires c κs = search needs
 
-array-borrow-prefix-work : tie.Need-array-borrow-prefix-work
-array-borrow-prefix-work c = c .before .before .before .pre .0 .small
+slice-aggregate-gather-and-search : tie.Need-slice-aggregate-gather-and-search
+slice-aggregate-gather-and-search c = search needs
 
-slice-aggregate-search : tie.Need-slice-aggregate-search
-slice-aggregate-search c = sym (length-take-le _ _ (c .before .before .before .before .pre .0 .small))
+array-borrow-prefix-work : tie.Need-array-borrow-prefix-work
+array-borrow-prefix-work c = c .before .before .before .before .pre .0 .small
+
+slice-aggregate-gather-and-search-2 : tie.Need-slice-aggregate-gather-and-search-2
+slice-aggregate-gather-and-search-2 c = sym (length-take-le _ _ (c .before .before .before .before .before .pre .0 .small))
 
 array-borrow-prefix-bits : tie.Need-array-borrow-prefix-bits
-array-borrow-prefix-bits c = c .before .before .before .before .pre .0 .small
+array-borrow-prefix-bits c = c .before .before .before .before .before .pre .0 .small
 
-slice-aggregate-search-2 : tie.Need-slice-aggregate-search-2
-slice-aggregate-search-2 c = sym (length-take-le _ _ (c .before .before .before .before .before .pre .0 .small))
+slice-aggregate-gather-and-search-3 : tie.Need-slice-aggregate-gather-and-search-3
+slice-aggregate-gather-and-search-3 c = sym (length-take-le _ _ (c .before .before .before .before .before .before .pre .0 .small))
 
 array-borrow-prefix-out : tie.Need-array-borrow-prefix-out
-array-borrow-prefix-out c = c .before .before .before .before .before .pre .0 .small
+array-borrow-prefix-out c = c .before .before .before .before .before .before .pre .0 .small
 
-slice-aggregate-search-3 : tie.Need-slice-aggregate-search-3
-slice-aggregate-search-3 c = sym (length-take-le _ _ (c .before .before .before .before .before .before .pre .0 .small))
+slice-aggregate-gather-and-search-4 : tie.Need-slice-aggregate-gather-and-search-4
+slice-aggregate-gather-and-search-4 c = sym (length-take-le _ _ (c .before .before .before .before .before .before .before .pre .0 .small))
 
-search-requires : tie.Need-search-requires
-search-requires c κs =
-    let start = c .before .before .before .before .before .before in
+gather-and-search-requires : tie.Need-gather-and-search-requires
+gather-and-search-requires c κs =
+    let start = c .before .before .before .before .before .before .before in
     let box = start .pre .0 in (
-      record {
-        box = box;
-        few = start .pre .1;
-        present-is = start .pre .2;
-        other-size = length-take-le _ _ (box .small) ∙ box .size;
-        table-size = length-take-le _ _ (box .small) ∙ box .size;
-        values-size = length-take-le _ _ (box .small) ∙ box .size;
-      },
-      c .before .before .before .before .spectra .ensures,
-      witness box (start .pre .2) .0 .mask,
+      record { box = box; table-size = length-take-le _ _ (box .small) ∙ box .size; out-size = length-take-le _ _ (box .small) ∙ box .size },
+      c .before .before .before .before .before .spectra .ensures,
+      start .pre .1,
+      start .pre .2,
+      length-replicate {A = ℕ} 4096 0,
+      length-take-le _ _ (box .small) ∙ box .size,
     )
 
 returns : tie.Need-returns
-returns c = ap figures (raised-none (c .before .before .before .before .before .search .ensures .0) (not-true _ (c .if1 .taken)))
+returns c = ap figures (raised-none (c .before .before .before .before .before .before .gather-and-search .ensures .0) (not-true _ (c .if1 .taken)))
 
-array-borrow-prefix-later : tie.Need-array-borrow-prefix-later
-array-borrow-prefix-later c = c .before .before .before .before .before .before .before .before .before .before .before .before .pre .0 .small
+-- a swap that was found lies within the rows
+inside : (c : tie.Else1) → let place = c .before .before .before .before .before .before .gather-and-search .result in let a = c .before .before .before .before .before .before .before .before .before .before .before .before .before .before .args in (place .low < 2 ^ a .n) × (place .high < 2 ^ a .n)
+inside c = found-inside (c .before .before .before .before .before .before .gather-and-search .ensures .0) (not-false _ (c .if1 .left))
 
-slice-aggregate-finish : tie.Need-slice-aggregate-finish
-slice-aggregate-finish c = sym (length-take-le _ _ (c .before .before .before .before .before .before .before .before .before .before .before .before .before .pre .0 .small))
+cast-t25 : tie.Need-cast-t25
+cast-t25 c = let box = c .before .before .before .before .before .before .before .before .before .before .before .before .before .before .pre .0 in omega (arith, inside c .0, box .size, box .small)
 
-finish-requires : tie.Need-finish-requires
-finish-requires c κs =
-    let box = c .before .before .before .before .before .before .before .before .before .before .before .before .before .pre .0 in
-    let inside = found-inside (c .before .before .before .before .before .before .search .ensures .0) (not-false _ (c .before .if1 .left)) in
-    (box, length-take-le _ _ (box .small) ∙ box .size, inside .0, inside .1)
+cast-t26 : tie.Need-cast-t26
+cast-t26 c = let box = c .before .before .before .before .before .before .before .before .before .before .before .before .before .before .pre .0 in omega (arith, inside c .1, box .size, box .small)
 
 returns-2 : tie.Need-returns-2
-returns-2 c = c .before .finish .ensures .0 ∙ ap figures (raised-found (c .before .before .before .before .before .before .before .before .search .ensures .0) (not-false _ (c .before .before .before .if1 .left)))
+returns-2 c = ap figures (raised-found (c .before .before .before .before .before .before .gather-and-search .ensures .0) (not-false _ (c .if1 .left)))
 
 pub search-box-spec : {M : Type 1} → statement M
 search-box-spec =
     tie.close
     (tie.spec
     spectra-requires
+    slice-aggregate-gather-and-search
     array-borrow-prefix-work
-    slice-aggregate-search
+    slice-aggregate-gather-and-search-2
     array-borrow-prefix-bits
-    slice-aggregate-search-2
+    slice-aggregate-gather-and-search-3
     array-borrow-prefix-out
-    slice-aggregate-search-3
-    search-requires
+    slice-aggregate-gather-and-search-4
+    gather-and-search-requires
     returns
-    array-borrow-prefix-later
-    slice-aggregate-finish
-    finish-requires
+    cast-t25
+    cast-t26
     returns-2)
