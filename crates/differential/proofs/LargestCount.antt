@@ -13,10 +13,10 @@ use Rattle.boolean.specs.Sums.{countBelow, one-if}
 use Rattle.boolean.specs.Functions.{at, Below, occurrences}
 use Rattle.boolean.proofs.Counts.{count-cong}
 use Rattle.boolean.proofs.Counted.{count-no}
-use Rattle.differential.specs.Running.{risenAt, higherOf, LargestSoFar}
+use Rattle.differential.specs.Running.{risenAt, higherOf, LargestSoFar, numberIn, InRow}
 use Rattle.differential.specs.Work.{CellsAfter, reaching, RunningCells}
 use Rattle.sorting.proofs.Occurrences.{occurs-more, occurs-same, occurs-le}
-use Rattle.differential.proofs.Rises.{running-none, takes-higher, keeps-higher, largest-is}
+use Rattle.differential.proofs.Rises.{running-none, takes-higher, keeps-higher, largest-is, higher-in-row}
 
 -- a test that passes at one number more counts one more
 count-one-more : (k : ℕ) (p q : ℕ → Bool) (v : ℕ) → v < k → p v ≡ false → q v ≡ true → ((u : ℕ) → (u ≡ v → ⊥) → p u ≡ q u) → countBelow k q ≡ countBelow k p + 1
@@ -128,3 +128,23 @@ module _ {values : List ℕ} {y best cells : ℕ} (t : RunningCells values y bes
           let k : value ≤ best = omega arith in
           let is : largest ≡ after-rise .largest = omega (arith, largest-is (t .running), largest-is after-rise, e, keeps-higher k) in
           number-keeps k size b ∙ ap (reaching size values (y + 1)) is
+
+-- the same under the number of a row
+module _ {a : ℕ} {values : List ℕ} {y best cells : ℕ} (t : InRow a (λ value. RunningCells values y value cells) best) {number : ℕ} (inside : y < length values)
+    (small : at values y < 4294967296) (risen : number ≡ numberIn a (risenAt values y)) {r : ℕ} (after : CellsAfter (best / 4294967296) (number / 4294967296) cells r) where
+  without-row : CellsAfter (t .value / 4294967296) (risenAt values y / 4294967296) cells r
+  without-row = record {
+    above = λ h. after .above (omega (arith, t .is, risen));
+    equal = λ h. after .equal (omega (arith, t .is, risen));
+    under = λ h. after .under (omega (arith, t .is, risen));
+  }
+
+  pub row-cells-next : {new : ℕ} → InRow a (LargestSoFar values (y + 1)) new → new ≡ higherOf best number → InRow a (λ value. RunningCells values (y + 1) value r) new
+  row-cells-next {new} n e = record {
+    value = n .value;
+    is = n .is;
+    holds =
+        cells-next (t .holds) inside small refl without-row (n .holds)
+        (let z : n .value ≡ higherOf (t .value) (risenAt values y) =
+        omega (arith, n .is, e ∙ ap₂ higherOf (t .is) risen ∙ higher-in-row a (t .value) (risenAt values y)) in z);
+  }

@@ -4,6 +4,7 @@ pub mod RowBest
 pub mod Rises
 pub mod Counting
 pub mod Slots
+pub mod OwnSlots
 pub mod LargestCount
 pub mod Sweeps
 pub mod Tallies

@@ -1,5 +1,5 @@
 -- The running value: after each rise its count is the largest so far, and its β the smallest that has it. Assumes nothing.
-use mathlib.Core.Path.{_≡_, refl, ap, ap₂, _∙_, subst}
+use mathlib.Core.Path.{_≡_, refl, sym, ap, ap₂, _∙_, subst}
 use mathlib.Core.Bool.{Bool, true, false}
 use mathlib.Core.Logic.{_⊎_, inl, inr}
 use mathlib.Core.List.{List, [], _∷_}
@@ -10,7 +10,7 @@ use borrow.Author.Tests.{lt-ltb, le-ltb}
 use lib.ListN.{length}
 use Rattle.boolean.specs.Functions.{at, Below, occurrences}
 use Rattle.boolean.specs.Selection.{Candidate}
-use Rattle.differential.specs.Running.{risenAt, higherOf, runningAfter, LargestSoFar}
+use Rattle.differential.specs.Running.{risenAt, higherOf, runningAfter, LargestSoFar, numberIn, InRow}
 use Rattle.differential.specs.Work.{AfterRow}
 use Rattle.sorting.proofs.Occurrences.{occurs-more, occurs-same, occurs-none, occurs-le}
 
@@ -83,6 +83,15 @@ pub keeps-higher : {x y : ℕ} → y ≤ x → higherOf x y ≡ x
 unfolding higherOf
 keeps-higher {x = x} {y = y} h = ap (λ (t : Bool). elim t [ true ↦ y | false ↦ x ]) (le-ltb x y h)
 
+-- after a rise the higher of the running value and what has risen is the largest so far
+pub running-higher : {values : List ℕ} {y best : ℕ} → LargestSoFar values y best → at values y < 4294967296
+    → LargestSoFar values (y + 1) (higherOf best (risenAt values y))
+running-higher {values} {y} {best} r small = pick (decLt best (risenAt values y))
+  where
+    pick : Dec (best < risenAt values y) → LargestSoFar values (y + 1) (higherOf best (risenAt values y))
+    pick (yes h) = rw (takes-higher h) (running-takes r small refl h)
+    pick (no h) = let k : risenAt values y ≤ best = omega arith in rw (keeps-higher k) (running-keeps r small refl k)
+
 module _ (x y : ℕ) where
   pub higher-either : (higherOf x y ≡ x) ⊎ (higherOf x y ≡ y)
   higher-either = pick (decLt x y)
@@ -105,6 +114,49 @@ module _ (x y : ℕ) where
       pick (yes h) = omega (arith, takes-higher h)
       pick (no h) = let k : y ≤ x = omega arith in omega (arith, keeps-higher k)
 
+-- ---- the same under the number of a row
+module _ {a : ℕ} where
+  pub in-row : {said : ℕ → Type 0} (value : ℕ) → said value → InRow a said (numberIn a value)
+  in-row value h = record { value = value; is = refl; holds = h }
+
+  pub in-row-map : {said other : ℕ → Type 0} {number : ℕ} → ((value : ℕ) → said value → other value) → InRow a said number → InRow a other number
+  in-row-map f t = record { value = t .value; is = t .is; holds = f (t .value) (t .holds) }
+
+  -- without the row the standing is left
+  pub out-of-row : {said : ℕ → Type 0} {number : ℕ} → InRow a said number → said (number - a * 1099511627776)
+  out-of-row {said} {number} t = subst said (let z : t .value ≡ number - a * 1099511627776 = omega (arith, t .is) in z) (t .holds)
+
+  pub row-below : {said : ℕ → Type 0} {number : ℕ} → InRow a said number → a * 1099511627776 ≤ number
+  row-below t = omega (arith, t .is)
+
+pub higher-in-row : (a x y : ℕ) → higherOf (numberIn a x) (numberIn a y) ≡ numberIn a (higherOf x y)
+higher-in-row a x y = pick (decLt x y)
+  where
+    pick : Dec (x < y) → higherOf (numberIn a x) (numberIn a y) ≡ numberIn a (higherOf x y)
+    pick (yes h) =
+        let l : numberIn a x < numberIn a y = omega arith in
+        takes-higher l ∙ ap (numberIn a) (sym (takes-higher h))
+    pick (no h) =
+        let l : y ≤ x = omega arith in
+        let k : numberIn a y ≤ numberIn a x = omega arith in
+        keeps-higher k ∙ ap (numberIn a) (sym (keeps-higher l))
+
+module _ {a : ℕ} {values : List ℕ} {y best : ℕ} (r : InRow a (LargestSoFar values y) best) {number : ℕ} (small : at values y < 4294967296)
+    (risen : number ≡ numberIn a (risenAt values y)) where
+  pub row-running-takes : best < number → InRow a (LargestSoFar values (y + 1)) number
+  row-running-takes h = record {
+    value = risenAt values y;
+    is = risen;
+    holds = running-takes (r .holds) small refl (let l : r .value < risenAt values y = omega (arith, r .is, risen) in l);
+  }
+
+  pub row-running-keeps : number ≤ best → InRow a (LargestSoFar values (y + 1)) best
+  row-running-keeps h = record {
+    value = r .value;
+    is = r .is;
+    holds = running-keeps (r .holds) small refl (let l : risenAt values y ≤ r .value = omega (arith, r .is, risen) in l);
+  }
+
 -- ---- the running value's own steps
 pub rises-none : (values : List ℕ) → runningAfter values 0 ≡ 4294967295
 unfolding runningAfter
@@ -115,18 +167,18 @@ pub rises-next : (values : List ℕ) (y : ℕ)
 unfolding runningAfter
 rises-next values y = ap (runningAfter values) (let z : y + 1 ≡ suc y = omega arith in z)
 
+pub row-rises-next : (a : ℕ) (values : List ℕ) (y : ℕ) {running number : ℕ} → running ≡ numberIn a (runningAfter values y) → number ≡ numberIn a (risenAt values y)
+    → higherOf running number ≡ numberIn a (runningAfter values (y + 1))
+row-rises-next a values y e f =
+    ap₂ higherOf e f ∙ higher-in-row a (runningAfter values y) (risenAt values y) ∙ ap (numberIn a) (sym (rises-next values y))
+
 -- after each rise its count is the largest so far, and its β the smallest that has it: whatever part of the values was counted
 pub after-each-rise : (values : List ℕ) → Below (2 ^ 32) values → (y : ℕ) → y ≤ length values → LargestSoFar values y (runningAfter values y)
 unfolding runningAfter
 after-each-rise values small zero l = running-none values
 after-each-rise values small (suc y) l =
     subst (λ (k : ℕ). LargestSoFar values k (runningAfter values (suc y))) (let z : y + 1 ≡ suc y = omega arith in z)
-    (pick (after-each-rise values small y (omega arith)) (decLt (runningAfter values y) (risenAt values y)))
-  where
-    pick : LargestSoFar values y (runningAfter values y) → Dec (runningAfter values y < risenAt values y)
-        → LargestSoFar values (y + 1) (higherOf (runningAfter values y) (risenAt values y))
-    pick r (yes h) = rw (takes-higher h) (running-takes r (small y (omega arith)) refl h)
-    pick r (no h) = let k : risenAt values y ≤ runningAfter values y = omega arith in rw (keeps-higher k) (running-keeps r (small y (omega arith)) refl k)
+    (running-higher (after-each-rise values small y (omega arith)) (small y (omega arith)))
 
 -- ---- the count and its β, out of the running value
 module _ {values : List ℕ} {y best : ℕ} (r : LargestSoFar values y best) where

@@ -57,6 +57,18 @@ pub record LargestSoFar (differences : List ℕ) (rises running : ℕ) : Type 0 
   pub small : β < 2 ^ 32
   pub so-far : Largest (λ v. occurrences differences rises v) largest β
 
+-- ---- The rows one after the other.
+
+-- a standing in the row of a, as one number: every number of a row is above those of the rows before
+abbrev pub numberIn : (a value : ℕ) → ℕ
+numberIn a value = a * 2 ^ 40 + value
+
+-- a number of the row of a, whose standing is as said
+pub record InRow (a : ℕ) (said : ℕ → Type 0) (number : ℕ) : Type 0 where
+  pub value : ℕ
+  pub is : number ≡ numberIn a value
+  pub holds : said value
+
 -- ---- One rise.
 
 -- the standing of the difference at y, once its count has risen by it

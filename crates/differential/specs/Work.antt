@@ -13,7 +13,7 @@ use Rattle.boolean.specs.Selection.{Candidate}
 use Rattle.refusals.specs.Table.{Box}
 use Rattle.sorting.specs.Sorting.{Sorted}
 use Rattle.differential.specs.XorTable.{difference, cell, cellsOf, largestCell, coded}
-use Rattle.differential.specs.Running.{Paired, Largest, standing, LargestSoFar}
+use Rattle.differential.specs.Running.{Paired, Largest, standing, LargestSoFar, numberIn}
 use Rattle.differential.specs.declared.FoundCell.{FoundCell}
 
 -- the best cell so far, as a candidate
@@ -38,18 +38,32 @@ differencesOf rows a = listBelow (length rows) (λ x. difference rows a x)
 abbrev pub slotOf : ℕ → ℕ
 slotOf v = v % 4096
 
--- a slot holds the standing, after so many rises, of a difference that belongs there: its key
-pub record Slot (differences : List ℕ) (rises slot content : ℕ) : Type 0 where
+-- 4,096 slots that are free for the rows from a on: what they hold is below every number of such a row
+pub record FreeFrom (a : ℕ) (slots : List ℕ) : Type 0 where
+  pub size : length slots ≡ 4096
+  pub free : (slot : ℕ) → slot < 4096 → at slots slot < numberIn a 0
+
+-- a slot holds, under the row's number, the standing after so many rises of a difference that belongs there and has come: its key
+pub record Slot (a : ℕ) (differences : List ℕ) (rises slot content : ℕ) : Type 0 where
   pub key : ℕ
   pub small : key < 2 ^ 32
   pub here : slotOf key ≡ slot
-  pub is : content ≡ standing (occurrences differences rises key) key
+  pub came : 0 < occurrences differences rises key
+  pub is : content ≡ numberIn a (standing (occurrences differences rises key) key)
 
--- so does the slot of each difference; which of those that share a slot has it, and what the other slots hold, is open
-pub record Slots (differences : List ℕ) (rises : ℕ) (slots : List ℕ) : Type 0 where
+-- So does every slot that is not free for the row of a. The slot of each difference that has come is not; which of those that share a slot
+-- has it is open.
+pub record Slots (a : ℕ) (differences : List ℕ) (rises : ℕ) (slots : List ℕ) : Type 0 where
   pub size : length slots ≡ 4096
-  pub held : (x : ℕ) → x < length differences
-      → Slot differences rises (slotOf (at differences x)) (at slots (slotOf (at differences x)))
+  pub held : (slot : ℕ) → slot < 4096 → numberIn a 0 ≤ at slots slot → Slot a differences rises slot (at slots slot)
+  pub taken : (x : ℕ) → x < rises → numberIn a 0 ≤ at slots (slotOf (at differences x))
+
+-- each difference below the size has a slot of its own, which holds its standing after so many rises
+pub record OwnSlots (size : ℕ) (differences : List ℕ) (rises : ℕ) (slots : List ℕ) : Type 0 where
+  pub few : size ≤ 256
+  pub long : length slots ≡ size
+  pub inside : Below size differences
+  pub held : (v : ℕ) → v < size → at slots v ≡ standing (occurrences differences rises v) v
 
 -- r is the row's largest cell with its smallest β, found from the differences of its pairs, and is above the best cell before
 pub record RowAbove (a : ℕ) (pairs : List ℕ) (found r : Candidate) : Type 0 where
@@ -63,6 +77,10 @@ pub record RowAbove (a : ℕ) (pairs : List ℕ) (found r : Candidate) : Type 0 
 abbrev pub AfterRow : (a : ℕ) (pairs : List ℕ) (found r : Candidate) → Type 0
 AfterRow a pairs found r =
     ((r ≡ found) × ((β : ℕ) → 2 * occurrences pairs (length pairs) β ≤ found .figure)) ⊎ RowAbove a pairs found r
+
+-- the same from the row's largest standing, whatever its pairs are
+abbrev pub AfterStanding : (a best : ℕ) (found r : Candidate) → Type 0
+AfterStanding a best found r = (pairs : List ℕ) → LargestSoFar pairs (length pairs) best → AfterRow a pairs found r
 
 -- how many values have the largest count, once the count of one has risen: r is 1 where it is above the largest before, one more where it
 -- is as large, and as before where it is smaller

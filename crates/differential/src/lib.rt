@@ -1,11 +1,12 @@
 // The XOR table of a box: one row, the largest cell, and the list of all cells that reach it.
 mod listing;
+mod narrow;
 
 use refusals::Checked;
 use refusals::Refusal;
 use refusals::Written;
 ghost use mathlib.Core.Path.{_≡_};
-ghost use Prim.Native.Nat.{_+_, _-_, _*_, _^_, _≤_, _<_};
+ghost use Prim.Native.Nat.{_/_, _+_, _-_, _*_, _^_, _≤_, _<_};
 ghost use lib.ListN.{length};
 ghost use Rattle.refusals.specs.Table.{first, Box};
 ghost use Rattle.differential.specs.XorTable.{xorRow};
@@ -13,8 +14,8 @@ ghost use Rattle.boolean.specs.Sums.{AnyContent};
 ghost use Rattle.boolean.specs.Functions.{occurrences};
 ghost use Rattle.differential.specs.XorTable as spec;
 ghost use Rattle.differential.specs.Calls.{rowChecks, largestReply, xorReply, RowCalled, ListCalled};
-ghost use Rattle.differential.specs.Work.{candidate, Swept, Inside, differencesOf, Slots, AfterRow};
-ghost use Rattle.differential.specs.Running.{HighestBit, Paired, LargestSoFar, risenAt, higherOf, runningAfter};
+ghost use Rattle.differential.specs.Work.{candidate, Swept, Inside, differencesOf, FreeFrom, Slots, AfterStanding};
+ghost use Rattle.differential.specs.Running.{HighestBit, Paired, LargestSoFar, numberIn, InRow, risenAt, higherOf, runningAfter};
 
 // The best cell so far.
 pub struct FoundCell {
@@ -138,51 +139,50 @@ fn write_pairs(rows: &[u32], a: u32, pairs: &mut [u32])
     }
 }
 
-// The counts of a row stand in 4,096 slots, since 32 outputs have too many differences for a count each. A slot holds the standing of one
-// difference, its count * 2^32 + (2^32 - 1 - beta), so that the larger standing counts more, or as many for a smaller difference. Every
-// difference takes its slot, with a count of 0, so that the last of those that share a slot has it.
-fn claim_slots(differences: &[u32], slots: &mut [u64])
-    requires { ⌜ length (now slots) ≡ 4096 ⌝ }
-    ensures { λ _. ⌜ Slots (now (differences .entry)) 0 (now (slots .exit)) ⌝ }
+// The larger of two numbers.
+fn larger(x: u64, y: u64) -> u64
+    ensures { λ r. ⌜ r ≡ higherOf x y ⌝ }
 {
-    let mut x = 0;
-    while x < differences.len() {
-        let beta = differences[x];
-        let slot = (beta % 4096) as usize;
-        slots[slot] = 4294967295 - beta as u64;
-        x += 1;
-    }
+    if x < y { y } else { x }
 }
 
-// The standing of the difference at y after its count has risen: by one in its slot, or, where another difference has the slot, from those
-// before it that are the same.
-fn risen(differences: &[u32], y: usize, slots: &mut [u64]) -> u64
-    requires { ⌜ (y < length (now differences)) × (length (now differences) ≤ 128) × Slots (now differences) y (now slots) ⌝ }
-    ensures { λ r. ⌜ (r ≡ risenAt (now (differences .entry)) y)
-        × Slots (now (differences .entry)) (y + 1) (now (slots .exit)) ⌝ }
+// The counts of a row stand in 4,096 slots, since 32 outputs have too many differences for a count each. A slot holds the standing of one
+// difference, its count * 2^32 + (2^32 - 1 - beta), so that the larger standing counts more, or as many for a smaller difference. Above it
+// stands the row, as a * 2^40: what the rows before have left is below every number of this row, so no slot is cleared between rows, and
+// the first difference of a row that falls into a slot takes it.
+//
+// The number of the difference at y after its count has risen: by one in its slot, or, where another difference has the slot, from those
+// before it that are the same. That a slot is free shows in the larger of two numbers, and not in a branch: free or taken, in no pattern, is
+// what a processor guesses wrong.
+fn risen(a: u32, differences: &[u32], y: usize, slots: &mut [u64]) -> u64
+    requires { ⌜ (a < 256) × (y < length (now differences)) × (length (now differences) ≤ 128)
+        × Slots a (now differences) y (now slots) ⌝ }
+    ensures { λ r. ⌜ (r ≡ numberIn a (risenAt (now (differences .entry)) y))
+        × Slots a (now (differences .entry)) (y + 1) (now (slots .exit)) ⌝ }
 {
     let beta = differences[y];
-    let last = 4294967295 - beta as u64;
+    let none = (a as u64) * 1099511627776 + 4294967295 - beta as u64;
     let slot = (beta % 4096) as usize;
-    let standing = slots[slot] + 4294967296;
-    if standing % 4294967296 == last {
+    let held = larger(slots[slot], none);
+    if (held - none) % 4294967296 == 0 {
+        let standing = held + 4294967296;
         slots[slot] = standing;
         return standing;
     }
     let before = count_equal(&differences[..y], beta) as u64;
-    (before + 1) * 4294967296 + last
+    none + (before + 1) * 4294967296
 }
 
 // One rise: the count of the difference at y goes up by one, and the running value is brought up to date by one comparison. After each rise
 // its count is the largest so far, and its difference the smallest that has it.
-fn rise(differences: &[u32], y: usize, slots: &mut [u64], running: u64) -> AfterRise
-    requires { ⌜ (y < length (now differences)) × (length (now differences) ≤ 128) × Slots (now differences) y (now slots)
-        × LargestSoFar (now differences) y running ⌝ }
-    ensures { λ r. ⌜ LargestSoFar (now (differences .entry)) (y + 1) (r .running)
-        × (r .running ≡ higherOf running (r .standing)) × (r .standing ≡ risenAt (now (differences .entry)) y)
-        × Slots (now (differences .entry)) (y + 1) (now (slots .exit)) ⌝ }
+fn rise(a: u32, differences: &[u32], y: usize, slots: &mut [u64], running: u64) -> AfterRise
+    requires { ⌜ (a < 256) × (y < length (now differences)) × (length (now differences) ≤ 128)
+        × Slots a (now differences) y (now slots) × InRow a (LargestSoFar (now differences) y) running ⌝ }
+    ensures { λ r. ⌜ InRow a (LargestSoFar (now (differences .entry)) (y + 1)) (r .running)
+        × (r .running ≡ higherOf running (r .standing)) × (r .standing ≡ numberIn a (risenAt (now (differences .entry)) y))
+        × Slots a (now (differences .entry)) (y + 1) (now (slots .exit)) ⌝ }
 {
-    let standing = risen(differences, y, slots);
+    let standing = risen(a, differences, y, slots);
     if running < standing {
         AfterRise {
             standing,
@@ -194,30 +194,29 @@ fn rise(differences: &[u32], y: usize, slots: &mut [u64], running: u64) -> After
 }
 
 // The largest count of the differences and the smallest difference that has it, as one standing: a running value while the counts rise.
-fn largest_risen(differences: &[u32], slots: &mut [u64]) -> u64
-    requires { ⌜ (length (now differences) ≤ 128) × (length (now slots) ≡ 4096) ⌝ }
+fn largest_risen(a: u32, differences: &[u32], slots: &mut [u64]) -> u64
+    requires { ⌜ (a < 256) × (length (now differences) ≤ 128) × FreeFrom a (now slots) ⌝ }
     ensures { λ r. ⌜ LargestSoFar (now (differences .entry)) (length (now (differences .entry))) r
         × (r ≡ runningAfter (now (differences .entry)) (length (now (differences .entry))))
-        × Slots (now (differences .entry)) (length (now (differences .entry))) (now (slots .exit)) ⌝ }
+        × Slots a (now (differences .entry)) (length (now (differences .entry))) (now (slots .exit)) ⌝ }
 {
-    claim_slots(differences, slots);
-    let mut running: u64 = 4294967295;
+    let row = (a as u64) * 1099511627776;
+    let mut running: u64 = row + 4294967295;
     let mut y = 0;
     while y < differences.len() {
-        let after = rise(differences, y, slots, running);
+        let after = rise(a, differences, y, slots, running);
         running = after.running;
         y += 1;
     }
-    running
+    running - row
 }
 
-// The best cell so far, or the largest of the row of a where that counts more. A pair stands for two inputs.
-fn after_row(a: u32, pairs: &[u32], slots: &mut [u64], found: FoundCell) -> FoundCell
-    requires { ⌜ (length (now pairs) ≤ 128) × (length (now slots) ≡ 4096) ⌝ }
-    ensures { λ r. ⌜ AfterRow a (now (pairs .entry)) (candidate found) (candidate r)
-        × Slots (now (pairs .entry)) (length (now (pairs .entry))) (now (slots .exit)) ⌝ }
+// The best cell so far, or the largest of the row of a where that counts more: of the row's pairs, whatever they are, the largest standing is
+// given. A pair stands for two inputs.
+fn after_row(a: u32, best: u64, found: FoundCell) -> FoundCell
+    requires { ⌜ best / 4294967296 ≤ 128 ⌝ }
+    ensures { λ r. ⌜ AfterStanding a best (candidate found) (candidate r) ⌝ }
 {
-    let best = largest_risen(pairs, slots);
     let count = 2 * ((best / 4294967296) as u32);
     if count <= found.count {
         return found;
@@ -228,7 +227,7 @@ fn after_row(a: u32, pairs: &[u32], slots: &mut [u64], found: FoundCell) -> Foun
 
 // Every row in turn, from 1 to 2^n − 1. It starts from a count that every row exceeds.
 fn sweep_cells(n: u32, m: u32, rows: &[u32], pairs: &mut [u32], slots: &mut [u64]) -> FoundCell
-    requires { ⌜ Box n m (now rows) × (length (now rows) ≡ 2 * length (now pairs)) × (length (now slots) ≡ 4096) ⌝ }
+    requires { ⌜ Box n m (now rows) × (length (now rows) ≡ 2 * length (now pairs)) × FreeFrom 1 (now slots) ⌝ }
     ensures { λ r. ⌜ (candidate r ≡ spec.largestCell n m (now (rows .entry)))
         × Paired (now (rows .entry)) (2 ^ n - 1) (now (pairs .exit)) × AnyContent (now (slots .entry)) (now (slots .exit)) ⌝ }
 {
@@ -241,31 +240,45 @@ fn sweep_cells(n: u32, m: u32, rows: &[u32], pairs: &mut [u32], slots: &mut [u64
     let mut a: u32 = 1;
     while a < inputs {
         write_pairs(rows, a, pairs);
-        found = after_row(a, pairs, slots, found);
+        let best = largest_risen(a, pairs, slots);
+        found = after_row(a, best, found);
         a += 1;
     }
     found
 }
 
-// The largest cell of a box that was checked. The arrays to work in are made once for all rows.
-fn find_largest(n: u32, m: u32, rows: &[u32]) -> FoundCell
-    requires { ⌜ Box n m (now rows) ⌝ }
-    ensures { λ r. ⌜ candidate r ≡ spec.largestCell n m (now (rows .entry)) ⌝ }
+// The largest cell of a box of any outputs that was checked. The slots are made once for all rows, and room for the pairs is lent.
+fn find_wide(n: u32, m: u32, rows: &[u32], pairs: &mut [u32]) -> FoundCell
+    requires { ⌜ Box n m (now rows) × (length (now pairs) ≡ 128) ⌝ }
+    ensures { λ r. ⌜ (candidate r ≡ spec.largestCell n m (now (rows .entry))) × AnyContent (now (pairs .entry)) (now (pairs .exit)) ⌝ }
 {
-    let mut pairs = [0u32; 128];
     let mut slots = [0u64; 4096];
     let half = rows.len() / 2;
     sweep_cells(n, m, rows, &mut pairs[..half], &mut slots)
 }
 
-// The largest cell of a box, in ascending a, then beta.
+// The largest cell of a box that was checked.
+fn find_largest(n: u32, m: u32, rows: &[u32], pairs: &mut [u32]) -> FoundCell
+    requires { ⌜ Box n m (now rows) × (length (now pairs) ≡ 128) ⌝ }
+    ensures { λ r. ⌜ (candidate r ≡ spec.largestCell n m (now (rows .entry))) × AnyContent (now (pairs .entry)) (now (pairs .exit)) ⌝ }
+{
+    if m <= 8 {
+        narrow::find_narrow(n, m, rows, pairs)
+    } else {
+        find_wide(n, m, rows, pairs)
+    }
+}
+
+// The largest cell of a box, in ascending a, then beta. An array is made before the checks, so that room on the stack is: made after them, room
+// for the slots would cost the number of rows, by a fault of the compiler that no proof covers (decision 119).
 pub fn largest_cell(n: u32, m: u32, rows: &[u32]) -> LargestCell
     ensures { λ r. ⌜ largestReply r ≡ xorReply n m (now (rows .entry)) ⌝ }
 {
+    let mut pairs = [0u32; 128];
     if let Checked::Refused(e) = refusals::check_box(n, m, rows) {
         return LargestCell::Declined(e);
     }
-    let found = find_largest(n, m, rows);
+    let found = find_largest(n, m, rows, &mut pairs);
     LargestCell::Reached {
         count: found.count,
         a: found.a,

@@ -1,7 +1,7 @@
 // The list of all cells that reach the largest count. Each row is measured once: its largest count, the smallest difference that has it,
 // and how many have it. A row with one such cell is then known; only the pairs of a row with several are put in order.
 use crate::CellList;
-use crate::claim_slots;
+use crate::larger;
 use crate::rise;
 use crate::write_pairs;
 use refusals::Refusal;
@@ -14,20 +14,13 @@ ghost use Rattle.boolean.specs.Sums.{AnyContent};
 ghost use Rattle.differential.specs.XorTable.{largestCells};
 ghost use Rattle.differential.specs.XorTable as spec;
 ghost use Rattle.differential.specs.Calls.{ListCalled};
-ghost use Rattle.differential.specs.Work.{CellsAfter, RunningCells, IsRow, RowMeasured, Measured, rowCells, runAt, runs, Slots, PairsInOrder};
-ghost use Rattle.differential.specs.Running.{Paired, higherOf};
+ghost use Rattle.differential.specs.Work.{CellsAfter, RunningCells, IsRow, RowMeasured, Measured, rowCells, runAt, runs, FreeFrom, Slots, PairsInOrder};
+ghost use Rattle.differential.specs.Running.{Paired};
 
 // What the list needs of a row: its largest standing, and how many of its cells reach that count.
 pub struct RowLargest {
     pub standing: u64,
     pub cells: u32,
-}
-
-// The larger of two counts.
-fn larger(x: u64, y: u64) -> u64
-    ensures { λ r. ⌜ r ≡ higherOf x y ⌝ }
-{
-    if x < y { y } else { x }
 }
 
 // How many differences have the largest count once another count has risen: that one alone where its count is a new largest, and one more
@@ -48,23 +41,23 @@ fn cells_after(running: u64, standing: u64, cells: u32) -> u32
 }
 
 // As `largest_risen`, with the number of differences that have the largest count brought up to date beside it.
-fn measure_row(differences: &[u32], slots: &mut [u64]) -> RowLargest
-    requires { ⌜ (length (now differences) ≤ 128) × (length (now slots) ≡ 4096) ⌝ }
+fn measure_row(a: u32, differences: &[u32], slots: &mut [u64]) -> RowLargest
+    requires { ⌜ (a < 256) × (length (now differences) ≤ 128) × FreeFrom a (now slots) ⌝ }
     ensures { λ r. ⌜ RunningCells (now (differences .entry)) (length (now (differences .entry))) (r .standing) (r .cells)
-        × Slots (now (differences .entry)) (length (now (differences .entry))) (now (slots .exit)) ⌝ }
+        × Slots a (now (differences .entry)) (length (now (differences .entry))) (now (slots .exit)) ⌝ }
 {
-    claim_slots(differences, slots);
-    let mut running: u64 = 4294967295;
+    let row = (a as u64) * 1099511627776;
+    let mut running: u64 = row + 4294967295;
     let mut cells: u32 = 0;
     let mut y = 0;
     while y < differences.len() {
-        let after = rise(differences, y, slots, running);
+        let after = rise(a, differences, y, slots, running);
         cells = cells_after(running, after.standing, cells);
         running = after.running;
         y += 1;
     }
     RowLargest {
-        standing: running,
+        standing: running - row,
         cells: cells,
     }
 }
@@ -79,7 +72,7 @@ fn measure_rows(
     standings: &mut [u64; 256],
     numbers: &mut [u32; 256],
 ) -> u64
-    requires { ⌜ Box n m (now rows) × (length (now rows) ≡ 2 * length (now pairs)) × (length (now slots) ≡ 4096)
+    requires { ⌜ Box n m (now rows) × (length (now rows) ≡ 2 * length (now pairs)) × FreeFrom 1 (now slots)
         × (length (now standings) ≡ 256) × (length (now numbers) ≡ 256) ⌝ }
     ensures { λ r. ⌜ Measured n m (now (rows .entry)) (now (standings .exit)) (now (numbers .exit))
         × (2 * r ≡ spec.largestCell n m (now (rows .entry)) .figure)
@@ -89,7 +82,7 @@ fn measure_rows(
     let mut a: usize = 1;
     while a < rows.len() {
         write_pairs(rows, a as u32, pairs);
-        let row = measure_row(pairs, slots);
+        let row = measure_row(a as u32, pairs, slots);
         standings[a] = row.standing;
         numbers[a] = row.cells;
         largest = larger(largest, row.standing / 4294967296);

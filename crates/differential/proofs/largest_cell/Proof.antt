@@ -1,7 +1,7 @@
 -- `differential::largest_cell` meets its contract: what the checks found says which case it is, and the sweep has the figure and its cell.
 -- Assumes nothing.
 use borrow.Author.Needs.{needs}
-use mathlib.Core.Path.{_≡_, sym, ap, _∙_}
+use mathlib.Core.Path.{_≡_, refl, sym, ap, _∙_}
 use mathlib.Core.List.{[]}
 use Rattle.boolean.specs.Selection.{Candidate, shown}
 use Rattle.refusals.specs.Table.{figures, first, boxChecks}
@@ -27,12 +27,12 @@ accepted : (c : tie.After-enum-told) → let a = c .before .before .before .befo
 accepted c = sym (c .before .before .check-box .ensures) ∙ c .enum-told .given .1
 
 find-largest-requires : tie.Need-find-largest-requires
-find-largest-requires c κs = let a = c .before .before .before .before .args in box (a .n) (a .m) (a .rows .now) [] (accepted c)
+find-largest-requires c κs = let a = c .before .before .before .before .before .args in (box (a .n) (a .m) (a .rows .now) [] (accepted (c .before)), refl)
 
 returns-2 : tie.Need-returns-2
-returns-2 c = ap (λ (k : Candidate). figures (shown k)) (c .find-largest .ensures) ∙ reply-accepted (accepted (c .before)) _
+returns-2 c = ap (λ (k : Candidate). figures (shown k)) (c .before .find-largest .ensures .0) ∙ reply-accepted (accepted (c .before .before .before)) _
 
 pub largest-cell-spec : {M : Type 1} → statement M
 largest-cell-spec =
     tie.close
-    (tie.spec check-box-requires enum-known-e returns enum-told find-largest-requires returns-2)
+    (tie.spec check-box-requires enum-known-e returns enum-told (λ c. search needs) find-largest-requires returns-2)

@@ -1,14 +1,14 @@
--- `differential::risen` meets its contract: by the slot, where the difference has it, and else by those before. Assumes nothing.
+-- `differential::risen` meets its contract: by the slot, where the difference has it or takes it, and else by those before. Assumes nothing.
 use mathlib.Core.Path.{_≡_, refl, sym, ap, _∙_}
-use Prim.Native.Nat.{ℕ, _+_, _≤_, _<_}
+use Prim.Native.Nat.{ℕ, _+_, _-_, _≤_, _<_}
 use native.Mathlib.Omega.{arith}
 use borrow.Author.Needs.{needs}
 use lib.ListN.{length, take}
 use lib.Seq.{length-take-le}
 use Rattle.boolean.specs.Functions.{at, occurrences}
-use Rattle.differential.specs.Running.{standing}
+use Rattle.differential.specs.Running.{standing, numberIn, risenAt}
 use Rattle.sorting.proofs.Occurrences.{occurs-more, occurs-le, occurs-part}
-use Rattle.differential.proofs.Slots.{slot-fits, own-risen, own-next, other-next}
+use Rattle.differential.proofs.Slots.{held-least, held-fits, own-risen, own-next, other-next}
 use Rattle.differential.proofs.risen.Statement.{statement}
 use Rattle.differential.proofs.risen.Tie as tie
 
@@ -17,27 +17,27 @@ small : (c : tie.After-shared-slice-known2) → let a = c .before .before .befor
 small c = c .shared-slice-known2 .given (c .before .before .before .args .y) .fits
 
 -- the part before y has y differences
-part-length : (c : tie.Else1) → let a = c .before .before .before .before .before .args in length (take (a .y) (a .differences .now)) ≡ a .y
+part-length : (c : tie.Else1) → let a = c .before .before .before .before .before .before .args in length (take (a .y) (a .differences .now)) ≡ a .y
 part-length c =
-    let start = c .before .before .before .before .before in
-    length-take-le (start .args .y) (start .args .differences .now) (omega (arith, start .pre .0))
+    let start = c .before .before .before .before .before .before in
+    length-take-le (start .args .y) (start .args .differences .now) (omega (arith, start .pre .1))
 
 -- the count among those before, risen
 other-risen : (c : tie.After-count-equal) →
-    let a = c .before .before .before .before .before .before .before .args in
+    let a = c .before .before .before .before .before .before .before .before .args in
     c .count-equal .result + 1 ≡ occurrences (a .differences .now) (a .y + 1) (at (a .differences .now) (a .y))
 other-risen c =
-    let start = c .before .before .before .before .before .before .before in
+    let start = c .before .before .before .before .before .before .before .before in
     let differences = start .args .differences .now in
     let y = start .args .y in
-    let before : y ≤ length differences = omega (arith, start .pre .0) in
+    let before : y ≤ length differences = omega (arith, start .pre .1) in
     ap (λ (k : ℕ). k + 1) (c .count-equal .ensures ∙ occurs-part differences y (at differences y) before) ∙ sym (occurs-more differences y (at differences y) refl)
 
 other-few : (c : tie.After-count-equal) → c .count-equal .result + 1 ≤ 128
 other-few c =
-    let start = c .before .before .before .before .before .before .before in
+    let start = c .before .before .before .before .before .before .before .before in
     let differences = start .args .differences .now in
-    omega (arith, other-risen c, occurs-le differences (start .args .y + 1) (at differences (start .args .y)), start .pre .0, start .pre .1)
+    omega (arith, other-risen c, occurs-le differences (start .args .y + 1) (at differences (start .args .y)), start .pre .1, start .pre .2)
 
 mul-beta : tie.Need-mul-beta
 mul-beta c = search needs
@@ -45,23 +45,38 @@ mul-beta c = search needs
 shared-slice-read-beta : tie.Need-shared-slice-read-beta
 shared-slice-read-beta c = search needs
 
-cast-last : tie.Need-cast-last
-cast-last c = omega (arith, small c)
+mul-none : tie.Need-mul-none
+mul-none c = search needs
 
-sub-last : tie.Need-sub-last
-sub-last c = omega (arith, small c)
+add-none : tie.Need-add-none
+add-none c = search needs
+
+cast-none : tie.Need-cast-none
+cast-none c = omega (arith, small c)
+
+sub-none : tie.Need-sub-none
+sub-none c = omega (arith, small c)
 
 cast-slot : tie.Need-cast-slot
 cast-slot c = search needs
 
-mul-standing : tie.Need-mul-standing
-mul-standing c = search needs
+mul-larger : tie.Need-mul-larger
+mul-larger c = search needs
 
-slice-read-standing : tie.Need-slice-read-standing
-slice-read-standing c = search needs
+slice-read-larger : tie.Need-slice-read-larger
+slice-read-larger c = search needs
+
+larger-requires : tie.Need-larger-requires
+larger-requires c κs = search needs
+
+sub-if1 : tie.Need-sub-if1
+sub-if1 c = held-least (c .before .before .before .before .before .pre .3) (small (c .before .before)) (c .larger .ensures)
 
 add-standing : tie.Need-add-standing
-add-standing c = let start = c .before .before .before .before in omega (arith, slot-fits (start .pre .2) (start .pre .0), start .pre .0, start .pre .1)
+add-standing c =
+    let larger = c .before in
+    let start = larger .before .before .before .before .before in
+    omega (arith, held-fits (start .pre .3) (small (larger .before .before)) (larger .larger .ensures), start .pre .0, start .pre .1, start .pre .2)
 
 mul-slots : tie.Need-mul-slots
 mul-slots c = search needs
@@ -74,15 +89,16 @@ same-length c = search needs
 
 returns : tie.Need-returns
 returns c =
-    let start = c .before .before .before .before .before in
-    let fits = small (c .before .before) in
-    (own-risen (start .pre .2) (start .pre .0) fits (c .if1 .taken), own-next (start .pre .2) (start .pre .0) fits (c .if1 .taken))
+    let larger = c .before in
+    let slots = larger .before .before .before .before .before .pre .3 in
+    let fits = small (larger .before .before) in
+    (own-risen slots fits (larger .larger .ensures) (c .if1 .taken), own-next slots fits (larger .larger .ensures) (c .if1 .taken))
 
 slice-aggregate-count-equal : tie.Need-slice-aggregate-count-equal
 slice-aggregate-count-equal c = sym (part-length (c .before))
 
 count-equal-requires : tie.Need-count-equal-requires
-count-equal-requires c κs = let start = c .before .before .before .before .before .before in omega (arith, part-length (c .before), start .pre .0, start .pre .1)
+count-equal-requires c κs = let start = c .before .before .before .before .before .before .before in omega (arith, part-length (c .before), start .pre .1, start .pre .2)
 
 cast-before : tie.Need-cast-before
 cast-before c = search needs
@@ -94,12 +110,14 @@ mul-result : tie.Need-mul-result
 mul-result c = omega (arith, other-few c)
 
 add-result-2 : tie.Need-add-result-2
-add-result-2 c = omega (arith, other-few c, small (c .before .before .before .before))
+add-result-2 c = let start = c .before .before .before .before .before .before .before .before in omega (arith, other-few c, start .pre .0)
 
 returns-2 : tie.Need-returns-2
 returns-2 c =
-    let start = c .before .before .before .before .before .before .before in
-    (ap (λ (k : ℕ). standing k (at (start .args .differences .now) (start .args .y))) (other-risen c), other-next (start .pre .2) (start .pre .0) (c .before .before .if1 .left))
+    let larger = c .before .before .before in
+    let start = larger .before .before .before .before .before in
+    let fits = small (larger .before .before) in
+    (omega (arith, other-risen c, fits), other-next (start .pre .3) fits (larger .larger .ensures) (c .before .before .if1 .left))
 
 pub risen-spec : {M : Type 1} → statement M
 risen-spec =
@@ -107,11 +125,15 @@ risen-spec =
     (tie.spec
     mul-beta
     shared-slice-read-beta
-    cast-last
-    sub-last
+    mul-none
+    add-none
+    cast-none
+    sub-none
     cast-slot
-    mul-standing
-    slice-read-standing
+    mul-larger
+    slice-read-larger
+    larger-requires
+    sub-if1
     add-standing
     mul-slots
     slice-write-slots

@@ -1,19 +1,21 @@
 -- `differential::sweep_cells` meets its contract: it has the first largest cell of the rows before a, from a count that every row exceeds.
 -- Assumes nothing.
-use Prim.Native.Nat.{_-_, _^_, _≤_}
+use Prim.Native.Nat.{_-_, _/_, _^_, _≤_}
 use mathlib.Core.Path.{_≡_, refl, sym, _∙_}
 use native.Mathlib.Nat.{le-trans}
 use native.Mathlib.Omega.{arith}
 use borrow.Author.Needs.{needs}
 use lib.Dec.{lit≤}
 use lib.ListN.{length}
-use Rattle.differential.specs.Work.{candidate}
+use Rattle.differential.specs.Work.{candidate, FreeFrom}
 use Rattle.differential.proofs.Sweeps.{box-inside, pairs-few, Sweeping, sweep-starts, sweep-next, sweep-ends, sweep-last}
+use Rattle.differential.proofs.Rises.{largest-few}
+use Rattle.differential.proofs.Slots.{slots-free}
 use Rattle.differential.proofs.sweep_cells.Statement.{statement}
 use Rattle.differential.proofs.sweep_cells.Tie as tie
 
 abbrev Inv-loop : tie.InvT-loop
-Inv-loop n m rows pairs₀ slots₀ inputs found₀ a₀ pairs slots found a = Sweeping n m rows (candidate found₀) (candidate found) pairs a × (length slots ≡ 4096)
+Inv-loop n m rows pairs₀ slots₀ inputs found₀ a₀ pairs slots found a = Sweeping n m rows (candidate found₀) (candidate found) pairs a × FreeFrom a slots
 
 abbrev μ-loop : tie.MeasureT-loop
 μ-loop n m rows pairs₀ slots₀ inputs found₀ a₀ pairs slots found a = inputs - a
@@ -33,11 +35,26 @@ write-pairs-requires c κs =
     let sweep = at-loop .loop .inv .0 in
     (box-inside (sweep .box) (omega (arith, c .before .loop-test .taken, at-loop .before .power-of-two .ensures .0)), sweep .a-low, sweep .room)
 
-after-row-requires : tie.Need-after-row-requires Inv-loop μ-loop
-after-row-requires c κs =
+largest-risen-requires : tie.Need-largest-risen-requires Inv-loop μ-loop
+largest-risen-requires c κs =
     let written = c .before .before .before .before in
-    let at-loop = written .before .before .before in
-    (pairs-few (at-loop .loop .inv .0 .box) (written .write-pairs .ensures), at-loop .loop .inv .1)
+    let in-loop = written .before .before in
+    let at-loop = in-loop .before in
+    let sweep = at-loop .loop .inv .0 in (
+      omega (arith, in-loop .loop-test .taken, at-loop .before .power-of-two .ensures .0, sweep .box .small, sweep .box .size),
+      pairs-few (sweep .box) (written .write-pairs .ensures),
+      at-loop .loop .inv .1,
+    )
+
+-- the row's largest count is that of some of its pairs
+few : (c : tie.After-largest-risen Inv-loop μ-loop) → c .largest-risen .result / 4294967296 ≤ 128
+few c =
+    let written = c .before .before .before .before .before in
+    let sweep = written .before .before .before .loop .inv .0 in
+    omega (arith, largest-few (c .largest-risen .ensures .0), pairs-few (sweep .box) (written .write-pairs .ensures))
+
+after-row-requires : tie.Need-after-row-requires Inv-loop μ-loop
+after-row-requires c κs = few (c .before .before)
 
 add-a : tie.Need-add-a Inv-loop μ-loop
 add-a c = search needs
@@ -47,13 +64,14 @@ loop-less c = search needs
 
 loop-again : tie.Need-loop-again Inv-loop μ-loop
 loop-again c =
-    let row = c .before .before in
+    let row = c .before .before .before in
     let written = row .before .before .before .before .before in
     let in-loop = written .before .before in
-    let at-loop = in-loop .before in (
-      sweep-next (at-loop .loop .inv .0) (omega (arith, in-loop .loop-test .taken, at-loop .before .power-of-two .ensures .0))
-          (written .write-pairs .ensures) (row .after-row .ensures .0),
-      row .after-row .ensures .1 .size,
+    let at-loop = in-loop .before in
+    let sweep = at-loop .loop .inv .0 in (
+      sweep-next sweep (omega (arith, in-loop .loop-test .taken, at-loop .before .power-of-two .ensures .0)) (written .write-pairs .ensures)
+          (c .after-row .ensures _ (row .largest-risen .ensures .0)),
+      slots-free (row .largest-risen .ensures .2) (pairs-few (sweep .box) (written .write-pairs .ensures)),
     )
 
 same-length : tie.Need-same-length Inv-loop μ-loop
@@ -63,7 +81,7 @@ same-length c =
     same
 
 same-length-2 : tie.Need-same-length-2 Inv-loop μ-loop
-same-length-2 c = c .before .loop .inv .1 ∙ sym (c .before .before .before .before .before .before .pre .2)
+same-length-2 c = c .before .loop .inv .1 .size ∙ sym (c .before .before .before .before .before .before .pre .2 .size)
 
 returns : tie.Need-returns Inv-loop μ-loop
 returns c =
@@ -82,6 +100,7 @@ sweep-cells-spec =
     cast-inputs
     loop-holds
     write-pairs-requires
+    largest-risen-requires
     after-row-requires
     add-a
     loop-less

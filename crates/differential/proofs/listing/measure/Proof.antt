@@ -2,8 +2,9 @@
 use Prim.Native.Nat.{ℕ, _/_, _≤_}
 use mathlib.Core.Path.{sym}
 use native.Mathlib.Omega.{arith}
-use lib.ListN.{length, replicate, length-replicate}
+use lib.ListN.{length, replicate}
 use lib.Seq.{length-take-le}
+use Rattle.differential.proofs.Slots.{zeros-free}
 use Rattle.differential.proofs.Sweeps.{half-room}
 use borrow.Author.Needs.{needs}
 use Rattle.differential.proofs.listing.measure.Statement.{statement}
@@ -26,7 +27,7 @@ measure-rows-requires : tie.Need-measure-rows-requires
 measure-rows-requires c κs =
     let known = c .before .before .before .before in
     let start = known .before in
-    (start .pre .0, half-room (start .pre .0) (replicate 128 0) (half-small known), length-replicate {A = ℕ} 4096 0, start .pre .1, start .pre .2)
+    (start .pre .0, half-room (start .pre .0) (replicate 128 0) (half-small known), zeros-free, start .pre .1, start .pre .2)
 
 returns : tie.Need-returns
 returns c = search needs

@@ -1,36 +1,39 @@
 -- `differential::listing::measure_row` meets its contract: after each rise it has the running value, and how many differences have its count.
-use Prim.Native.Nat.{ℕ, _-_, _≤_}
+use Prim.Native.Nat.{ℕ, _-_, _*_, _≤_}
 use mathlib.Core.Path.{_≡_, sym, _∙_, subst}
 use native.Mathlib.Omega.{arith}
 use borrow.Author.Needs.{needs}
 use lib.ListN.{length}
+use Rattle.differential.specs.Running.{InRow}
 use Rattle.differential.specs.Work.{RunningCells, Slots}
-use Rattle.differential.proofs.LargestCount.{cells-none, cells-next}
+use Rattle.differential.proofs.Rises.{in-row, in-row-map, out-of-row, row-below}
+use Rattle.differential.proofs.LargestCount.{cells-none, row-cells-next}
+use Rattle.differential.proofs.Slots.{slots-none}
 use Rattle.differential.proofs.listing.measure_row.Statement.{statement}
 use Rattle.differential.proofs.listing.measure_row.Tie as tie
 
 abbrev Inv-loop : tie.InvT-loop
-Inv-loop differences slots₀ running₀ cells₀ y₀ slots running cells y =
-    (y ≤ length differences) × RunningCells differences y running cells × Slots differences y slots
+Inv-loop a differences slots₀ row running₀ cells₀ y₀ slots running cells y =
+    (y ≤ length differences) × InRow a (λ value. RunningCells differences y value cells) running × Slots a differences y slots
 
 abbrev μ-loop : tie.MeasureT-loop
-μ-loop differences slots₀ running₀ cells₀ y₀ slots running cells y = length differences - y
+μ-loop a differences slots₀ row running₀ cells₀ y₀ slots running cells y = length differences - y
 
 loop-holds : tie.Need-loop-holds Inv-loop μ-loop
-loop-holds c = (omega arith, cells-none _, c .before .before .claim-slots .ensures)
+loop-holds c = (omega arith, in-row 4294967295 (cells-none _), slots-none _ (c .before .before .pre .2))
 
 rise-requires : tie.Need-rise-requires Inv-loop μ-loop
 rise-requires c κs =
     let at-loop = c .before .before in
-    let start = at-loop .before .before .before .before .before .before .before in
-    (c .before .loop-test .taken, start .pre .0, at-loop .loop .inv .2, at-loop .loop .inv .1 .running)
+    let start = at-loop .before .before .before in
+    (start .pre .0, c .before .loop-test .taken, start .pre .1, at-loop .loop .inv .2, in-row-map (λ value t. t .running) (at-loop .loop .inv .1))
 
 cells-after-requires : tie.Need-cells-after-requires Inv-loop μ-loop
 cells-after-requires c κs =
     let in-loop = c .before .before .before .before in
     let at-loop = in-loop .before in
-    let start = at-loop .before .before .before .before .before .before .before in
-    omega (arith, at-loop .loop .inv .1 .few, in-loop .loop-test .taken, start .pre .0)
+    let start = at-loop .before .before .before in
+    omega (arith, at-loop .loop .inv .1 .holds .few, in-loop .loop-test .taken, start .pre .1)
 
 loop-again : tie.Need-loop-again Inv-loop μ-loop
 loop-again c =
@@ -38,22 +41,26 @@ loop-again c =
     let e = rise .rise .ensures in
     let in-loop = rise .before .before in
     let at-loop = in-loop .before in
-    let small = at-loop .before .before .before .before .before .before .shared-slice-known .given (at-loop .loop .y) .fits in (
+    let small = at-loop .before .before .shared-slice-known .given (at-loop .loop .y) .fits in (
       omega (arith, in-loop .loop-test .taken),
-      cells-next (at-loop .loop .inv .1) (in-loop .loop-test .taken) small (e .2) (c .cells-after .ensures) (e .0) (e .1),
+      row-cells-next (at-loop .loop .inv .1) (in-loop .loop-test .taken) small (e .2) (c .cells-after .ensures) (e .0) (e .1),
       e .3,
     )
 
+sub-t9 : tie.Need-sub-t9 Inv-loop μ-loop
+sub-t9 c = row-below (c .before .loop .inv .1)
+
 same-length : tie.Need-same-length Inv-loop μ-loop
-same-length c = c .before .loop .inv .2 .size ∙ sym (c .before .before .before .before .before .before .before .before .pre .1)
+same-length c = c .before .loop .inv .2 .size ∙ sym (c .before .before .before .before .pre .2 .size)
 
 returns : tie.Need-returns Inv-loop μ-loop
 returns c =
     let at-loop = c .before in
-    let values = at-loop .before .before .before .before .before .before .before .args .differences .now in
+    let args = at-loop .before .before .before .args in
+    let values = args .differences .now in
     let all : at-loop .loop .y ≡ length values = omega (arith, c .loop-test .left, at-loop .loop .inv .0) in (
-      subst (λ (k : ℕ). RunningCells values k (at-loop .loop .running) (at-loop .loop .cells)) all (at-loop .loop .inv .1),
-      subst (λ (k : ℕ). Slots values k (at-loop .loop .slots)) all (at-loop .loop .inv .2),
+      subst (λ (k : ℕ). RunningCells values k (at-loop .loop .running - args .a * 1099511627776) (at-loop .loop .cells)) all (out-of-row (at-loop .loop .inv .1)),
+      subst (λ (k : ℕ). Slots (args .a) values k (at-loop .loop .slots)) all (at-loop .loop .inv .2),
     )
 
 pub measure-row-spec : {M : Type 1} → statement M
@@ -62,12 +69,14 @@ measure-row-spec =
     (tie.spec
     Inv-loop
     μ-loop
-    (λ c κs. search needs)
+    (λ c. search needs)
+    (λ c. search needs)
     loop-holds
     rise-requires
     cells-after-requires
     (λ c. search needs)
     (λ c. search needs)
     loop-again
+    sub-t9
     same-length
     returns)

@@ -3,6 +3,8 @@ use Prim.Native.Nat.{_-_, _^_, _<_, _≤_}
 use mathlib.Core.Path.{_≡_, sym, _∙_}
 use native.Mathlib.Omega.{arith}
 use lib.ListN.{length}
+use Rattle.differential.specs.Work.{FreeFrom}
+use Rattle.differential.proofs.Slots.{slots-free}
 use Rattle.differential.proofs.Sweeps.{box-inside, pairs-few}
 use Rattle.differential.proofs.Measures.{Measuring, measuring-none, measuring-next, measuring-all, measuring-largest, measuring-last}
 use Rattle.differential.proofs.listing.measure_rows.Statement.{statement}
@@ -10,7 +12,7 @@ use Rattle.differential.proofs.listing.measure_rows.Tie as tie
 
 abbrev Inv-loop : tie.InvT-loop
 Inv-loop n m rows pairs₀ slots₀ standings₀ numbers₀ largest₀ a₀ pairs slots standings numbers largest a =
-    Measuring n m rows standings numbers largest pairs a × (length slots ≡ 4096)
+    Measuring n m rows standings numbers largest pairs a × FreeFrom a slots
 
 abbrev μ-loop : tie.MeasureT-loop
 μ-loop n m rows pairs₀ slots₀ standings₀ numbers₀ largest₀ a₀ pairs slots standings numbers largest a = length rows - a
@@ -31,11 +33,14 @@ cast-write-pairs c = omega (arith, small c)
 write-pairs-requires : tie.Need-write-pairs-requires Inv-loop μ-loop
 write-pairs-requires c κs = let sweep = c .before .before .loop .inv .0 in (box-inside (sweep .box) (below (c .before)), sweep .a-low, sweep .room)
 
+cast-measure-row : tie.Need-cast-measure-row Inv-loop μ-loop
+cast-measure-row c = omega (arith, small (c .before .before .before .before))
+
 measure-row-requires : tie.Need-measure-row-requires Inv-loop μ-loop
 measure-row-requires c κs =
     let written = c .before .before .before .before in
     let at-loop = written .before .before .before in
-    (pairs-few (at-loop .loop .inv .0 .box) (written .write-pairs .ensures), at-loop .loop .inv .1)
+    (small (written .before .before), pairs-few (at-loop .loop .inv .0 .box) (written .write-pairs .ensures), at-loop .loop .inv .1)
 
 mul-standings : tie.Need-mul-standings Inv-loop μ-loop
 mul-standings c = omega (arith, small (c .before .before .before .before .before .before .before .before .before))
@@ -63,7 +68,7 @@ loop-again c =
     let measured = c .before .before .before .before in
     let written = c .before .before .before .before .before .before .before .before .before in
     let in-loop = c .before .before .before .before .before .before .before .before .before .before .before in
-    (measuring-next (in-loop .before .loop .inv .0) (below in-loop) (written .write-pairs .ensures) (measured .measure-row .ensures .0) (c .larger .ensures), measured .measure-row .ensures .1 .size)
+    (measuring-next (in-loop .before .loop .inv .0) (below in-loop) (written .write-pairs .ensures) (measured .measure-row .ensures .0) (c .larger .ensures), slots-free (measured .measure-row .ensures .1) (pairs-few (in-loop .before .loop .inv .0 .box) (written .write-pairs .ensures)))
 
 same-length : tie.Need-same-length Inv-loop μ-loop
 same-length c =
@@ -72,7 +77,7 @@ same-length c =
     same
 
 same-length-2 : tie.Need-same-length-2 Inv-loop μ-loop
-same-length-2 c = c .before .loop .inv .1 ∙ sym (c .before .before .before .before .before .pre .2)
+same-length-2 c = c .before .loop .inv .1 .size ∙ sym (c .before .before .before .before .before .pre .2 .size)
 
 returns : tie.Need-returns Inv-loop μ-loop
 returns c =
@@ -90,6 +95,7 @@ measure-rows-spec =
     loop-holds
     cast-write-pairs
     write-pairs-requires
+    cast-measure-row
     measure-row-requires
     mul-standings
     element-write-standings

@@ -1,8 +1,8 @@
--- `differential::listing::larger` meets its contract.
+-- `differential::larger` meets its contract.
 use mathlib.Core.Path.{sym}
 use Rattle.differential.proofs.Rises.{takes-higher, keeps-higher}
-use Rattle.differential.proofs.listing.larger.Statement.{statement}
-use Rattle.differential.proofs.listing.larger.Tie as tie
+use Rattle.differential.proofs.larger.Statement.{statement}
+use Rattle.differential.proofs.larger.Tie as tie
 
 returns : tie.Need-returns
 returns c = sym (takes-higher (c .if1 .taken))
