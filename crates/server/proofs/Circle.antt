@@ -1,6 +1,6 @@
 -- The first number of a list that passes a test, and the places of a circle. Assumes nothing.
 use Prim.Native.Nat.{ℕ, zero, suc, _+_, _-_, _*_, _%_, _<_, _≤_}
-use mathlib.Core.Path.{_≡_, refl, sym, ap, _∙_}
+use mathlib.Core.Path.{_≡_, refl, sym, ap, ap₂, _∙_}
 use mathlib.Core.Bool.{Bool, true, false, true≢false}
 use mathlib.Core.List.{List, [], _∷_}
 use native.Mathlib.Nat.{le-refl}
@@ -66,6 +66,13 @@ module _ (p : ℕ → Bool) where
   unfolding listFrom firstWhere
   found-none g i zero f = refl
   found-none g i (suc k) f = miss (g i) (listFrom (suc i) k g) (f i (le-refl i) (omega arith)) ∙ found-none g (suc i) k (λ h a b. f h (omega arith) (omega arith))
+
+-- two tests that agree on each of the numbers find the same one
+pub found-cong : (p q : ℕ → Bool) (g : ℕ → ℕ) → ((j : ℕ) → p (g j) ≡ q (g j)) → (i k : ℕ) → firstWhere p (listFrom i k g) ≡ firstWhere q (listFrom i k g)
+unfolding listFrom firstWhere
+found-cong p q g e i zero = refl
+found-cong p q g e i (suc k) =
+    ap₂ (λ (b : Bool) (x : ℕ). elim b [ true ↦ g i | false ↦ x ]) (e i) (found-cong p q g e (suc i) k)
 
 -- place q stands somewhere in the circle
 pub somewhere : (last q : ℕ) → 1 ≤ q → q ≤ 8 → (j : ℕ) × (j < 8) × ((last + j) % 8 + 1 ≡ q)

@@ -208,6 +208,10 @@ ran-on {s} {r} {k} (suc j) p e l = go (ℕ-discrete k (suc j)) (λ h. ran-on j p
 pub ran-more : {s t r : Server} {k : ℕ} → Ran s k t → Stepped t r → Ran s (k + 1) r
 ran-more {s} {t} {r} {k} p x = subst (λ (i : ℕ). Ran s i r) (sym (add-one k)) (more p x)
 
+-- a run of one step is a step
+pub ran-one : {s r : Server} → Ran s 1 r → Stepped s r
+ran-one (more none x) = x
+
 pub ran-stands : {s r : Server} {k : ℕ} → Ran s k r → Sound s → Sound r × (state r ≡ run (state s) k)
 unfolding run
 ran-stands none h = (h, refl)

@@ -2,38 +2,38 @@
 use Prim.Native.Nat.{ℕ, suc, _+_, _-_, _%_, _<_, zero-le}
 use mathlib.Core.Path.{_≡_, refl, sym, ap, _∙_, subst}
 use mathlib.Core.Bool.{Bool, true, false}
+use mathlib.Core.List.{List}
 use native.Mathlib.Omega.{arith}
 use native.Mathlib.Decide.{ℕ-discrete}
 use lib.ListN.{getD, set}
 use Rattle.boolean.specs.Sums.{listBelow}
 use Rattle.server.specs.declared.Server.{Server}
 use Rattle.server.specs.Model.{analysis, Spot, empty, holds, State, spotAt, unfinished, circle, served, advanced, serve, step}
-use Rattle.server.specs.Calls.{spot, spots, state, SoundSpot, SoundSpots}
-use Rattle.server.proofs.Circle.{found-first, found-none, found-passes}
-use Rattle.server.proofs.Places.{nowhere, spots-at, more-left, sound-at, sound-set}
+use Rattle.server.specs.Calls.{state, SoundSpot, SoundSpots, Waiting, turn}
+use Rattle.server.proofs.Circle.{found-first, found-none, found-passes, found-cong}
+use Rattle.server.proofs.Places.{more-left, sound-at, sound-set}
 
 -- the index of the place that stands k on in the circle, as the code computes it
 abbrev pub index : ℕ → ℕ → ℕ
 index last k = (last % 8 + k) % 8
 
-module _ (s : Server) where
+-- the turn, found in what is kept of the places
+module _ (waiting : List Bool) (last : ℕ) where
   test : ℕ → Bool
-  test p = unfinished (spotAt (state s) p)
+  test p = getD waiting (p - 1) false
 
   place : ℕ → ℕ
-  place k = (s .last + k) % 8 + 1
+  place k = (last + k) % 8 + 1
 
-  place-is : (k : ℕ) → index (s .last) k + 1 ≡ place k
+  place-is : (k : ℕ) → index last k + 1 ≡ place k
   unfolding place
   place-is k = omega arith
 
-  test-is : (k : ℕ) → unfinished (spot (getD (s .places) (index (s .last) k) nowhere)) ≡ test (place k)
+  test-is : (k : ℕ) → getD waiting (index last k) false ≡ test (place k)
   unfolding test place
-  test-is k =
-      let e : index (s .last) k ≡ (s .last + k) % 8 + 1 - 1 = omega arith in
-      sym (ap unfinished (spots-at (s .places) (index (s .last) k))) ∙ ap (λ (i : ℕ). unfinished (getD (spots (s .places)) i empty)) e
+  test-is k = let e : index last k ≡ (last + k) % 8 + 1 - 1 = omega arith in ap (λ (i : ℕ). getD waiting i false) e
 
-  -- none of the first k places in the circle has an unfinished box
+  -- none of the first k places in the circle is marked
   pub Passed : ℕ → Type 0
   Passed k = (h : ℕ) → h < k → test (place h) ≡ false
 
@@ -41,7 +41,7 @@ module _ (s : Server) where
   unfolding Passed
   passed-none h l = absurd (omega arith)
 
-  pub passed-more : (k : ℕ) → Passed k → unfinished (spot (getD (s .places) (index (s .last) k) nowhere)) ≡ false → Passed (k + 1)
+  pub passed-more : (k : ℕ) → Passed k → getD waiting (index last k) false ≡ false → Passed (k + 1)
   unfolding Passed
   passed-more k p e h l = go (ℕ-discrete h k)
     where
@@ -49,13 +49,20 @@ module _ (s : Server) where
       go (yes q) = ap (λ (j : ℕ). test (place j)) q ∙ sym (test-is k) ∙ e
       go (no q) = p h (omega arith)
 
-  pub served-is : (k : ℕ) → k < 8 → Passed k → unfinished (spot (getD (s .places) (index (s .last) k) nowhere)) ≡ true → index (s .last) k + 1 ≡ served (state s)
-  unfolding Passed served circle listBelow test place
-  served-is k l p e = place-is k ∙ sym (found-first test place 0 8 k zero-le (omega arith) (sym (test-is k) ∙ e) (λ h a b. p h b))
+  pub turn-is : (k : ℕ) → k < 8 → Passed k → getD waiting (index last k) false ≡ true → index last k + 1 ≡ turn waiting last
+  unfolding Passed turn circle listBelow test place
+  turn-is k l p e = place-is k ∙ sym (found-first test place 0 8 k zero-le (omega arith) (sym (test-is k) ∙ e) (λ h a b. p h b))
 
-  pub served-none : Passed 8 → 0 ≡ served (state s)
-  unfolding Passed served circle listBelow test place
-  served-none p = sym (found-none test place 0 8 (λ h a b. p h (omega arith)))
+  pub turn-none : Passed 8 → 0 ≡ turn waiting last
+  unfolding Passed turn circle listBelow test place
+  turn-none p = sym (found-none test place 0 8 (λ h a b. p h (omega arith)))
+
+-- it is the place that a step serves
+pub turn-served : (s : Server) (waiting : List Bool) → Waiting s waiting → turn waiting (s .last) ≡ served (state s)
+unfolding turn served circle listBelow
+turn-served s waiting w =
+    found-cong (λ p. getD waiting (p - 1) false) (λ p. unfinished (spotAt (state s) p)) (λ k. (s .last + k) % 8 + 1)
+    (λ k. w .marked ((s .last + k) % 8 + 1 - 1) (omega arith)) 0 8
 
 -- ---- a step
 pub step-none : (s : State) → served s ≡ 0 → step s ≡ s

@@ -16,7 +16,7 @@ ghost use Rattle.masks.specs.Masks.{outputs};
 ghost use Rattle.linear.specs.Nonlinearity.{pairsOf};
 ghost use Rattle.linear.specs.Work.{candidate, Swept};
 ghost use Rattle.server.specs.Model as model;
-ghost use Rattle.server.specs.Calls.{spot, state, answered, filled, foundOf, placeOf, replaced, better, oneMore};
+ghost use Rattle.server.specs.Calls.{spot, state, answered, filled, foundOf, placeOf, replaced, better, oneMore, Waiting, turn};
 ghost use Rattle.server.specs.Calls.{Began, Put, Withdrew, Told, Stepped, Ran};
 
 // A place: a box with the number of its combinations that were examined and the best pair among exactly those, or, where `taken` is not
@@ -208,6 +208,23 @@ fn examine(fixed: &[i32; 2048], p: Place) -> Place
     }
 }
 
+// The next place after the one last served, in a circle, whose box is unfinished, and 0 where there is none.
+fn next_place(waiting: &[bool; 8], last: u32) -> u32
+    ensures { λ r. ⌜ (r ≤ 8) × (r ≡ turn (now (waiting .entry)) last) ⌝ }
+{
+    let start = last % 8;
+    let mut k = 0;
+    while k < 8 {
+        let i = (start + k) % 8;
+        let j = i as usize;
+        if waiting[j] {
+            return i + 1;
+        }
+        k += 1;
+    }
+    0
+}
+
 impl Server {
     // No box on any place.
     pub fn begin() -> Self
@@ -317,63 +334,48 @@ impl Server {
         }
     }
 
-    // The next place after the one last served, in a circle, whose box is unfinished, and 0 where there is none.
-    fn next_place(self) -> u32
-        ensures { λ r. ⌜ (r ≤ 8) × (r ≡ model.served (state self)) ⌝ }
+    // Of each place, whether its box is unfinished.
+    fn waiting_places(self) -> [bool; 8]
+        ensures { λ r. ⌜ Waiting self r ⌝ }
     {
-        let start = self.last % 8;
-        let mut k = 0;
-        while k < 8 {
-            let i = (start + k) % 8;
-            let j = i as usize;
-            let here = self.places[j];
-            if unfinished(here) {
-                return i + 1;
-            }
-            k += 1;
+        let mut waiting = [false; 8];
+        let mut at = 0;
+        while at < 8 {
+            let held = self.places[at];
+            waiting[at] = unfinished(held);
+            at += 1;
         }
-        0
-    }
-
-    // Examines one combination of the box on a place, whose turn it is.
-    fn serve(self, fixed: &[i32; 2048], place: u32) -> Self
-        requires { ⌜ Spectra (now fixed) × (0 < place) × (place ≤ 8) ⌝ }
-        ensures { λ r. ⌜ (place ≡ model.served (state self) → Stepped self r) ⌝ }
-    {
-        let before = place - 1;
-        let i = before as usize;
-        let here = self.places[i];
-        let examined = examine(fixed, here);
-        let mut server = self.with_place(i, examined);
-        server.last = place;
-        server
+        waiting
     }
 
     // Examines one combination, not examined before, of the next unfinished box; with none unfinished it does nothing.
     pub fn step(self) -> Self
         ensures { λ r. ⌜ Stepped self r ⌝ }
     {
-        let turn = self.next_place();
-        if turn == 0 {
-            return self;
-        }
-        let fixed = walsh::spectra();
-        self.serve(&fixed, turn)
+        self.run(1)
     }
 
-    // So many steps, one after the other. It stops where none is unfinished, since a step then does nothing.
+    // So many steps, one after the other. It stops where none is unfinished, since a step then does nothing. Which places have an
+    // unfinished box is kept beside the server, so that a step hands over no more of the server than the place that it serves.
     pub fn run(self, budget: u32) -> Self
         ensures { λ r. ⌜ Ran self budget r ⌝ }
     {
         let fixed = walsh::spectra();
+        let mut waiting = self.waiting_places();
         let mut server = self;
         let mut done = 0;
         while done < budget {
-            let place = server.next_place();
+            let last = server.last;
+            let place = next_place(&waiting, last);
             if place == 0 {
                 return server;
             }
-            server = server.serve(&fixed, place);
+            let i = (place - 1) as usize;
+            let here = server.places[i];
+            let served = examine(&fixed, here);
+            waiting[i] = unfinished(served);
+            server.places[i] = served;
+            server.last = place;
             done += 1;
         }
         server
