@@ -1,5 +1,6 @@
 pub mod Changes
 pub mod Scans
+pub mod Listing
 pub mod Correlating
 pub mod Widest
 pub mod Sweeps

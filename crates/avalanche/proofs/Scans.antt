@@ -1,143 +1,119 @@
--- The scan that takes the largest magnitude at the changes within a limit, and the one that finds its first place.
-use mathlib.Core.Path.{_≡_, sym, ap, _∙_, subst}
-use mathlib.Core.Bool.{Bool, cond}
+-- The scan that takes the largest magnitude at the changes from 1, and the one that finds its first place. Assumes nothing.
+use mathlib.Core.Path.{_≡_, sym, ap, _∙_}
 use mathlib.Core.List.{List}
 use Prim.Native.Nat.{ℕ, _+_, _^_, _<_, _≤_}
 use native.Mathlib.Nat.{le-refl, le-trans, le-of-eq}
 use native.Mathlib.Omega.{arith}
-use native.Mathlib.Decide.{decLt, ℕ-discrete}
-use borrow.Author.Tests.{le-leb, lt-leb}
-use lib.Count.{ones, ones-le}
+use native.Mathlib.Decide.{ℕ-discrete}
+use lib.Count.{ones-le}
 use lib.IntN.{ℤ, natAbs}
 use lib.ListN.{length}
 use Rattle.boolean.specs.Functions.{valueAt, Within}
-use Rattle.avalanche.specs.Work.{sizeWithin, LargestWithin, FirstWithin}
-
--- ---- the magnitude at one change
-pub size-within : (j s : ℕ) (value : ℤ) → ones s ≤ j → sizeWithin j s value ≡ natAbs value
-unfolding sizeWithin
-size-within j s value h = ap (λ (t : Bool). cond t (natAbs value) 0) (le-leb (ones s) j h)
-
-pub size-outside : (j s : ℕ) (value : ℤ) → j < ones s → sizeWithin j s value ≡ 0
-unfolding sizeWithin
-size-outside j s value h = ap (λ (t : Bool). cond t (natAbs value) 0) (lt-leb (ones s) j h)
-
-few-enough : (j s : ℕ) (value : ℤ) → 0 < sizeWithin j s value → ones s ≤ j
-few-enough j s value h = go (decLt j (ones s))
-  where
-    go : Dec (j < ones s) → ones s ≤ j
-    go (yes l) = absurd (omega (arith, size-outside j s value l))
-    go (no l) = omega arith
+use Rattle.avalanche.specs.Work.{LargestWithin, FirstWithin}
 
 -- ---- the largest before s
-pub record Scanned (values : List ℤ) (j s largest : ℕ) : Type 0 where
+pub record Scanned (values : List ℤ) (s largest : ℕ) : Type 0 where
   pub low : 1 ≤ s
-  pub bounds : (t : ℕ) → t < s → Within j (length values) t → natAbs (valueAt values t) ≤ largest
-  pub reached : 0 < largest → (t : ℕ) × Within j (length values) t × (natAbs (valueAt values t) ≡ largest)
+  pub bounds : (t : ℕ) → 1 ≤ t → t < s → natAbs (valueAt values t) ≤ largest
+  pub reached : 0 < largest → (t : ℕ) × (1 ≤ t) × (t < length values) × (natAbs (valueAt values t) ≡ largest)
 
-pub scanned-none : (values : List ℤ) (j : ℕ) → Scanned values j 1 0
-scanned-none values j = record {
-  low = le-refl 1;
-  bounds = λ t l h. absurd (omega (arith, h .low));
-  reached = λ h. absurd (omega arith);
-}
+pub scanned-none : (values : List ℤ) → Scanned values 1 0
+scanned-none values = record { low = le-refl 1; bounds = λ t a l. absurd (omega arith); reached = λ h. absurd (omega arith) }
 
-module _ {values : List ℤ} {j s largest : ℕ} (d : Scanned values j s largest) where
-  module _ {size : ℕ} (e : size ≡ sizeWithin j s (valueAt values s)) where
+module _ {values : List ℤ} {s largest : ℕ} (d : Scanned values s largest) where
+  module _ {size : ℕ} (e : size ≡ natAbs (valueAt values s)) where
     -- one change more, that is no larger, or that is
-    pub scanned-keeps : size ≤ largest → Scanned values j (s + 1) largest
-    scanned-keeps h = record { low = omega (arith, d .low); bounds = λ t l w. more t l w (ℕ-discrete t s); reached = d .reached }
+    pub scanned-keeps : size ≤ largest → Scanned values (s + 1) largest
+    scanned-keeps h = record { low = omega (arith, d .low); bounds = λ t a l. more t a l (ℕ-discrete t s); reached = d .reached }
       where
-        more : (t : ℕ) → t < s + 1 → Within j (length values) t → Dec (t ≡ s) → natAbs (valueAt values t) ≤ largest
-        more t l w (yes q) =
-            let f : ones s ≤ j = subst (λ (z : ℕ). ones z ≤ j) q (w .few) in
-            omega (arith, ap (λ (z : ℕ). natAbs (valueAt values z)) q, size-within j s (valueAt values s) f)
-        more t l w (no q) = d .bounds t (omega arith) w
+        more : (t : ℕ) → 1 ≤ t → t < s + 1 → Dec (t ≡ s) → natAbs (valueAt values t) ≤ largest
+        more t a l (yes q) = omega (arith, ap (λ (z : ℕ). natAbs (valueAt values z)) q)
+        more t a l (no q) = d .bounds t a (omega arith)
 
-    pub scanned-takes : s < length values → largest < size → Scanned values j (s + 1) size
-    scanned-takes inside h =
-        let f : ones s ≤ j = few-enough j s (valueAt values s) (omega arith) in
-        let is : natAbs (valueAt values s) ≡ size = sym (size-within j s (valueAt values s) f) ∙ sym e in
-        record {
-          low = omega (arith, d .low);
-          bounds = λ t l w. more is t l w (ℕ-discrete t s);
-          reached = λ p. (s, record { low = d .low; high = inside; few = f }, is);
-        }
+    pub scanned-takes : s < length values → largest < size → Scanned values (s + 1) size
+    scanned-takes inside h = record {
+      low = omega (arith, d .low);
+      bounds = λ t a l. more t a l (ℕ-discrete t s);
+      reached = λ p. (s, d .low, inside, sym e);
+    }
       where
-        more : natAbs (valueAt values s) ≡ size → (t : ℕ) → t < s + 1 → Within j (length values) t → Dec (t ≡ s) → natAbs (valueAt values t) ≤ size
-        more is t l w (yes q) = le-of-eq (ap (λ (z : ℕ). natAbs (valueAt values z)) q ∙ is)
-        more is t l w (no q) = omega (arith, d .bounds t (omega arith) w)
+        more : (t : ℕ) → 1 ≤ t → t < s + 1 → Dec (t ≡ s) → natAbs (valueAt values t) ≤ size
+        more t a l (yes q) = le-of-eq (ap (λ (z : ℕ). natAbs (valueAt values z)) q ∙ sym e)
+        more t a l (no q) = omega (arith, d .bounds t a (omega arith))
 
-  -- all of them
-  pub scanned-all : length values ≤ s → LargestWithin values j largest
-  scanned-all h = record { bounds = λ t w. d .bounds t (omega (arith, w .high)) w; reached = d .reached }
-
--- ---- no change of n inputs has more than n ones
-pub size-anywhere : {end : ℕ} (s : ℕ) (value : ℤ) → end ≤ 256 → s < end → natAbs value ≡ sizeWithin 8 s value
-size-anywhere s value few h = sym (size-within 8 s value (ones-le 8 s (omega arith)))
-
-pub largest-anywhere : {values : List ℤ} {n j largest : ℕ} → n ≤ 8 → length values ≡ 2 ^ n → n ≤ j → LargestWithin values 8 largest
-    → LargestWithin values j largest
-largest-anywhere {values} {n} {j} {largest} few long h d =
-    record { bounds = λ s w. d .bounds s (limited 8 few w); reached = λ p. let t = d .reached p in (t .0, limited j h (t .1), t .2) }
-  where
-    limited : {i s : ℕ} (k : ℕ) → n ≤ k → Within i (length values) s → Within k (length values) s
-    limited {s = s} k le w = record { low = w .low; high = w .high; few = le-trans (ones-le n s (omega (arith, w .high))) le }
+  -- all of them; none of at most 256 has more than 8 ones
+  pub scanned-all : length values ≤ 256 → length values ≤ s → LargestWithin values 8 largest
+  scanned-all few h = record {
+    bounds = λ t w. d .bounds t (w .low) (omega (arith, w .high));
+    reached = λ p. let t = d .reached p in (t .0, record { low = t .1; high = t .2; few = ones-le 8 (t .0) (omega (arith, t .2)) }, t .3);
+  }
 
 -- ---- none before s has the size, and one from s on does
-pub record Seeking (values : List ℤ) (j size s : ℕ) : Type 0 where
+pub record Seeking (values : List ℤ) (size s : ℕ) : Type 0 where
   pub low : 1 ≤ s
-  pub none : (t : ℕ) → t < s → Within j (length values) t → natAbs (valueAt values t) ≡ size → ⊥
+  pub none : (t : ℕ) → 1 ≤ t → t < s → natAbs (valueAt values t) ≡ size → ⊥
   pub place : ℕ
   pub beyond : s ≤ place
-  pub within : Within j (length values) place
+  pub inside : place < length values
   pub reached : natAbs (valueAt values place) ≡ size
 
-pub seeking-all : (values : List ℤ) (j largest : ℕ) → LargestWithin values j largest → 0 < largest → Seeking values j largest 1
-seeking-all values j largest h p =
+pub seeking-all : (values : List ℤ) (largest : ℕ) → LargestWithin values 8 largest → 0 < largest → Seeking values largest 1
+seeking-all values largest h p =
     let t = h .reached p in
     record {
       low = le-refl 1;
-      none = λ t l w e. absurd (omega (arith, w .low));
+      none = λ t a l e. absurd (omega arith);
       place = t .0;
       beyond = t .1 .low;
-      within = t .1;
+      inside = t .1 .high;
       reached = t .2;
     }
 
-module _ {values : List ℤ} {j size s : ℕ} (d : Seeking values j size s) where
+module _ {values : List ℤ} {size s : ℕ} (d : Seeking values size s) where
   pub seeking-inside : s < length values
-  seeking-inside = omega (arith, d .beyond, d .within .high)
+  seeking-inside = omega (arith, d .beyond, d .inside)
 
-  module _ {found : ℕ} (e : found ≡ sizeWithin j s (valueAt values s)) where
+  module _ {found : ℕ} (e : found ≡ natAbs (valueAt values s)) where
     -- a change of another size is passed over
-    pub seeking-next : (found ≡ size → ⊥) → Seeking values j size (s + 1)
+    pub seeking-next : (found ≡ size → ⊥) → Seeking values size (s + 1)
     seeking-next h = record {
       low = omega (arith, d .low);
-      none = λ t l w q. more t l w q (ℕ-discrete t s);
+      none = λ t a l q. more t a l q (ℕ-discrete t s);
       place = d .place;
       beyond = further (ℕ-discrete (d .place) s);
-      within = d .within;
+      inside = d .inside;
       reached = d .reached;
     }
       where
-        other : Within j (length values) s → natAbs (valueAt values s) ≡ size → ⊥
-        other w q = h (e ∙ size-within j s (valueAt values s) (w .few) ∙ q)
+        other : (t : ℕ) → t ≡ s → natAbs (valueAt values t) ≡ size → ⊥
+        other t p q = h (e ∙ sym (ap (λ (z : ℕ). natAbs (valueAt values z)) p) ∙ q)
 
-        more : (t : ℕ) → t < s + 1 → Within j (length values) t → natAbs (valueAt values t) ≡ size → Dec (t ≡ s) → ⊥
-        more t l w q (yes p) = other (subst (Within j (length values)) p w) (sym (ap (λ (z : ℕ). natAbs (valueAt values z)) p) ∙ q)
-        more t l w q (no p) = d .none t (omega arith) w q
+        more : (t : ℕ) → 1 ≤ t → t < s + 1 → natAbs (valueAt values t) ≡ size → Dec (t ≡ s) → ⊥
+        more t a l q (yes p) = other t p q
+        more t a l q (no p) = d .none t a (omega arith) q
 
         further : Dec (d .place ≡ s) → s + 1 ≤ d .place
-        further (yes p) = absurd (other (subst (Within j (length values)) p (d .within)) (sym (ap (λ (z : ℕ). natAbs (valueAt values z)) p) ∙ d .reached))
+        further (yes p) = absurd (other (d .place) p (d .reached))
         further (no p) = omega (arith, d .beyond)
 
     -- the first of the size
-    pub seeking-found : 0 < size → found ≡ size → FirstWithin values j size s
-    seeking-found p h =
-        let f : ones s ≤ j = few-enough j s (valueAt values s) (omega arith) in
-        record {
-          within = record { low = d .low; high = seeking-inside; few = f };
-          has = sym (size-within j s (valueAt values s) f) ∙ sym e ∙ h;
-          first = d .none;
-        }
+    pub seeking-found : length values ≤ 256 → found ≡ size → FirstWithin values 8 size s
+    seeking-found few h = record {
+      within = record { low = d .low; high = seeking-inside; few = ones-le 8 s (omega (arith, seeking-inside)) };
+      has = sym e ∙ h;
+      first = λ t l w q. d .none t (w .low) l q;
+    }
+
+-- ---- no change of n inputs has more than n ones: limits of n or more are the same
+module _ (values : List ℤ) {n i j : ℕ} (long : length values ≡ 2 ^ n) (hi : n ≤ i) (hj : n ≤ j) where
+  anywhere : {h s : ℕ} (k : ℕ) → n ≤ k → Within h (length values) s → Within k (length values) s
+  anywhere {s = s} k le w = record { low = w .low; high = w .high; few = le-trans (ones-le n s (omega (arith, w .high))) le }
+
+  pub largest-anywhere : {largest : ℕ} → LargestWithin values i largest → LargestWithin values j largest
+  largest-anywhere d = record {
+    bounds = λ s w. d .bounds s (anywhere i hi w);
+    reached = λ p. let t = d .reached p in (t .0, anywhere j hj (t .1), t .2);
+  }
+
+  pub first-anywhere : {size s : ℕ} → FirstWithin values i size s → FirstWithin values j size s
+  first-anywhere d = record { within = anywhere j hj (d .within); has = d .has; first = λ t l w. d .first t l (anywhere i hi w) }

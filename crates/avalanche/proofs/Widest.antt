@@ -1,12 +1,12 @@
 -- The best change of a component from its autocorrelation, which is given 2^n times.
-use mathlib.Core.Path.{_≡_, refl, sym, ap, _∙_, subst}
+use mathlib.Core.Path.{_≡_, refl, sym, ap, ap₂, _∙_, subst}
 use mathlib.Core.Bool.{Bool, true, false, _&&_, _||_, false≢true}
 use mathlib.Core.List.{List, [], _∷_, List·Memᴰ}
 use Prim.Native.Nat.{ℕ, _*_, _/_, _^_, _<_, _≤_}
 use native.Mathlib.Nat.{le-trans, le-of-eq, le-antisymm, mul-comm, mul-div-right, le-div-iff-mul-le, div-le-self}
 use native.Mathlib.Omega.{arith}
-use native.Mathlib.Decide.{decLt}
-use borrow.Author.Tests.{lt-ltb, le-ltb, ltb-true, eqb-true}
+use native.Mathlib.Decide.{decLt, ℕ-discrete}
+use borrow.Author.Tests.{lt-ltb, le-ltb, ltb-true, ltb-false, eqb-true, ne-eqb}
 use lib.Count.{ones}
 use lib.Dec.{ltb, eqb}
 use lib.Pow.{pow-pos}
@@ -33,6 +33,17 @@ blocks n rows j ln lj = record {
   names = λ c p k. ap (λ (p : Candidate). at (p .witness) 0) (mem-changesOf n j (correlated n rows) c p k .2);
 }
 
+-- what is not preferred for a figure is not preferred for a lower one
+less-preferred : (low figure high c best : ℕ) → figure ≤ high → preferred low high c best ≡ false → preferred low figure c best ≡ false
+less-preferred low figure high c best l h = go (ltb low high) refl (ℕ-discrete figure high)
+  where
+    go : (t : Bool) → ltb low high ≡ t → Dec (figure ≡ high) → preferred low figure c best ≡ false
+    go t e (yes q) = ap (λ (k : ℕ). preferred low k c best) q ∙ h
+    go true e (no q) = absurd (false≢true (sym h ∙ ap (λ (t : Bool). t || (eqb low high && ltb (ones c) (ones best))) e))
+    go false e (no q) =
+        let above : high ≤ low = ltb-false low high e in
+        ap₂ (λ (t u : Bool). t || (u && ltb (ones c) (ones best))) (le-ltb low figure (omega arith)) (ne-eqb low figure (λ z. omega arith))
+
 module _ (n : ℕ) (rows : List ℕ) (c j : ℕ) {values : List ℤ} (e : values ≡ correlations n rows c) where
   pub values-length : length values ≡ 2 ^ n
   unfolding correlations
@@ -55,25 +66,41 @@ module _ (n : ℕ) (rows : List ℕ) (c j : ℕ) {values : List ℤ} (e : values
   outside : {s : ℕ} → Within j (length values) s → Within j (2 ^ n) s
   outside {s} w = subst (λ (k : ℕ). Within j k s) values-length w
 
-  module _ {largest : ℕ} (top : LargestWithin values j largest) where
-    -- no change has more than the largest's share
-    most : (q : Candidate) → List·Memᴰ q (changesOf n j (correlated n rows) c) → q .figure ≤ largest / 2 ^ n
-    most q k =
+  -- the first largest is one of them
+  largest-mem : 1 ≤ n → 1 ≤ j → List·Memᴰ (firstLargest (changesOf n j (correlated n rows) c)) (changesOf n j (correlated n rows) c)
+  largest-mem n-low j-low =
+      let t = changesOf-some n j (correlated n rows) c n-low j-low in
+      subst (λ (l : List Candidate). List·Memᴰ (firstLargest l) l) (sym (t .2)) (firstLargest-mem (t .0) (t .1))
+
+  module _ {bound : ℕ} (bounds : (s : ℕ) → Within j (length values) s → natAbs (valueAt values s) ≤ bound) where
+    -- where no magnitude is above a bound, no change has more than the bound's share
+    most-of : (q : Candidate) → List·Memᴰ q (changesOf n j (correlated n rows) c) → q .figure ≤ bound / 2 ^ n
+    most-of q k =
         let t = mem-changesOf n j (correlated n rows) c q k in
         le-div-iff-mul-le (pow-pos n) .1
         (le-trans (le-of-eq (ap (λ (r : Candidate). r .figure * 2 ^ n) (t .2) ∙ mul-comm (correlated n rows c (t .0)) (2 ^ n)))
-        (le-trans (le-of-eq (sym (size-is (t .0) (t .1 .high)))) (top .bounds (t .0) (inside (t .1)))))
+        (le-trans (le-of-eq (sym (size-is (t .0) (t .1 .high)))) (bounds (t .0) (inside (t .1)))))
+
+    -- so a best that is kept for the share is kept for the first largest
+    pub beaten : 1 ≤ n → 1 ≤ j → {figure : ℕ} → figure ≡ bound / 2 ^ n → (b : Candidate) → preferred (b .figure) figure c (at (b .witness) 0) ≡ false
+        → b ≡ best (ranked higher outputs) b (firstLargest (changesOf n j (correlated n rows) c) ∷ [])
+    unfolding best
+    beaten n-low j-low {figure} share b h =
+        let v = firstLargest (changesOf n j (correlated n rows) c) in
+        let few : v .figure ≤ figure = le-trans (most-of v (largest-mem n-low j-low)) (le-of-eq (sym share)) in
+        sym (best-keeps (ranked higher outputs) b v []
+        (sym (higher-test v b refl (sym (largest-names (blocks n rows j n-low j-low) c))) ∙ less-preferred (b .figure) (v .figure) figure c (at (b .witness) 0) few h))
+
+  module _ {largest : ℕ} (top : LargestWithin values j largest) where
+    -- no change has more than the largest's share
+    most : (q : Candidate) → List·Memᴰ q (changesOf n j (correlated n rows) c) → q .figure ≤ largest / 2 ^ n
+    most = most-of (top .bounds)
 
     module _ (n-low : 1 ≤ n) (j-low : 1 ≤ j) where
       -- so that is the largest figure
       largest-figure : firstLargest (changesOf n j (correlated n rows) c) .figure ≡ largest / 2 ^ n
-      largest-figure = le-antisymm (most (firstLargest (changesOf n j (correlated n rows) c)) mem) (reached (decLt 0 largest))
+      largest-figure = le-antisymm (most (firstLargest (changesOf n j (correlated n rows) c)) (largest-mem n-low j-low)) (reached (decLt 0 largest))
         where
-          mem : List·Memᴰ (firstLargest (changesOf n j (correlated n rows) c)) (changesOf n j (correlated n rows) c)
-          mem =
-              let t = changesOf-some n j (correlated n rows) c n-low j-low in
-              subst (λ (l : List Candidate). List·Memᴰ (firstLargest l) l) (sym (t .2)) (firstLargest-mem (t .0) (t .1))
-
           reached : Dec (0 < largest) → largest / 2 ^ n ≤ firstLargest (changesOf n j (correlated n rows) c) .figure
           reached (yes l) =
               let t = top .reached l in

@@ -1,14 +1,12 @@
 -- What the functions behind the calls on input changes ask and leave.
 use Prim.Native.Nat.{ℕ, _^_, _≤_, _<_}
 use mathlib.Core.Path.{_≡_}
-use mathlib.Core.Bool.{cond}
 use mathlib.Core.List.{List, [], _∷_}
 use lib.Count.{ones}
-use lib.Dec.{leb}
 use lib.IntN.{ℤ, pos, _*ℤ_, natAbs}
 use lib.ListN.{length}
 use Rattle.boolean.specs.Sums.{listBelow}
-use Rattle.boolean.specs.Functions.{valueAt, autocorrelation, component, Within}
+use Rattle.boolean.specs.Functions.{at, valueAt, autocorrelation, component, Within}
 use Rattle.boolean.specs.Selection.{Candidate}
 use Rattle.refusals.specs.Table.{Box}
 use Rattle.avalanche.specs.declared.FoundChange.{FoundChange}
@@ -34,10 +32,6 @@ pub record Compared (n m : ℕ) (rows : List ℕ) (j : ℕ) (found : FoundChange
   pub values-are : values ≡ correlations n rows c
   pub single : found .figure ≡ 0 → ones (found .c) ≤ 1
 
--- the magnitude of a value at s, or 0 where s has more than j ones
-unfoldable pub sizeWithin : (j s : ℕ) (value : ℤ) → ℕ
-sizeWithin j s value = cond (leb (ones s) j) (natAbs value) 0
-
 -- the largest magnitude at a change within the limit j, and 0 where there is none
 pub record LargestWithin (values : List ℤ) (j largest : ℕ) : Type 0 where
   pub bounds : (s : ℕ) → Within j (length values) s → natAbs (valueAt values s) ≤ largest
@@ -48,3 +42,26 @@ pub record FirstWithin (values : List ℤ) (j size s : ℕ) : Type 0 where
   pub within : Within j (length values) s
   pub has : natAbs (valueAt values s) ≡ size
   pub first : (t : ℕ) → t < s → Within j (length values) t → natAbs (valueAt values t) ≡ size → ⊥
+
+-- the changes within the limit j, in ascending order
+pub record Listed (j size : ℕ) (list : List ℕ) : Type 0 where
+  pub within : (k : ℕ) → k < length list → Within j size (at list k)
+  pub all : (s : ℕ) → Within j size s → (k : ℕ) × (k < length list) × (at list k ≡ s)
+  pub rises : (h k : ℕ) → h < k → k < length list → at list h < at list k
+
+-- each change of a list has a value
+abbrev pub Inside : (values : List ℤ) (list : List ℕ) → Type 0
+Inside values list = (k : ℕ) → k < length list → at list k < length values
+
+-- the largest magnitude at a change of a list, and 0 where there is none
+pub record LargestListed (values : List ℤ) (list : List ℕ) (largest : ℕ) : Type 0 where
+  pub bounds : (k : ℕ) → k < length list → natAbs (valueAt values (at list k)) ≤ largest
+  pub reached : 0 < largest → (k : ℕ) × (k < length list) × (natAbs (valueAt values (at list k)) ≡ largest)
+
+-- the first change of a list that has a magnitude
+pub record FirstListed (values : List ℤ) (list : List ℕ) (size s : ℕ) : Type 0 where
+  pub place : ℕ
+  pub inside : place < length list
+  pub is : at list place ≡ s
+  pub has : natAbs (valueAt values s) ≡ size
+  pub first : (k : ℕ) → k < place → natAbs (valueAt values (at list k)) ≡ size → ⊥

@@ -3,12 +3,12 @@ use refusals::Checked;
 use refusals::Refusal;
 use refusals::Verdict;
 ghost use mathlib.Core.Path.{_≡_};
-ghost use mathlib.Core.Bool.{not};
+ghost use mathlib.Core.Bool.{true, not};
 ghost use mathlib.Core.List.{[], _∷_};
-ghost use Prim.Native.Nat.{ℕ, _*_, _^_, _≤_, _<_};
+ghost use Prim.Native.Nat.{ℕ, _+_, _*_, _^_, _≤_, _<_};
 ghost use lib.Dec.{eqb};
 ghost use lib.IntN.{pos, _+ℤ_, natAbs};
-ghost use lib.ListN.{length};
+ghost use lib.ListN.{length, take};
 ghost use Rattle.boolean.specs.Bits.{bit};
 ghost use Rattle.boolean.specs.Sums.{listFrom, listBelow, every, AnyContent};
 ghost use Rattle.boolean.specs.Functions.{valueAt, changes, column, square};
@@ -21,7 +21,8 @@ ghost use Rattle.linear.specs.Work.{Swept};
 ghost use Rattle.avalanche.specs.Avalanche.{measured, correlated, changesOf};
 ghost use Rattle.avalanche.specs.Avalanche as spec;
 ghost use Rattle.avalanche.specs.Calls.{distanceChecks, changeReply, autocorrelationReply, distanceReply, completeReply};
-ghost use Rattle.avalanche.specs.Work.{candidate, truthTable, correlations, sizeWithin, Compared, LargestWithin, FirstWithin};
+ghost use Rattle.avalanche.specs.Work.{candidate, truthTable, correlations, Compared, LargestWithin, FirstWithin};
+ghost use Rattle.avalanche.specs.Work.{Listed, Inside, LargestListed, FirstListed};
 
 // The best so far.
 pub struct FoundChange {
@@ -108,36 +109,58 @@ fn next_correlation(
     correlate(fixed, n, m, rows, c, table, values);
 }
 
-// The magnitude of the value at s, or 0 where s has more than j ones.
-fn size_within(value: i32, s: u32, j: u32) -> u32
-    ensures { λ r. ⌜ r ≡ sizeWithin j s value ⌝ }
+// One change more: it is listed where it has at most j ones.
+fn list_change(j: u32, s: u32, count: usize, list: &mut [u32]) -> usize
+    requires { ⌜ (1 ≤ s) × (count < length (now list)) × Listed j s (take count (now list)) ⌝ }
+    ensures { λ r. ⌜ (r ≤ count + 1) × Listed j (s + 1) (take r (now (list .exit)))
+        × AnyContent (now (list .entry)) (now (list .exit)) ⌝ }
 {
-    if u32::count_ones(s) <= j {
-        boolean::magnitude(value)
-    } else {
-        0
+    if j < u32::count_ones(s) {
+        return count;
     }
+    list[count] = s;
+    count + 1
 }
 
-// The largest magnitude at an s from 1 with at most j ones, each s counted.
-fn largest_limited(values: &[i32], j: u32) -> u32
-    requires { ⌜ length (now values) ≤ 256 ⌝ }
-    ensures { λ r. ⌜ LargestWithin (now (values .entry)) j r ⌝ }
+// Lists the changes of at most j of the n inputs, once for all components, and gives their number. Where j is n or more the limit leaves
+// out none, and no list is made.
+fn list_changes(n: u32, j: u32, list: &mut [u32]) -> usize
+    requires { ⌜ (n ≤ 8) × (length (now list) ≡ 2 ^ n) ⌝ }
+    ensures { λ r. ⌜ (r ≤ 2 ^ n) × (j < n → Listed j (2 ^ n) (take r (now (list .exit))))
+        × AnyContent (now (list .entry)) (now (list .exit)) ⌝ }
 {
-    let end = values.len() as u32;
-    let mut largest: u32 = 0;
+    if n <= j {
+        return 0;
+    }
+    let end = list.len() as u32;
+    let mut count = 0;
     let mut s: u32 = 1;
     while s < end {
-        let size = size_within(values[s as usize], s, j);
+        count = list_change(j, s, count, list);
+        s += 1;
+    }
+    count
+}
+
+// The largest magnitude at the changes of a list.
+fn largest_listed(values: &[i32], list: &[u32]) -> u32
+    requires { ⌜ Inside (now values) (now list) ⌝ }
+    ensures { λ r. ⌜ LargestListed (now (values .entry)) (now (list .entry)) r ⌝ }
+{
+    let mut largest: u32 = 0;
+    let mut k = 0;
+    while k < list.len() {
+        let s = list[k];
+        let size = boolean::magnitude(values[s as usize]);
         if largest < size {
             largest = size;
         }
-        s += 1;
+        k += 1;
     }
     largest
 }
 
-// The largest magnitude at an s from 1. None of them has more than 8 ones, so that none is counted, which is quicker.
+// The largest magnitude at an s from 1. None of them has more than 8 ones, so that none is counted.
 fn largest_from_one(values: &[i32]) -> u32
     requires { ⌜ length (now values) ≤ 256 ⌝ }
     ensures { λ r. ⌜ LargestWithin (now (values .entry)) 8 r ⌝ }
@@ -155,27 +178,77 @@ fn largest_from_one(values: &[i32]) -> u32
 }
 
 // The largest magnitude at an s from 1 with at most j ones. Where to find it is not asked yet: most components do not need it.
-fn largest_within(n: u32, values: &[i32], j: u32) -> u32
-    requires { ⌜ (n ≤ 8) × (length (now values) ≡ 2 ^ n) ⌝ }
+fn largest_within(n: u32, values: &[i32], j: u32, list: &[u32]) -> u32
+    requires { ⌜ (n ≤ 8) × (length (now values) ≡ 2 ^ n) × (j < n → Listed j (2 ^ n) (now list)) ⌝ }
     ensures { λ r. ⌜ LargestWithin (now (values .entry)) j r ⌝ }
 {
-    if n <= j {
-        largest_from_one(values)
+    if j < n {
+        largest_listed(values, list)
     } else {
-        largest_limited(values, j)
+        largest_from_one(values)
     }
 }
 
-// The first s from 1 with at most j ones that has the largest magnitude, which is not 0.
-fn first_within(values: &[i32], j: u32, largest: u32) -> u32
-    requires { ⌜ (length (now values) ≤ 256) × LargestWithin (now values) j largest × (0 < largest) ⌝ }
-    ensures { λ r. ⌜ FirstWithin (now (values .entry)) j largest r ⌝ }
+// The first change of a list that has the largest magnitude, which is not 0.
+fn first_listed(values: &[i32], list: &[u32], largest: u32) -> u32
+    requires { ⌜ Inside (now values) (now list) × LargestListed (now values) (now list) largest × (0 < largest) ⌝ }
+    ensures { λ r. ⌜ FirstListed (now (values .entry)) (now (list .entry)) largest r ⌝ }
+{
+    let mut k = 0;
+    let mut s = list[0];
+    while boolean::magnitude(values[s as usize]) != largest {
+        k += 1;
+        s = list[k];
+    }
+    s
+}
+
+// The first s from 1 that has the largest magnitude, which is not 0.
+fn first_from_one(values: &[i32], largest: u32) -> u32
+    requires { ⌜ (length (now values) ≤ 256) × LargestWithin (now values) 8 largest × (0 < largest) ⌝ }
+    ensures { λ r. ⌜ FirstWithin (now (values .entry)) 8 largest r ⌝ }
 {
     let mut place: u32 = 1;
-    while size_within(values[place as usize], place, j) != largest {
+    while boolean::magnitude(values[place as usize]) != largest {
         place += 1;
     }
     place
+}
+
+// The first s from 1 with at most j ones that has the largest magnitude, which is not 0.
+fn first_within(n: u32, values: &[i32], j: u32, list: &[u32], largest: u32) -> u32
+    requires { ⌜ (n ≤ 8) × (length (now values) ≡ 2 ^ n) × (j < n → Listed j (2 ^ n) (now list))
+        × LargestWithin (now values) j largest × (0 < largest) ⌝ }
+    ensures { λ r. ⌜ FirstWithin (now (values .entry)) j largest r ⌝ }
+{
+    if n <= j {
+        first_from_one(values, largest)
+    } else {
+        first_listed(values, list, largest)
+    }
+}
+
+// Whether the largest magnitude at all changes shows already that component c is no better than the best so far. That is found many at a
+// time, and a list is gone through one by one: it is asked where half of the changes or more are listed.
+fn is_beaten(
+    found: FoundChange,
+    n: u32,
+    m: u32,
+    rows: &[u32],
+    j: u32,
+    list: &[u32],
+    c: u32,
+    values: &[i32],
+) -> bool
+    requires { ⌜ Compared n m (now rows) j found c (now values) ⌝ }
+    ensures { λ r. ⌜ (r ≡ true → candidate found
+        ≡ best (ranked higher outputs) (candidate found) (firstLargest (changesOf n j (correlated n (now (rows .entry))) c) ∷ [])) ⌝ }
+{
+    if list.len() < values.len() / 2 {
+        return false;
+    }
+    let bound = largest_from_one(values) / rows.len() as u32;
+    !masks::is_preferred(found.figure, bound, c, found.c)
 }
 
 // The best change so far, or the first best of component c, whose autocorrelation is given 2^n times: by the figure, and among equal
@@ -186,17 +259,21 @@ fn with_correlation(
     m: u32,
     rows: &[u32],
     j: u32,
+    list: &[u32],
     c: u32,
     values: &[i32],
 ) -> FoundChange
-    requires { ⌜ Compared n m (now rows) j found c (now values) ⌝ }
+    requires { ⌜ Compared n m (now rows) j found c (now values) × (j < n → Listed j (2 ^ n) (now list)) ⌝ }
     ensures { λ r. ⌜ candidate r
         ≡ best (ranked higher outputs) (candidate found) (firstLargest (changesOf n j (correlated n (now (rows .entry))) c) ∷ []) ⌝ }
 {
-    let largest = largest_within(n, values, j);
+    if is_beaten(found, n, m, rows, j, list, c, values) {
+        return found;
+    }
+    let largest = largest_within(n, values, j, list);
     let figure = largest / rows.len() as u32;
     if masks::is_preferred(found.figure, figure, c, found.c) {
-        let s = first_within(values, j, largest);
+        let s = first_within(n, values, j, list, largest);
         FoundChange { figure, c, s }
     } else {
         found
@@ -212,12 +289,13 @@ fn sweep(
     rows: &[u32],
     i: u32,
     j: u32,
+    list: &[u32],
     steps: &mut [u8],
     table: &mut [u8],
     values: &mut [i32],
 ) -> FoundChange
     requires { ⌜ Swept n m (now rows) (now table) (now values) × Spectra (now fixed)
-        × (length (now steps) ≡ m * length (now rows)) × (1 ≤ i) × (1 ≤ j) ⌝ }
+        × (length (now steps) ≡ m * length (now rows)) × (1 ≤ i) × (1 ≤ j) × (j < n → Listed j (2 ^ n) (now list)) ⌝ }
     ensures { λ r. ⌜ (candidate r ≡ firstLargest (measured n m i j (correlated n (now (rows .entry)))))
         × (now (steps .exit) ≡ stepTables m (now (rows .entry)))
         × AnyContent (now (table .entry)) (now (table .exit)) × AnyContent (now (values .entry)) (now (values .exit)) ⌝ }
@@ -234,7 +312,7 @@ fn sweep(
     let mut c: u64 = 1;
     while c < masks {
         next_correlation(fixed, n, m, rows, steps, last, c, table, values);
-        found = with_correlation(found, n, m, rows, j, c as u32, values);
+        found = with_correlation(found, n, m, rows, j, list, c as u32, values);
         last = c;
         c = masks::next_mask(i, c);
     }
@@ -247,10 +325,12 @@ fn largest_correlation(n: u32, m: u32, rows: &[u32], i: u32, j: u32) -> FoundCha
     ensures { λ r. ⌜ candidate r ≡ firstLargest (measured n m i j (correlated n (now (rows .entry)))) ⌝ }
 {
     let fixed = walsh::spectra();
+    let mut list = [0u32; 256];
     let mut steps = [0u8; 8192];
     let mut table = [0u8; 256];
     let mut values = [0i32; 256];
     let size = rows.len();
+    let count = list_changes(n, j, &mut list[..size]);
     let total = m as usize * size;
     sweep(
         &fixed,
@@ -259,6 +339,7 @@ fn largest_correlation(n: u32, m: u32, rows: &[u32], i: u32, j: u32) -> FoundCha
         rows,
         i,
         j,
+        &list[..count],
         &mut steps[..total],
         &mut table[..size],
         &mut values[..size],

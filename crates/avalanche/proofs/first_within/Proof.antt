@@ -1,74 +1,45 @@
--- `avalanche::first_within` meets its contract: no change before the place has the magnitude, and one from there on does. Assumes nothing.
-use mathlib.Core.Path.{_≡_, ap, _∙_}
-use Prim.Native.Nat.{_-_}
-use native.Mathlib.Omega.{arith}
-use lib.IntN.{ℤ}
+-- `avalanche::first_within` meets its contract: where j is n or more, the limit passes over none, and else the list has all that are within it,
+-- in ascending order. Assumes nothing.
+use Prim.Native.Nat.{ℕ, _≤_, _<_}
+use mathlib.Core.Path.{sym, subst}
+use native.Mathlib.Nat.{le-trans, le-of-eq}
 use lib.ListN.{length}
-use Rattle.boolean.specs.Functions.{valueAt}
-use Rattle.boolean.proofs.Words.{word-told}
-use Rattle.avalanche.specs.Work.{sizeWithin}
-use Rattle.avalanche.proofs.Scans.{Seeking, seeking-all, seeking-inside, seeking-next, seeking-found}
-use borrow.Author.Needs.{needs}
+use lib.Pow.{pow-mono}
+use Rattle.avalanche.specs.Work.{Listed}
+use Rattle.avalanche.proofs.Scans.{largest-anywhere, first-anywhere}
+use Rattle.avalanche.proofs.Listing.{listed-inside, largest-within-listed, first-listed-within}
 use Rattle.avalanche.proofs.first_within.Statement.{statement}
 use Rattle.avalanche.proofs.first_within.Tie as tie
 
-abbrev Inv-loop : tie.InvT-loop
-Inv-loop values j largest place₀ place = Seeking values j largest place
+-- there are 2^n values
+short : (s : tie.Start) → length (s .args .values .now) ≤ 256
+short s = le-trans (le-of-eq (s .pre .1)) (pow-mono {i = s .args .n} {j = 8} (s .pre .0))
 
-abbrev μ-loop : tie.MeasureT-loop
-μ-loop values j largest place₀ place = length values - place
+-- the list, where there is one
+listed : (s : tie.Start) → s .args .j < s .args .n → Listed (s .args .j) (length (s .args .values .now)) (s .args .list .now)
+listed s l = subst (λ (k : ℕ). Listed (s .args .j) k (s .args .list .now)) (sym (s .pre .1)) (s .pre .2 l)
 
-loop-holds : tie.Need-loop-holds Inv-loop μ-loop
-loop-holds c = seeking-all (c .args .values .now) (c .args .j) (c .args .largest) (c .pre .1) (c .pre .2)
+first-from-one-requires : tie.Need-first-from-one-requires
+first-from-one-requires c κs =
+    let s = c .before .before in
+    (short s, largest-anywhere (s .args .values .now) (s .pre .1) (c .if1 .taken) (s .pre .0) (s .pre .3), s .pre .4)
 
-cast-size-within : tie.Need-cast-size-within Inv-loop μ-loop
-cast-size-within c = search needs
+first-listed-requires : tie.Need-first-listed-requires
+first-listed-requires c κs =
+    let s = c .before .before in
+    let l = listed s (c .if1 .left) in
+    (listed-inside (s .args .values .now) l, largest-within-listed (s .args .values .now) l (s .pre .3), s .pre .4)
 
-mul-size-within : tie.Need-mul-size-within Inv-loop μ-loop
-mul-size-within c = let h = seeking-inside (c .loop .inv) in omega arith
-
-shared-slice-copy-out-size-within : tie.Need-shared-slice-copy-out-size-within Inv-loop μ-loop
-shared-slice-copy-out-size-within c = seeking-inside (c .loop .inv)
-
-size-within-requires : tie.Need-size-within-requires Inv-loop μ-loop
-size-within-requires c κs = search needs
-
--- the value that is read, and its magnitude within the limit
-abbrev value : tie.After-size-within Inv-loop μ-loop → ℤ
-value c = let at-loop = c .before .before in valueAt (at-loop .before .args .values .now) (at-loop .loop .place)
-
-read : (c : tie.After-size-within Inv-loop μ-loop) →
-    let at-loop = c .before .before in
-    c .size-within .result ≡ sizeWithin (at-loop .before .args .j) (at-loop .loop .place) (value c)
-read c =
-    let at-loop = c .before .before in
-    c .size-within .ensures ∙ ap (sizeWithin (at-loop .before .args .j) (at-loop .loop .place)) (word-told (value c) (c .before .size-within-arg .given))
-
-add-place : tie.Need-add-place Inv-loop μ-loop
-add-place c = let h = seeking-inside (c .before .before .before .loop .inv) in omega arith
-
-loop-less : tie.Need-loop-less Inv-loop μ-loop
-loop-less c = let h = seeking-inside (c .before .before .before .loop .inv) in omega arith
-
-loop-again : tie.Need-loop-again Inv-loop μ-loop
-loop-again c = seeking-next (c .before .before .before .loop .inv) (read (c .before)) (c .if1 .taken)
-
-returns : tie.Need-returns Inv-loop μ-loop
+returns : tie.Need-returns
 returns c =
-    seeking-found (c .before .before .before .loop .inv) (read (c .before)) (c .before .before .before .before .pre .2) (c .if1 .left)
+    let s = c .before .before .before in
+    first-anywhere (s .args .values .now) (s .pre .1) (s .pre .0) (c .before .if1 .taken) (c .first-from-one .ensures)
+
+returns-2 : tie.Need-returns-2
+returns-2 c =
+    let s = c .before .before .before in
+    first-listed-within (s .args .values .now) (listed s (c .before .if1 .left)) (c .first-listed .ensures)
 
 pub first-within-spec : {M : Type 1} → statement M
 first-within-spec =
-    tie.close
-    (tie.spec
-    Inv-loop
-    μ-loop
-    loop-holds
-    cast-size-within
-    mul-size-within
-    shared-slice-copy-out-size-within
-    size-within-requires
-    add-place
-    loop-less
-    loop-again
-    returns)
+    tie.close (tie.spec first-from-one-requires first-listed-requires returns returns-2)

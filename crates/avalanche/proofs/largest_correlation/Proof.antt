@@ -1,61 +1,97 @@
--- `avalanche::largest_correlation` meets its contract: the sweep gives the first largest. Assumes nothing.
-use mathlib.Core.Path.{sym, _∙_}
+-- `avalanche::largest_correlation` meets its contract: the sweep gives the first largest of the changes that are listed. Assumes nothing.
+use Prim.Native.Nat.{ℕ, _≤_}
+use mathlib.Core.Path.{sym, _∙_, subst}
+use mathlib.Core.List.{List, _++_}
+use native.Mathlib.Nat.{le-trans, le-of-eq}
 use native.Mathlib.Omega.{arith}
-use lib.Seq.{length-take-le}
-use Rattle.masks.proofs.Boxes.{steps-few}
 use borrow.Author.Needs.{needs}
+use lib.ListN.{length, length-append}
+use lib.Seq.{length-take-le, take-append-le}
+use Rattle.masks.proofs.Boxes.{steps-few}
+use Rattle.avalanche.specs.Work.{Listed}
 use Rattle.avalanche.proofs.largest_correlation.Statement.{statement}
 use Rattle.avalanche.proofs.largest_correlation.Tie as tie
 
 spectra-requires : tie.Need-spectra-requires
 spectra-requires c κs = search needs
 
-mul-total : tie.Need-mul-total
-mul-total c = omega (arith, steps-few (c .before .before .pre .0))
+array-borrow-prefix-list : tie.Need-array-borrow-prefix-list
+array-borrow-prefix-list c = search needs
 
-array-borrow-prefix-steps : tie.Need-array-borrow-prefix-steps
-array-borrow-prefix-steps c = steps-few (c .before .before .before .pre .0)
+slice-aggregate-list-changes : tie.Need-slice-aggregate-list-changes
+slice-aggregate-list-changes c = sym (length-take-le _ _ (c .before .before .before .pre .0 .small))
+
+list-changes-requires : tie.Need-list-changes-requires
+list-changes-requires c κs = let b = c .before .before .before .pre .0 in (b .n-high, length-take-le _ _ (b .small) ∙ b .size)
+
+-- the array holds as many changes as are listed
+few : (c : tie.After-list-changes) → c .list-changes .result ≤ length (c .list-changes .last .1 .1 .0)
+few c =
+    let b = c .before .before .before .before .pre .0 in
+    le-trans (c .list-changes .ensures .0) (le-of-eq (sym (c .list-changes .ensures .2 ∙ length-take-le _ _ (b .small) ∙ b .size)))
+
+inside : (c : tie.After-list-changes) (rest : List ℕ) → c .list-changes .result ≤ length (c .list-changes .last .1 .1 .0 ++ rest)
+inside c rest = omega (arith, few c, length-append (c .list-changes .last .1 .1 .0) rest)
+
+mul-total : tie.Need-mul-total
+mul-total c = omega (arith, steps-few (c .before .before .before .before .before .pre .0))
+
+array-share-prefix-list : tie.Need-array-share-prefix-list
+array-share-prefix-list c = inside (c .before .before) _
 
 slice-aggregate-sweep : tie.Need-slice-aggregate-sweep
-slice-aggregate-sweep c = sym (length-take-le _ _ (steps-few (c .before .before .before .before .pre .0)))
+slice-aggregate-sweep c = sym (length-take-le _ _ (inside (c .before .before .before) _))
+
+array-borrow-prefix-steps : tie.Need-array-borrow-prefix-steps
+array-borrow-prefix-steps c = steps-few (c .before .before .before .before .before .before .before .pre .0)
+
+slice-aggregate-sweep-2 : tie.Need-slice-aggregate-sweep-2
+slice-aggregate-sweep-2 c = sym (length-take-le _ _ (steps-few (c .before .before .before .before .before .before .before .before .pre .0)))
 
 array-borrow-prefix-table : tie.Need-array-borrow-prefix-table
 array-borrow-prefix-table c = search needs
 
-slice-aggregate-sweep-2 : tie.Need-slice-aggregate-sweep-2
-slice-aggregate-sweep-2 c = sym (length-take-le _ _ (c .before .before .before .before .before .pre .0 .small))
+slice-aggregate-sweep-3 : tie.Need-slice-aggregate-sweep-3
+slice-aggregate-sweep-3 c = sym (length-take-le _ _ (c .before .before .before .before .before .before .before .before .before .pre .0 .small))
 
 array-borrow-prefix-values : tie.Need-array-borrow-prefix-values
 array-borrow-prefix-values c = search needs
 
-slice-aggregate-sweep-3 : tie.Need-slice-aggregate-sweep-3
-slice-aggregate-sweep-3 c = sym (length-take-le _ _ (c .before .before .before .before .before .before .pre .0 .small))
+slice-aggregate-sweep-4 : tie.Need-slice-aggregate-sweep-4
+slice-aggregate-sweep-4 c = sym (length-take-le _ _ (c .before .before .before .before .before .before .before .before .before .before .pre .0 .small))
 
 sweep-requires : tie.Need-sweep-requires
 sweep-requires c κs =
-    let pre = c .before .before .before .before .before .before .pre in
+    let called = c .before .before .before .before .before .before in
+    let pre = called .before .before .before .before .pre in
     let b = pre .0 in (
       record { box = b; table-size = length-take-le _ _ (b .small) ∙ b .size; out-size = length-take-le _ _ (b .small) ∙ b .size },
-      c .before .before .before .before .spectra .ensures,
+      called .before .before .spectra .ensures,
       length-take-le _ _ (steps-few b),
       pre .1,
       pre .2,
+      λ l. subst (Listed _ _) (sym (take-append-le _ _ _ (few called))) (called .list-changes .ensures .1 l),
     )
 
 returns : tie.Need-returns
-returns c = c .before .before .before .sweep .ensures .0
+returns c = search needs
 
 pub largest-correlation-spec : {M : Type 1} → statement M
 largest-correlation-spec =
     tie.close
     (tie.spec
     spectra-requires
+    array-borrow-prefix-list
+    slice-aggregate-list-changes
+    list-changes-requires
     mul-total
-    array-borrow-prefix-steps
+    array-share-prefix-list
     slice-aggregate-sweep
-    array-borrow-prefix-table
+    array-borrow-prefix-steps
     slice-aggregate-sweep-2
-    array-borrow-prefix-values
+    array-borrow-prefix-table
     slice-aggregate-sweep-3
+    array-borrow-prefix-values
+    slice-aggregate-sweep-4
     sweep-requires
     returns)

@@ -7,20 +7,19 @@ use lib.IntN.{ℤ, natAbs}
 use lib.ListN.{length}
 use Rattle.boolean.specs.Functions.{valueAt}
 use Rattle.boolean.proofs.Words.{word-told}
-use Rattle.avalanche.specs.Work.{sizeWithin}
-use Rattle.avalanche.proofs.Scans.{Scanned, scanned-none, scanned-keeps, scanned-takes, scanned-all, size-anywhere}
+use Rattle.avalanche.proofs.Scans.{Scanned, scanned-none, scanned-keeps, scanned-takes, scanned-all}
 use borrow.Author.Needs.{needs}
 use Rattle.avalanche.proofs.largest_from_one.Statement.{statement}
 use Rattle.avalanche.proofs.largest_from_one.Tie as tie
 
 abbrev Inv-loop : tie.InvT-loop
-Inv-loop values largest₀ s₀ largest s = Scanned values 8 s largest
+Inv-loop values largest₀ s₀ largest s = Scanned values s largest
 
 abbrev μ-loop : tie.MeasureT-loop
 μ-loop values largest₀ s₀ largest s = length values - s
 
 loop-holds : tie.Need-loop-holds Inv-loop μ-loop
-loop-holds c = scanned-none (c .args .values .now) 8
+loop-holds c = scanned-none (c .args .values .now)
 
 mul-magnitude : tie.Need-mul-magnitude Inv-loop μ-loop
 mul-magnitude c = search needs
@@ -41,11 +40,8 @@ loop-less c = search needs
 abbrev value : tie.After-magnitude Inv-loop μ-loop → ℤ
 value c = let at-loop = c .before .before .before in valueAt (at-loop .before .args .values .now) (at-loop .loop .s)
 
-read : (c : tie.After-magnitude Inv-loop μ-loop) → c .magnitude .result ≡ sizeWithin 8 (c .before .before .before .loop .s) (value c)
-read c =
-    let at-loop = c .before .before .before in
-    c .magnitude .ensures ∙ ap natAbs (word-told (value c) (c .before .magnitude-arg .given))
-    ∙ size-anywhere (at-loop .loop .s) (value c) (at-loop .before .pre) (c .before .before .loop-test .taken)
+read : (c : tie.After-magnitude Inv-loop μ-loop) → c .magnitude .result ≡ natAbs (value c)
+read c = c .magnitude .ensures ∙ ap natAbs (word-told (value c) (c .before .magnitude-arg .given))
 
 loop-again : tie.Need-loop-again Inv-loop μ-loop
 loop-again c =
@@ -54,7 +50,7 @@ loop-again c =
     (λ t. rw (t .1) (scanned-keeps so-far (read (c .before)) (omega (arith, t .0 .left)))) (c .if1 .came)
 
 returns : tie.Need-returns Inv-loop μ-loop
-returns c = scanned-all (c .before .loop .inv) (omega arith)
+returns c = scanned-all (c .before .loop .inv) (c .before .before .pre) (omega arith)
 
 pub largest-from-one-spec : {M : Type 1} → statement M
 largest-from-one-spec =

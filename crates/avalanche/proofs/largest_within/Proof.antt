@@ -1,10 +1,13 @@
--- `avalanche::largest_within` meets its contract: where j is n or more, the limit passes over none. Assumes nothing.
-use Prim.Native.Nat.{_≤_}
+-- `avalanche::largest_within` meets its contract: where j is n or more, the limit passes over none, and else the list has all that are within it.
+-- Assumes nothing.
+use Prim.Native.Nat.{ℕ, _≤_, _<_}
+use mathlib.Core.Path.{sym, subst}
 use native.Mathlib.Nat.{le-trans, le-of-eq}
 use lib.ListN.{length}
 use lib.Pow.{pow-mono}
+use Rattle.avalanche.specs.Work.{Listed}
 use Rattle.avalanche.proofs.Scans.{largest-anywhere}
-use borrow.Author.Needs.{needs}
+use Rattle.avalanche.proofs.Listing.{listed-inside, largest-listed-within}
 use Rattle.avalanche.proofs.largest_within.Statement.{statement}
 use Rattle.avalanche.proofs.largest_within.Tie as tie
 
@@ -12,20 +15,26 @@ use Rattle.avalanche.proofs.largest_within.Tie as tie
 short : (s : tie.Start) → length (s .args .values .now) ≤ 256
 short s = le-trans (le-of-eq (s .pre .1)) (pow-mono {i = s .args .n} {j = 8} (s .pre .0))
 
-largest-from-one-requires : tie.Need-largest-from-one-requires
-largest-from-one-requires c κs = short (c .before)
+-- the list, where there is one
+listed : (s : tie.Start) → s .args .j < s .args .n → Listed (s .args .j) (length (s .args .values .now)) (s .args .list .now)
+listed s l = subst (λ (k : ℕ). Listed (s .args .j) k (s .args .list .now)) (sym (s .pre .1)) (s .pre .2 l)
 
-largest-limited-requires : tie.Need-largest-limited-requires
-largest-limited-requires c κs = short (c .before)
+largest-listed-requires : tie.Need-largest-listed-requires
+largest-listed-requires c κs = listed-inside (c .before .before .args .values .now) (listed (c .before .before) (c .if1 .taken))
+
+largest-from-one-requires : tie.Need-largest-from-one-requires
+largest-from-one-requires c κs = short (c .before .before)
 
 returns : tie.Need-returns
 returns c =
-    let s = c .before .before in
-    largest-anywhere (s .pre .0) (s .pre .1) (c .before .if1 .taken) (c .largest-from-one .ensures)
+    let s = c .before .before .before in
+    largest-listed-within (s .args .values .now) (listed s (c .before .if1 .taken)) (c .largest-listed .ensures)
 
 returns-2 : tie.Need-returns-2
-returns-2 c = search needs
+returns-2 c =
+    let s = c .before .before .before in
+    largest-anywhere (s .args .values .now) (s .pre .1) (s .pre .0) (c .before .if1 .left) (c .largest-from-one .ensures)
 
 pub largest-within-spec : {M : Type 1} → statement M
 largest-within-spec =
-    tie.close (tie.spec largest-from-one-requires largest-limited-requires returns returns-2)
+    tie.close (tie.spec largest-listed-requires largest-from-one-requires returns returns-2)

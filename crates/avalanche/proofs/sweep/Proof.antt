@@ -11,20 +11,20 @@ use Rattle.avalanche.proofs.sweep.Statement.{statement}
 use Rattle.avalanche.proofs.sweep.Tie as tie
 
 abbrev Inv-loop : tie.InvT-loop
-Inv-loop fixed n m rows i j steps table₀ values₀ masks found₀ last₀ c₀ table values found last c = Sweeping n m rows i j (candidate found) table values last c
+Inv-loop fixed n m rows i j list steps table₀ values₀ masks found₀ last₀ c₀ table values found last c = Sweeping n m rows i j (candidate found) table values last c
 
 abbrev μ-loop : tie.MeasureT-loop
-μ-loop fixed n m rows i j steps table₀ values₀ masks found₀ last₀ c₀ table values found last c = masks - c
+μ-loop fixed n m rows i j list steps table₀ values₀ masks found₀ last₀ c₀ table values found last c = masks - c
 
 write-steps-requires : tie.Need-write-steps-requires Inv-loop μ-loop
 write-steps-requires c κs =
-    let start = c .before .before .before .before in
+    let start = c .before .before .before .before .before in
     let box = start .pre .0 .box in
     (box .m-high, box-some box, box .small, start .pre .2)
 
 write-component-requires : tie.Need-write-component-requires Inv-loop μ-loop
 write-component-requires c κs =
-    let start = c .before .before .before .before .before .before .before .before in
+    let start = c .before .before .before .before .before .before .before .before .before in
     start .pre .0 .table-size ∙ sym (start .pre .0 .box .size)
 
 power-of-two-requires : tie.Need-power-of-two-requires Inv-loop μ-loop
@@ -33,12 +33,12 @@ power-of-two-requires c κs = search needs
 loop-holds : tie.Need-loop-holds Inv-loop μ-loop
 loop-holds c =
     let component = c .before .before .before in
-    let start = component .before .before .before .before .before .before .before .before .before in
+    let start = component .before .before .before .before .before .before .before .before .before .before in
     sweep-starts (start .pre .0 .box) (start .pre .3) (start .pre .0 .out-size) (component .write-component .ensures)
 
 -- the loop's mask is one of the box's
 below : (c : tie.In-loop Inv-loop μ-loop) →
-    let start = c .before .before .before .before .before .before .before .before .before .before .before .before .before .before in
+    let start = c .before .before .before .before .before .before .before .before .before .before .before .before .before .before .before in
     c .before .loop .c < 2 ^ start .args .m
 below c = omega (arith, c .loop-test .taken, c .before .before .power-of-two .ensures .0)
 
@@ -50,7 +50,7 @@ next-correlation-requires c κs =
     let in-loop = c .before .before .before in
     let at-loop = in-loop .before in
     let steps = at-loop .before .before .before .before .before .before .before .before in
-    let start = steps .before .before .before .before .before in
+    let start = steps .before .before .before .before .before .before in
     (at-loop .loop .inv .arrays, start .pre .1, stepping (at-loop .loop .inv .stepwise) (steps .write-steps .ensures) (below in-loop))
 
 cast-with-correlation : tie.Need-cast-with-correlation Inv-loop μ-loop
@@ -60,14 +60,17 @@ with-correlation-requires : tie.Need-with-correlation-requires Inv-loop μ-loop
 with-correlation-requires c κs =
     let done = c .before .before .before .before in
     let at-loop = done .before .before .before .before .before in
-    let inv = at-loop .loop .inv in
-    record {
-      box = inv .arrays .box;
-      j-low = at-loop .before .before .before .before .before .before .before .before .before .before .before .before .before .pre .4;
-      c-low = inv .stepwise .walk .c-low;
-      values-are = done .next-correlation .ensures .0;
-      single = sweep-single inv;
-    }
+    let start = at-loop .before .before .before .before .before .before .before .before .before .before .before .before .before .before in
+    let inv = at-loop .loop .inv in (
+      record {
+        box = inv .arrays .box;
+        j-low = start .pre .4;
+        c-low = inv .stepwise .walk .c-low;
+        values-are = done .next-correlation .ensures .0;
+        single = sweep-single inv;
+      },
+      start .pre .5,
+    )
 
 next-mask-requires : tie.Need-next-mask-requires Inv-loop μ-loop
 next-mask-requires c κs =
@@ -90,16 +93,16 @@ same-length : tie.Need-same-length Inv-loop μ-loop
 same-length c = search needs
 
 same-length-2 : tie.Need-same-length-2 Inv-loop μ-loop
-same-length-2 c = c .before .loop .inv .arrays .table-size ∙ sym (c .before .before .before .before .before .before .before .before .before .before .before .before .before .before .pre .0 .table-size)
+same-length-2 c = c .before .loop .inv .arrays .table-size ∙ sym (c .before .before .before .before .before .before .before .before .before .before .before .before .before .before .before .pre .0 .table-size)
 
 same-length-3 : tie.Need-same-length-3 Inv-loop μ-loop
-same-length-3 c = c .before .loop .inv .arrays .out-size ∙ sym (c .before .before .before .before .before .before .before .before .before .before .before .before .before .before .pre .0 .out-size)
+same-length-3 c = c .before .loop .inv .arrays .out-size ∙ sym (c .before .before .before .before .before .before .before .before .before .before .before .before .before .before .before .pre .0 .out-size)
 
 returns : tie.Need-returns Inv-loop μ-loop
 returns c =
     let power = c .before .before in
     let steps = power .before .before .before .before .before .before .before in
-    let start = steps .before .before .before .before .before in (
+    let start = steps .before .before .before .before .before .before in (
       sweep-ends (c .before .loop .inv) (omega (arith, c .loop-test .left, power .power-of-two .ensures .0)) (start .pre .4),
       steps .write-steps .ensures .steps-are,
       same-length-2 c,

@@ -1,7 +1,7 @@
 -- `avalanche::with_correlation` meets its contract: the first change of the largest magnitude is the first of the component's best, and the test says
 -- whether it is preferred. Assumes nothing.
 use mathlib.Core.Path.{_≡_, sym, ap, _∙_}
-use Prim.Native.Nat.{ℕ, _/_, _^_, _≤_}
+use Prim.Native.Nat.{ℕ, _/_, _^_}
 use native.Mathlib.Omega.{arith}
 use lib.ListN.{length}
 use lib.Pow.{pow-pos}
@@ -11,29 +11,29 @@ use borrow.Author.Needs.{needs}
 use Rattle.avalanche.proofs.with_correlation.Statement.{statement}
 use Rattle.avalanche.proofs.with_correlation.Tie as tie
 
--- there are as many values as rows
-short : (s : tie.Start) → length (s .args .values .now) ≤ 256
-short s =
-    let a = s .args in
-    omega (arith, values-length (a .n) (a .rows .now) (a .c) (a .j) (s .pre .values-are), s .pre .box .size, s .pre .box .small)
-
--- the figure is divided by their count, which is 2^n
+-- the figure is divided by the count of rows, which is 2^n
 share : (c : tie.After-largest-within) →
-    let a = c .before .before .args in
+    let a = c .before .before .before .before .before .args in
     c .largest-within .result / length (a .rows .now) ≡ c .largest-within .result / 2 ^ a .n
-share c = ap (λ (k : ℕ). c .largest-within .result / k) (c .before .before .pre .box .size)
+share c = ap (λ (k : ℕ). c .largest-within .result / k) (c .before .before .before .before .before .pre .0 .box .size)
+
+is-beaten-requires : tie.Need-is-beaten-requires
+is-beaten-requires c κs = c .before .before .pre .0
+
+returns : tie.Need-returns
+returns c = c .before .is-beaten .ensures (c .if1 .taken)
 
 largest-within-requires : tie.Need-largest-within-requires
 largest-within-requires c κs =
-    let s = c .before in
+    let s = c .before .before .before .before in
     let a = s .args in
-    (s .pre .box .n-high, values-length (a .n) (a .rows .now) (a .c) (a .j) (s .pre .values-are))
+    (s .pre .0 .box .n-high, values-length (a .n) (a .rows .now) (a .c) (a .j) (s .pre .0 .values-are), s .pre .1)
 
 cast-figure : tie.Need-cast-figure
 cast-figure c = search needs
 
 div-figure : tie.Need-div-figure
-div-figure c = let s = c .before .before in omega (arith, s .pre .box .size, pow-pos (s .args .n))
+div-figure c = let s = c .before .before .before .before .before in omega (arith, s .pre .0 .box .size, pow-pos (s .args .n))
 
 is-preferred-requires : tie.Need-is-preferred-requires
 is-preferred-requires c κs = search needs
@@ -41,38 +41,42 @@ is-preferred-requires c κs = search needs
 first-within-requires : tie.Need-first-within-requires
 first-within-requires c κs =
     let scanned = c .before .before in
-    let s = scanned .before .before in
+    let s = scanned .before .before .before .before .before in
     let a = s .args in (
-      short s,
+      s .pre .0 .box .n-high,
+      values-length (a .n) (a .rows .now) (a .c) (a .j) (s .pre .0 .values-are),
+      s .pre .1,
       scanned .largest-within .ensures,
-      largest-some (a .n) (a .rows .now) (a .c) (a .j) (s .pre .values-are) (scanned .largest-within .ensures) (s .pre .box .n-low) (s .pre .j-low) (share scanned)
-          (candidate (a .found)) (s .pre .c-low) (s .pre .single) (sym (c .before .is-preferred .ensures) ∙ c .if1 .taken),
+      largest-some (a .n) (a .rows .now) (a .c) (a .j) (s .pre .0 .values-are) (scanned .largest-within .ensures) (s .pre .0 .box .n-low) (s .pre .0 .j-low) (share scanned)
+          (candidate (a .found)) (s .pre .0 .c-low) (s .pre .0 .single) (sym (c .before .is-preferred .ensures) ∙ c .if2 .taken),
     )
-
-returns : tie.Need-returns
-returns c =
-    let scanned = c .before .before .before in
-    let s = scanned .before .before in
-    let a = s .args in
-    replaced (a .n) (a .rows .now) (a .c) (a .j) (s .pre .values-are) (scanned .largest-within .ensures) (s .pre .box .n-low) (s .pre .j-low) (share scanned) (candidate (a .found))
-    (sym (c .before .before .is-preferred .ensures) ∙ c .before .if1 .taken) (c .first-within .ensures)
 
 returns-2 : tie.Need-returns-2
 returns-2 c =
-    let scanned = c .before .before in
-    let s = scanned .before .before in
+    let scanned = c .before .before .before in
+    let s = scanned .before .before .before .before .before in
     let a = s .args in
-    stays (a .n) (a .rows .now) (a .c) (a .j) (s .pre .values-are) (scanned .largest-within .ensures) (s .pre .box .n-low) (s .pre .j-low) (share scanned)
-    (candidate (a .found)) (sym (c .before .is-preferred .ensures) ∙ c .if1 .left)
+    replaced (a .n) (a .rows .now) (a .c) (a .j) (s .pre .0 .values-are) (scanned .largest-within .ensures) (s .pre .0 .box .n-low) (s .pre .0 .j-low) (share scanned) (candidate (a .found))
+    (sym (c .before .before .is-preferred .ensures) ∙ c .before .if2 .taken) (c .first-within .ensures)
+
+returns-3 : tie.Need-returns-3
+returns-3 c =
+    let scanned = c .before .before in
+    let s = scanned .before .before .before .before .before in
+    let a = s .args in
+    stays (a .n) (a .rows .now) (a .c) (a .j) (s .pre .0 .values-are) (scanned .largest-within .ensures) (s .pre .0 .box .n-low) (s .pre .0 .j-low) (share scanned)
+    (candidate (a .found)) (sym (c .before .is-preferred .ensures) ∙ c .if2 .left)
 
 pub with-correlation-spec : {M : Type 1} → statement M
 with-correlation-spec =
     tie.close
     (tie.spec
+    is-beaten-requires
+    returns
     largest-within-requires
     cast-figure
     div-figure
     is-preferred-requires
     first-within-requires
-    returns
-    returns-2)
+    returns-2
+    returns-3)

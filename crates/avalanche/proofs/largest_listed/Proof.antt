@@ -1,0 +1,89 @@
+-- `avalanche::largest_listed` meets its contract: it has the largest magnitude before place k of the list. Assumes nothing.
+use mathlib.Core.Path.{_≡_, ap, _∙_}
+use mathlib.Core.Logic.{⊎-elim}
+use Prim.Native.Nat.{_-_, _<_}
+use native.Mathlib.Omega.{arith}
+use borrow.Author.Needs.{needs}
+use lib.IntN.{ℤ, natAbs}
+use lib.ListN.{length}
+use Rattle.boolean.specs.Functions.{at, valueAt}
+use Rattle.boolean.proofs.Words.{word-told}
+use Rattle.avalanche.proofs.Listing.{Through, through-none, through-keeps, through-takes, through-all}
+use Rattle.avalanche.proofs.largest_listed.Statement.{statement}
+use Rattle.avalanche.proofs.largest_listed.Tie as tie
+
+abbrev Inv-loop : tie.InvT-loop
+Inv-loop values list largest₀ k₀ largest k = Through values list k largest
+
+abbrev μ-loop : tie.MeasureT-loop
+μ-loop values list largest₀ k₀ largest k = length list - k
+
+loop-holds : tie.Need-loop-holds Inv-loop μ-loop
+loop-holds c = through-none (c .before .args .values .now) (c .before .args .list .now)
+
+mul-s : tie.Need-mul-s Inv-loop μ-loop
+mul-s c = search needs
+
+shared-slice-read-s : tie.Need-shared-slice-read-s Inv-loop μ-loop
+shared-slice-read-s c = search needs
+
+-- the change that is read has a value
+inside : (c : tie.After-shared-slice-known2 Inv-loop μ-loop) →
+    let a = c .before .before .before .before .args in
+    at (a .list .now) (c .before .before .loop .k) < length (a .values .now)
+inside c = c .before .before .before .before .pre (c .before .before .loop .k) (omega arith)
+
+cast-magnitude : tie.Need-cast-magnitude Inv-loop μ-loop
+cast-magnitude c = let h = inside c in omega arith
+
+mul-magnitude : tie.Need-mul-magnitude Inv-loop μ-loop
+mul-magnitude c = let h = inside c in omega arith
+
+shared-slice-copy-out-magnitude : tie.Need-shared-slice-copy-out-magnitude Inv-loop μ-loop
+shared-slice-copy-out-magnitude c = inside c
+
+magnitude-requires : tie.Need-magnitude-requires Inv-loop μ-loop
+magnitude-requires c κs = search needs
+
+-- the value that is read, and its magnitude
+abbrev value : tie.After-magnitude Inv-loop μ-loop → ℤ
+value c =
+    let at-loop = c .before .before .before .before in
+    let a = at-loop .before .before .args in
+    valueAt (a .values .now) (at (a .list .now) (at-loop .loop .k))
+
+read : (c : tie.After-magnitude Inv-loop μ-loop) → c .magnitude .result ≡ natAbs (value c)
+read c = c .magnitude .ensures ∙ ap natAbs (word-told (value c) (c .before .magnitude-arg .given))
+
+add-k : tie.Need-add-k Inv-loop μ-loop
+add-k c = search needs
+
+loop-less : tie.Need-loop-less Inv-loop μ-loop
+loop-less c = search needs
+
+loop-again : tie.Need-loop-again Inv-loop μ-loop
+loop-again c =
+    let so-far = c .before .before .before .before .before .loop .inv in
+    ⊎-elim (λ t. rw (t .1) (through-takes so-far (read (c .before)) (omega arith) (t .0 .taken)))
+    (λ t. rw (t .1) (through-keeps so-far (read (c .before)) (omega (arith, t .0 .left)))) (c .if1 .came)
+
+returns : tie.Need-returns Inv-loop μ-loop
+returns c = through-all (c .before .loop .inv) (omega arith)
+
+pub largest-listed-spec : {M : Type 1} → statement M
+largest-listed-spec =
+    tie.close
+    (tie.spec
+    Inv-loop
+    μ-loop
+    loop-holds
+    mul-s
+    shared-slice-read-s
+    cast-magnitude
+    mul-magnitude
+    shared-slice-copy-out-magnitude
+    magnitude-requires
+    add-k
+    loop-less
+    loop-again
+    returns)
