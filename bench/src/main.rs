@@ -1,57 +1,46 @@
-//! Times of the library beside those of the second program, on the same boxes.
+//! Times of the library beside those of the second program and of plain C peers, on the same boxes.
 //!
-//!     bench [SEED] [--processes K] [--anchor FILE.c]
-//!     bench [SEED] --short
+//!     bench [SEED] [--processes K] [--row PART] [--table] [--anchor FILE.c]
+//!     bench [SEED] [--row PART] --short
 //!
-//! Each figure is measured on random boxes of 6 by 4, 8 by 8, 8 by 16 and 8 by 32, with the
-//! sheet's limit on combinations, and the list of cells and the degree on a few boxes that are
-//! chosen for them, the degree there beside the library's own nonlinearity too; so is the sum
-//! of four boxes. Then the calls on a catalogue, packing and unpacking on random boxes of a few
-//! sizes, the raising swap of a few boxes, and boxes that the evaluation server runs to the end.
-//! Both programs take turns, several rounds each, and the least time of all rounds is shown:
-//! what disturbs a measurement only ever makes it longer. All of it is done in K processes, one
-//! after the other (5 unless said otherwise), and each line shows the least of them: where the
-//! arrays of a process lie on the stack may make it slower by a fifth from start to end. With
-//! --short there is one process and one round, for the gate. With --anchor the C program FILE.c,
-//! which measures the nonlinearity of an 8 by 16 box and prints its time as `... T s`, is
-//! compiled with gcc -O3 and run too. No time is asserted; that both programs give the same
-//! figures is.
+//! A row is one call on one kind of box: the figures of random boxes of a few sizes, with the sheet's
+//! limit on combinations; figures of boxes that are chosen for them; sums of four boxes; packing, the
+//! raising swap, the calls on a catalogue and the evaluation server. Some rows are held against another
+//! call of the library too, as the sum against one nonlinearity.
+//!
+//! The programs of a row take turns, several rounds each, and the least time of all rounds is shown: what
+//! disturbs a measurement only ever makes it longer. All of it is done in K processes, one after the other
+//! (5 unless said otherwise), and each line shows the least of them: where the arrays of a process lie on
+//! the stack may make it slower by a fifth from start to end. With --row only those rows are measured that
+//! have PART in their size and name, as `8x16 degree`. With --table the lines are printed as the Markdown
+//! of docs/PERFORMANCE.md. With --short there is one process and one round, and no time is shown, for the
+//! gate. With --anchor the C program FILE.c, which measures the nonlinearity of an 8 by 16 box and prints
+//! its time as `... T s`, is compiled with gcc -O3 and run too, and that row is held against it.
+//!
+//! No time is asserted; that all programs give the same figures and witnesses is, in every round.
 mod anchor;
 mod calls;
 mod catalogues;
 mod evaluations;
+mod figures;
 #[path = "../../tests/src/library.rs"]
 mod library;
 #[path = "../../tests/src/library_server.rs"]
 mod library_server;
+mod lists;
+mod machine;
 mod packing;
+mod peers;
+mod rows;
 mod swaps;
 mod table;
 
-use calls::{library_nonlinearity, library_nonlinearity_of_one, DEGREE, LIST, MEASURES, SUM};
-use second_model::boxes::{affine_columns, cubes, random_rows};
-use second_model::published;
+use rows::Rows;
 use second_model::random::Random;
 use std::process::{Command, ExitCode, Stdio};
-use table::{least_times, Line, Sample, Table};
+use table::{Line, Own};
 
-/// One size of random boxes: its widths, how many boxes make a round, and how many rounds
-/// there are. Short rounds are repeated more often, since a disturbance weighs more in them.
-struct Size {
-    n: u32,
-    m: u32,
-    boxes: usize,
-    rounds: usize,
-}
-
-const SIZES: [Size; 4] = [
-    Size { n: 6, m: 4, boxes: 200, rounds: 50 },
-    Size { n: 8, m: 8, boxes: 10, rounds: 30 },
-    Size { n: 8, m: 16, boxes: 1, rounds: 7 },
-    Size { n: 8, m: 32, boxes: 1, rounds: 15 },
-];
-
-const USAGE: &str = "usage: bench [SEED] [--processes K] [--anchor FILE.c] | bench [SEED] --short";
+const USAGE: &str = "usage: bench [SEED] [--processes K] [--row PART] [--table] [--anchor FILE.c] | bench [SEED] [--row PART] --short";
 
 /// What the command line asks for. `--measure` is how this program starts itself.
 struct Wanted {
@@ -59,6 +48,8 @@ struct Wanted {
     processes: usize,
     short: bool,
     measure: bool,
+    table: bool,
+    row: Option<String>,
     anchor: Option<String>,
 }
 
@@ -73,12 +64,14 @@ fn main() -> ExitCode {
 }
 
 fn arguments() -> Result<Wanted, String> {
-    let mut wanted = Wanted { seed: 1, processes: 5, short: false, measure: false, anchor: None };
+    let mut wanted = Wanted { seed: 1, processes: 5, short: false, measure: false, table: false, row: None, anchor: None };
     let mut words = std::env::args().skip(1);
     while let Some(word) = words.next() {
         match word.as_str() {
             "--anchor" => wanted.anchor = Some(words.next().ok_or("--anchor needs a file")?),
+            "--row" => wanted.row = Some(words.next().ok_or("--row needs a part of a row's name")?),
             "--processes" => wanted.processes = words.next().and_then(|k| k.parse().ok()).filter(|&k| k > 0).ok_or(USAGE)?,
+            "--table" => wanted.table = true,
             "--short" => wanted.short = true,
             "--measure" => wanted.measure = true,
             _ => wanted.seed = word.parse().map_err(|_| format!("not a number: {word}\n{USAGE}"))?,
@@ -89,36 +82,43 @@ fn arguments() -> Result<Wanted, String> {
 
 fn run(wanted: &Wanted) -> Result<(), String> {
     if wanted.measure || wanted.short {
-        table::SHORT.store(wanted.short, std::sync::atomic::Ordering::Relaxed);
-        return measure(wanted.seed, Table::new(wanted.short));
+        return measure(wanted.seed, &Rows::new(wanted.short, wanted.row.clone()));
     }
-    println!("seed {}, times for one box, least of several rounds in each of {} processes", wanted.seed, wanted.processes);
-    let mut lines = in_processes(wanted.seed, wanted.processes)?;
+    let machine = machine::described(wanted.seed, wanted.processes);
+    let mut lines = in_processes(wanted)?;
     if let Some(source) = &wanted.anchor {
-        let library = time_of(&lines, "8x16", "nonlinearity");
-        let name = "nonlinearity, second is the C anchor".to_string();
-        lines.push(Line { size: "8x16".to_string(), name, library, second: anchor::time(source)? });
+        let line = lines.iter_mut().find(|line| line.size == "8x16" && line.name == "nonlinearity");
+        let own = Own { name: "the C anchor".to_string(), time: anchor::time(source)? };
+        line.ok_or("the anchor needs the row `8x16 nonlinearity`")?.own = Some(own);
     }
-    println!("{}", table::head());
-    for line in &lines {
-        println!("{}", line.shown());
+    if wanted.table {
+        println!("## The table\n\n{machine}\n\n{}", table::markdown_head());
+        lines.iter().for_each(|line| println!("{}", line.as_markdown()));
+    } else {
+        println!("{machine}\n\n{}", table::head());
+        lines.iter().for_each(|line| println!("{}", line.shown()));
+        show_sheets(&lines);
     }
-    let (wide, narrow) = (time_of(&lines, "8x32", "whole sheet"), time_of(&lines, "8x16", "whole sheet"));
-    println!("whole 8 by 32 sheet against whole 8 by 16 sheet, both by the library: {:.2}", wide / narrow);
     Ok(())
 }
 
-/// The library's time in a line.
-fn time_of(lines: &[Line], size: &str, name: &str) -> f64 {
-    lines.iter().find(|line| line.size == size && line.name == name).expect("it was measured").library
+/// The widest sheet has a lower limit on combinations, and is to take no longer than the one before it.
+fn show_sheets(lines: &[Line]) {
+    let time = |size| lines.iter().find(|line| line.size == size && line.name == "whole sheet").map(|line| line.library);
+    if let (Some(wide), Some(narrow)) = (time("8x32"), time("8x16")) {
+        println!("whole 8 by 32 sheet against whole 8 by 16 sheet, both by the library: {:.2}", wide / narrow);
+    }
 }
 
 /// The least times of each line over so many processes of this program.
-fn in_processes(seed: u64, processes: usize) -> Result<Vec<Line>, String> {
+fn in_processes(wanted: &Wanted) -> Result<Vec<Line>, String> {
+    let here = std::env::current_exe().map_err(|error| error.to_string())?;
     let mut least: Vec<Line> = Vec::new();
-    for _ in 0..processes {
-        let here = std::env::current_exe().map_err(|e| e.to_string())?;
-        let output = Command::new(here).args([&seed.to_string(), "--measure"]).stderr(Stdio::inherit()).output().map_err(|e| e.to_string())?;
+    for _ in 0..wanted.processes {
+        let mut command = Command::new(&here);
+        command.args([&wanted.seed.to_string(), "--measure"]);
+        command.args(wanted.row.iter().flat_map(|part| ["--row", part]));
+        let output = command.stderr(Stdio::inherit()).output().map_err(|error| error.to_string())?;
         if !output.status.success() {
             return Err("a process that measures failed".to_string());
         }
@@ -126,84 +126,23 @@ fn in_processes(seed: u64, processes: usize) -> Result<Vec<Line>, String> {
         if least.is_empty() {
             least = lines;
         } else {
-            for (best, line) in least.iter_mut().zip(lines) {
-                best.library = best.library.min(line.library);
-                best.second = best.second.min(line.second);
-            }
+            least.iter_mut().zip(&lines).for_each(|(best, line)| best.take_least(line));
         }
     }
     Ok(least)
 }
 
-fn measure(seed: u64, mut table: Table) -> Result<(), String> {
+fn measure(seed: u64, rows: &Rows) -> Result<(), String> {
     let mut random = Random::new(seed);
-    for size in &SIZES {
-        figures_of_random_boxes(size, &mut table, &mut random)?;
-    }
-    lists_of_cells(&mut table, &mut random)?;
-    degrees_of_chosen_boxes(&mut table, &mut random)?;
-    sums_of_boxes(&mut table, &mut random)?;
-    catalogues::measure(&table, &mut random)?;
-    packing::measure(&table, &mut random)?;
-    swaps::measure(&mut table, &mut random)?;
-    evaluations::measure(&table, &mut random)
-}
-
-fn figures_of_random_boxes(size: &Size, table: &mut Table, random: &mut Random) -> Result<(), String> {
-    let Size { n, m, rounds, .. } = *size;
-    let boxes = (0..size.boxes).map(|_| random_rows(n, m, random)).collect();
-    let sample = Sample { n, m, boxes, rounds };
-    for measure in &MEASURES {
-        table.measure(measure.name, measure, &sample)?;
-    }
-    Ok(())
-}
-
-/// One cell in each row of the XOR table (AES, the identity, a constant); as many as a row can
-/// have, one for each pair of inputs (the cube, and nearly always a random box of 32 outputs);
-/// and a few in some rows.
-fn lists_of_cells(table: &mut Table, random: &mut Random) -> Result<(), String> {
-    let aes = published::all().into_iter().find(|known| known.name == "aes").expect("it is among them");
-    let boxes = [
-        ("list of cells, AES", 8, aes.rows),
-        ("list of cells, identity", 8, (0..256).collect()),
-        ("list of cells, constant", 8, vec![99; 256]),
-        ("list of cells, cube", 8, cubes()),
-        ("list of cells, random", 16, random_rows(8, 16, random)),
-        ("list of cells, random", 32, random_rows(8, 32, random)),
-    ];
-    for (name, m, rows) in boxes {
-        table.measure(name, &LIST, &Sample { n: 8, m, boxes: vec![rows], rounds: 50 })?;
-    }
-    Ok(())
-}
-
-/// The degree of 8 by 16 boxes that are chosen for it. A random box has a high coefficient in
-/// nearly every combination; of an affine box none has any; and where a single row is not 0
-/// every word of the normal form is that row, which half of all combinations find even.
-fn degrees_of_chosen_boxes(table: &mut Table, random: &mut Random) -> Result<(), String> {
-    let boxes = [
-        ("random", random_rows(8, 16, random)),
-        ("affine", affine_columns(8, 16, random)),
-        ("one-row", (0..256).map(|x| if x == 0 { 65535 } else { 0 }).collect()),
-    ];
-    for (kind, rows) in boxes {
-        let sample = Sample { n: 8, m: 16, boxes: vec![rows], rounds: 7 };
-        table.measure(&format!("degree, {kind} box"), &DEGREE, &sample)?;
-        let (degree, nonlinearity, _) = least_times(DEGREE.library, library_nonlinearity, &sample);
-        table.line("8x16", &format!("degree, {kind} box, to nonlinearity"), degree, nonlinearity);
-    }
-    Ok(())
-}
-
-/// Four random boxes added together, and beside it the nonlinearity of one of them, in turns.
-fn sums_of_boxes(table: &mut Table, random: &mut Random) -> Result<(), String> {
-    for m in [16, 32] {
-        let rows = (0..4).flat_map(|_| random_rows(8, m, random)).collect();
-        let sample = Sample { n: 8, m, boxes: vec![rows], rounds: 5 };
-        table.measure(SUM.name, &SUM, &sample)?;
-        let (sum, one, _) = least_times(SUM.library, library_nonlinearity_of_one, &sample);
-        table.line(&format!("8x{m}"), "sum of four boxes, to nonlinearity", sum, one);
+    peers::prepare();
+    figures::measure(rows, &mut random)?;
+    lists::measure(rows, &mut random)?;
+    catalogues::measure(rows, &mut random)?;
+    packing::measure(rows, &mut random)?;
+    swaps::measure(rows, &mut random)?;
+    evaluations::measure(rows, &mut random)?;
+    if rows.measured.get() == 0 {
+        return Err("no row has that in its size and name".to_string());
     }
     Ok(())
 }

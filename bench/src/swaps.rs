@@ -1,47 +1,51 @@
-//! The raising swap, on 8 by 8 boxes: beside the second program, which goes the same way, and
-//! beside one nonlinearity call of the same box. Of AES no swap raises it, so that each of the
-//! 32,640 is turned down; of a random permutation some swap does, and once it has been climbed
-//! until none does, again each is turned down.
-use crate::calls::{library_nonlinearity, Figures, Measure};
-use crate::library;
-use crate::table::{least_times, Sample, Table};
-use second_model::boxes::random_permutation;
-use second_model::published;
+//! The raising swap, held against one nonlinearity call of the same box too. Of AES no swap raises it, so
+//! that each of the 32,640 is turned down; of a random permutation some swap does, and once it has been
+//! climbed until none does, again each is turned down. Then small random boxes, of which there are few
+//! swaps to try.
+use crate::calls::{aes, library_swap, Job, SWAP};
+use crate::rows::{Row, Rows};
+use crate::table::Bar;
+use second_model::boxes::{random_permutation, random_rows};
 use second_model::random::Random;
-use second_model::swaps::raising_swap_quickly;
 
-const SWAP: Measure = Measure {
-    name: "raising swap",
-    library: library_swap,
-    second: |n, m, rows| raising_swap_quickly(n, m, rows).map(u64::from).to_vec(),
-};
+/// How many small boxes make a round.
+const SMALL: usize = 10;
 
-fn library_swap(n: u32, m: u32, rows: &[u32]) -> Figures {
-    let mut figures = [0; 4];
-    assert_eq!(library::raising_swap(n, m, rows, &mut figures), 0, "the library refused a sound box");
-    figures.map(u64::from).to_vec()
-}
+/// How many permutations make a round. How soon a raising swap of one is found is chance: it takes a
+/// library without nearest pairs 0.25 ms or 14.
+const PERMUTATIONS: usize = 5;
 
-pub fn measure(table: &mut Table, random: &mut Random) -> Result<(), String> {
-    let aes = published::all().into_iter().find(|known| known.name == "aes").expect("it is among them");
-    let permutation: Vec<u32> = random_permutation(8, random).into_iter().map(u32::from).collect();
-    let boxes = [("AES", aes.rows), ("random permutation", permutation.clone()), ("climbed permutation", climbed(permutation))];
-    for (kind, rows) in boxes {
-        let sample = Sample { n: 8, m: 8, boxes: vec![rows], rounds: 7 };
-        table.measure(&format!("{}, {kind}", SWAP.name), &SWAP, &sample)?;
-        let (swap, nonlinearity, _) = least_times(SWAP.library, library_nonlinearity, &sample);
-        table.line("8x8", &format!("{}, {kind}, to nonlinearity", SWAP.name), swap, nonlinearity);
+pub fn measure(rows: &Rows, random: &mut Random) -> Result<(), String> {
+    let permutations: Vec<Job> = (0..PERMUTATIONS).map(|_| permutation(random)).collect();
+    let climbed = permutations.iter().cloned().map(climbed).collect();
+    let boxes = [
+        ("AES", vec![Job::new(8, 8, aes())], Some(Bar::Peer(4.0))),
+        ("random permutation", permutations, None),
+        ("climbed permutation", climbed, Some(Bar::Peer(8.0))),
+    ];
+    for (kind, jobs, bar) in boxes {
+        rows.measure(&Row { bar, ..SWAP.row_to_nonlinearity(&format!("raising swap, {kind}"), &jobs) })?;
+    }
+    for (n, m) in [(4, 6), (5, 7)] {
+        let jobs: Vec<Job> = (0..SMALL).map(|_| Job::new(n, m, random_rows(n, m, random))).collect();
+        rows.measure(&SWAP.row_to_nonlinearity("raising swap, random box", &jobs))?;
     }
     Ok(())
 }
 
+fn permutation(random: &mut Random) -> Job {
+    Job::new(8, 8, random_permutation(8, random).into_iter().map(u32::from).collect())
+}
+
 /// The box after as many raising swaps as there are.
-fn climbed(mut rows: Vec<u32>) -> Vec<u32> {
+fn climbed(mut job: Job) -> Job {
     loop {
-        let step = library_swap(8, 8, &rows);
-        if step[0] == 0 {
-            return rows;
+        let mut figures = [0; 20];
+        library_swap(&job, &mut figures);
+        let [raises, low, high, ..] = figures;
+        if raises == 0 {
+            return job;
         }
-        rows.swap(step[1] as usize, step[2] as usize);
+        job.rows.swap(low as usize, high as usize);
     }
 }
