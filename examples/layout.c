@@ -1,5 +1,5 @@
 /* What lies where in the structs of the headers: compiled, as C and as C++, and not run. The second
- * program has the same numbers (tests/src/library_design.rs, tests/src/library_server.rs). */
+ * program has the same numbers (tests/compare/library_design.rs, tests/compare/library_server.rs). */
 #include <stddef.h>
 #include "satmegwo.h"
 #include "satmegwo_design.h"

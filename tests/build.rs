@@ -1,4 +1,4 @@
-//! Says where the libraries lie. `#[link]` in src/library.rs, src/library_design.rs and src/library_server.rs names
+//! Says where the libraries lie. `#[link]` in compare/library.rs, compare/library_design.rs and compare/library_server.rs names
 //! them, so that only the program that declares the exports needs them and the model's tests
 //! link without them.
 use std::env;

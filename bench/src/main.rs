@@ -23,9 +23,9 @@ mod calls;
 mod catalogues;
 mod evaluations;
 mod figures;
-#[path = "../../tests/src/library.rs"]
+#[path = "../../tests/compare/library.rs"]
 mod library;
-#[path = "../../tests/src/library_server.rs"]
+#[path = "../../tests/compare/library_server.rs"]
 mod library_server;
 mod lists;
 mod machine;

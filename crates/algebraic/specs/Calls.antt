@@ -1,11 +1,12 @@
--- The calls on the normal form, the degree and bijectivity: answers and outcomes. (The normal form's checks are those of any call that reads
--- a truth table and writes 2^n values: `tableCallChecks`.)
+-- The calls on the normal form, the degree and bijectivity: answers and outcomes. (The normal form's checks are those of any call that
+-- reads a truth table and writes 2^n values: `tableCallChecks`.)
 use Prim.Native.Nat.{ℕ}
 use mathlib.Core.List.{List, [], _∷_}
 use lib.ListN.{length}
 use Rattle.boolean.specs.Functions.{at, normalForm}
 use Rattle.boolean.specs.Selection.{shown}
-use Rattle.refusals.specs.Table.{first, boxChecks, limitChecks, tableCallChecks, Reply, figures, refusal, number, replyAfter, asFigure, Wrote, written}
+use Rattle.refusals.specs.Table.{first, boxChecks, limitChecks, tableCallChecks, Reply, figures}
+use Rattle.refusals.specs.Table.{refusal, number, replyAfter, asFigure, Wrote, written}
 use Rattle.refusals.specs.declared.Written.{Written}
 use Rattle.algebraic.specs.Algebraic.{boxDegree, bijective}
 use Rattle.algebraic.specs.declared.DegreeFound.{DegreeFound}

@@ -17,10 +17,12 @@ ghost use Rattle.boolean.specs.Sums.{every, distinct, AnyContent};
 ghost use Rattle.boolean.specs.Functions.{at, normalForm};
 ghost use Rattle.boolean.specs.Selection.{best, lower, firstLeast, ranked};
 ghost use Rattle.refusals.specs.Table.{verdict, Box, Table};
-ghost use Rattle.masks.specs.Masks.{Next, outputs};
+ghost use Rattle.masks.specs.Masks.{outputs};
+ghost use Rattle.masks.specs.Work.{Next};
 ghost use Rattle.algebraic.specs.Algebraic.{boxDegree};
 ghost use Rattle.algebraic.specs.Calls.{FormCalled, degreeReply, boxDegreeReply, bijectiveReply};
-ghost use Rattle.algebraic.specs.Work.{degreeAt, candidate, degreeOf, degreesOf, Added, Echelon, PutIn, Gathered, Swept, barOf, FirstBelow};
+ghost use Rattle.algebraic.specs.Work.{degreeAt, candidate, degreeOf, degreesOf, Added, Echelon};
+ghost use Rattle.algebraic.specs.Work.{PutIn, Gathered, Swept, barOf, FirstBelow};
 
 // The weakest component so far: its degree, its mask, and the bar that another degree must be below to matter.
 pub struct Weakest {

@@ -16,12 +16,12 @@ status (figures given) = 0
 status (refusal k) = k
 
 -- A call whose figures go to a lent array: an array of another length than theirs is refused last, as the table has it.
-unfoldable pub lent : Reply → ℕ → Reply
+unfoldable pub lent : (said : Reply) (room : ℕ) → Reply
 lent (figures given) room = elim (eqb room (length given)) [ true ↦ figures given | false ↦ refusal (number WrittenLength) ]
 lent (refusal k) room = refusal k
 
 -- what the array lent for the figures holds afterwards: the figures, or what was there
-unfoldable pub figuresAfter : Reply → List ℕ → List ℕ
+unfoldable pub figuresAfter : (said : Reply) (old : List ℕ) → List ℕ
 figuresAfter (figures given) old = given
 figuresAfter (refusal k) old = old
 

@@ -13,7 +13,8 @@ use Rattle.boolean.specs.Statements.{masksBelow}
 use Rattle.boolean.proofs.FirstLargest.{firstLargest-none}
 use Rattle.boolean.proofs.OneBit.{ones-one}
 use Rattle.refusals.specs.Table.{Box}
-use Rattle.masks.specs.Masks.{Next, Raised, outputs}
+use Rattle.masks.specs.Masks.{outputs}
+use Rattle.masks.specs.Work.{Next, Raised}
 use Rattle.masks.proofs.Fewest.{few-outputs, largest-swept}
 use Rattle.masks.proofs.Walk.{best-starts, best-next, best-ends}
 use Rattle.masks.proofs.Boxes.{Stepwise, stepwise-starts, stepwise-next}

@@ -18,7 +18,8 @@ use Rattle.boolean.proofs.Lists.{length-listBelow, getD-listBelow}
 use Rattle.boolean.proofs.Products.{abs-multiple}
 use Rattle.boolean.proofs.OneBit.{ones-pos}
 use Rattle.boolean.proofs.Selection.{best-takes, best-keeps, first-is, firstLargest-ge, firstLargest-mem, ranked-first}
-use Rattle.masks.specs.Masks.{outputs, preferred}
+use Rattle.masks.specs.Masks.{outputs}
+use Rattle.masks.specs.Work.{preferred}
 use Rattle.masks.specs.Statements.{Blocks}
 use Rattle.masks.proofs.Fewest.{largest-names, higher-test}
 use Rattle.avalanche.specs.Work.{correlations, LargestWithin, FirstWithin}

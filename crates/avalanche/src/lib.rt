@@ -16,13 +16,13 @@ ghost use Rattle.boolean.specs.Selection.{best, higher, firstLargest, ranked};
 ghost use Rattle.refusals.specs.Table.{first, verdict, Box};
 ghost use Rattle.walsh.specs.Work.{Spectra};
 ghost use Rattle.masks.specs.Masks.{outputs};
-ghost use Rattle.masks.specs.Steps.{stepTables, Stepping};
+ghost use Rattle.masks.specs.Work.{stepTables, Stepping};
 ghost use Rattle.linear.specs.Work.{Swept};
 ghost use Rattle.avalanche.specs.Avalanche.{measured, correlated, changesOf};
 ghost use Rattle.avalanche.specs.Avalanche as spec;
 ghost use Rattle.avalanche.specs.Calls.{distanceChecks, changeReply, autocorrelationReply, distanceReply, completeReply};
-ghost use Rattle.avalanche.specs.Work.{candidate, truthTable, correlations, Compared, LargestWithin, FirstWithin};
-ghost use Rattle.avalanche.specs.Work.{Listed, Inside, LargestListed, FirstListed};
+ghost use Rattle.avalanche.specs.Work.{candidate, truthTable, correlations, Compared, LargestWithin};
+ghost use Rattle.avalanche.specs.Work.{FirstWithin, Listed, Inside, LargestListed, FirstListed};
 
 // The best so far.
 pub struct FoundChange {

@@ -10,19 +10,19 @@ unfoldable pub parity : ℕ → ℕ
 parity v = ones v % 2
 
 -- w·x, the inner product: the parity of the ones in (w AND x)
-unfoldable pub dot : ℕ → ℕ → ℕ
+unfoldable pub dot : (w x : ℕ) → ℕ
 unfolding parity
 dot w x = parity (bitAnd w x)
 
 -- the affine function (w, b) at x: w·x XOR b
-unfoldable pub affine : ℕ → ℕ → ℕ → ℕ
+unfoldable pub affine : (w b x : ℕ) → ℕ
 unfolding dot
 affine w b x = bitXor (dot w x) b
 
 -- bit j of v, the lowest being bit 1
-unfoldable pub bit : ℕ → ℕ → ℕ
+unfoldable pub bit : (j v : ℕ) → ℕ
 bit j v = v / 2 ^ (j - 1) % 2
 
 -- whether the ones of x lie within u
-unfoldable pub within : ℕ → ℕ → Bool
+unfoldable pub within : (u x : ℕ) → Bool
 within u x = eqb (bitAnd x u) x

@@ -16,14 +16,14 @@ shown c = c .figure ∷ c .witness
 
 module _ {C : Type 0} (beats : C → C → Bool) where
   -- the candidate b, or the last one that beat all before it. (The recursion stands inside the cases, so that it computes one of them.)
-  unfoldable pub best : C → List C → C
+  unfoldable pub best : (b : C) (cs : List C) → C
   best b [] = b
   best b (c ∷ cs) = elim (beats c b) [ true ↦ best c cs | false ↦ best b cs ]
 
-abbrev pub lower : Candidate → Candidate → Bool
+abbrev pub lower : (c b : Candidate) → Bool
 lower c b = ltb (c .figure) (b .figure)
 
-abbrev pub higher : Candidate → Candidate → Bool
+abbrev pub higher : (c b : Candidate) → Bool
 higher c b = ltb (b .figure) (c .figure)
 
 -- of no candidates: the figure 0, with no witness
@@ -31,7 +31,7 @@ abbrev pub nothing : Candidate
 nothing = record { figure = 0; witness = [] }
 
 -- the first best by a comparison, the last one that beat all before it
-abbrev pub firstBest : (Candidate → Candidate → Bool) → List Candidate → Candidate
+abbrev pub firstBest : (beats : Candidate → Candidate → Bool) (cs : List Candidate) → Candidate
 firstBest beats [] = nothing
 firstBest beats (c ∷ cs) = best beats c cs
 
@@ -46,18 +46,18 @@ unfolding best
 firstLargest cs = firstBest higher cs
 
 -- c beats b, or has the same figure and a lower rank: with a rank of its own for each candidate, the order of visiting does not matter
-abbrev pub ranked : (Candidate → Candidate → Bool) → (Candidate → ℕ) → Candidate → Candidate → Bool
+abbrev pub ranked : (beats : Candidate → Candidate → Bool) (rank : Candidate → ℕ) (c b : Candidate) → Bool
 ranked beats rank c b = beats c b || (eqb (c .figure) (b .figure) && ltb (rank c) (rank b))
 
 -- What the laws of a selection and the theorems on figures say; no contract needs it.
 
 -- the ranks rise along a list
-abbrev pub Ascending : {C : Type 0} → (C → ℕ) → List C → Type 0
+abbrev pub Ascending : {C : Type 0} (rank : C → ℕ) (cs : List C) → Type 0
 Ascending rank [] = Unit {0}
 Ascending {C} rank (c ∷ cs) = ((d : C) → List·Memᴰ d cs → rank c < rank d) × Ascending rank cs
 
 -- the same members, in any order, once or more often
-abbrev pub SameMembers : {C : Type 0} → List C → List C → Type 0
+abbrev pub SameMembers : {C : Type 0} (xs ys : List C) → Type 0
 SameMembers {C} xs ys = (x : C) → List·Memᴰ x xs ↔ List·Memᴰ x ys
 
 -- r stands in the list, and S holds of it and each candidate before it

@@ -13,17 +13,17 @@ use Rattle.refusals.specs.declared.Checked.{Checked}
 use Rattle.refusals.specs.declared.Written.{Written}
 
 -- a row, with bit j XORed with w·x XOR b
-unfoldable pub addedRow : ℕ → ℕ → ℕ → ℕ → ℕ → ℕ
+unfoldable pub addedRow : (j w b x row : ℕ) → ℕ
 unfolding affine
 addedRow j w b x row = bitXor row (affine w b x * 2 ^ (j - 1))
 
 -- the new rows
-unfoldable pub addedRows : ℕ → ℕ → ℕ → List ℕ → List ℕ
+unfoldable pub addedRows : (j w b : ℕ) (rows : List ℕ) → List ℕ
 unfolding listBelow addedRow
 addedRows j w b rows = listBelow (length rows) (λ x. addedRow j w b x (at rows x))
 
 -- the checks of the call: a box's own, then the column, the mask, the constant, and the written array
-unfoldable pub additionChecks : ℕ → ℕ → List ℕ → ℕ → ℕ → ℕ → ℕ → List Check
+unfoldable pub additionChecks : (n m : ℕ) (rows : List ℕ) (j w b room : ℕ) → List Check
 additionChecks n m rows j w b room =
     boxChecks n m rows ++ (
     (Parameter unless inRange 1 m j)
@@ -45,17 +45,17 @@ pub record Addition : Type 0 where
   pub lent : List ℕ
 
 -- what the checks of an addition to these rows find
-unfoldable pub additionChecked : ℕ → ℕ → List ℕ → Addition → Checked
+unfoldable pub additionChecked : (n m : ℕ) (rows : List ℕ) (a : Addition) → Checked
 unfolding first additionChecks
 additionChecked n m rows a = first (additionChecks n m rows (a .column) (a .mask) (a .constant) (length (a .lent)))
 
 -- the rows that stand after an addition: its new rows where it is accepted, and else those it was given
-unfoldable pub standing : ℕ → ℕ → List ℕ → Addition → List ℕ
+unfoldable pub standing : (n m : ℕ) (rows : List ℕ) (a : Addition) → List ℕ
 unfolding additionChecked addedRows
 standing n m rows a = contentAfter (additionChecked n m rows a) (addedRows (a .column) (a .mask) (a .constant) rows) rows
 
 -- the rows that stand after a list of additions, each given the rows that stand
-unfoldable pub standingAfter : ℕ → ℕ → List ℕ → List Addition → List ℕ
+unfoldable pub standingAfter : (n m : ℕ) (rows : List ℕ) (additions : List Addition) → List ℕ
 unfolding standing
 standingAfter n m rows [] = rows
 standingAfter n m rows (a ∷ additions) = standingAfter n m (standing n m rows a) additions

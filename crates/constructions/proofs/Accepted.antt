@@ -16,7 +16,8 @@ use Rattle.refusals.specs.declared.Checked.the-variants.{Accepted}
 use Rattle.refusals.proofs.Bounds.{range-low, range-high, below-at}
 use Rattle.refusals.proofs.Checks.{passed}
 use Rattle.constructions.specs.BentForm.{isPermutation}
-use Rattle.constructions.specs.Calls.{columnChecks, enlargeChecks, bentChecks, EnlargesColumn, EnlargesBox, MakesBent}
+use Rattle.constructions.specs.Calls.{columnChecks, enlargeChecks, bentChecks}
+use Rattle.constructions.specs.Work.{EnlargesColumn, EnlargesBox, MakesBent}
 
 pub column-accepts : (n : ℕ) (table : List ℕ) (k a room : ℕ) → first (columnChecks n table k a room) ≡ Accepted
     → EnlargesColumn n table k a × (room ≡ 2 ^ suc n)

@@ -11,7 +11,7 @@ use lib.Bits.{bitXor, xor-lt, xor-zero-r}
 use lib.Dec.{ltb, eqb}
 use lib.Pow.{pow-lt, pow-mono, shl-lt, shl-exact}
 use Rattle.constructions.specs.Enlargement.{enlarged}
-use Rattle.constructions.specs.Calls.{sourceOf, Enlarges}
+use Rattle.constructions.specs.Work.{sourceOf, Enlarges}
 
 -- one input more, as the code says it and as the table does
 pub one-more : (room n : ℕ) {r : Bool} → r ≡ eqb room (2 ^ (n + 1)) → r ≡ eqb room (2 ^ suc n)

@@ -20,7 +20,8 @@ use Rattle.avalanche.specs.Avalanche.{dynamicDistance}
 use Rattle.algebraic.specs.Algebraic.{bijective}
 use Rattle.constructions.specs.Enlargement.{enlargedTable, enlargedRows}
 use Rattle.constructions.specs.BentForm.{bentForm, bentTable}
-use Rattle.constructions.specs.Calls.{columnChecks, enlargeChecks, bentChecks, EnlargesColumn, EnlargesBox, MakesBent}
+use Rattle.constructions.specs.Calls.{columnChecks, enlargeChecks, bentChecks}
+use Rattle.constructions.specs.Work.{EnlargesColumn, EnlargesBox, MakesBent}
 use Rattle.constructions.proofs.Accepted.{column-accepts, column-table, box-accepts, box-and-table, AcceptedBent, bent-accepts, bent-parts}
 use Rattle.constructions.proofs.Avalanche.{box-of, enlarged-table-box, table-avalanche, enlarged-box, box-avalanche}
 use Rattle.constructions.proofs.Bijection.{rows-bijective}

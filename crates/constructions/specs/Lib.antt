@@ -1,3 +1,4 @@
 pub mod Enlargement
 pub mod BentForm
 pub mod Calls
+pub mod Work

@@ -12,8 +12,8 @@ ghost use Rattle.boolean.specs.Functions.{at};
 ghost use Rattle.refusals.specs.Table.{first, inRange};
 ghost use Rattle.constructions.specs.Enlargement.{enlarged, enlargedTable, enlargedRows};
 ghost use Rattle.constructions.specs.BentForm.{isPermutation, bentForm, bentTable};
-ghost use Rattle.constructions.specs.Calls.{columnChecks, enlargeChecks, bentChecks, ColumnCalled, BoxCalled, BentCalled, sourceOf};
-ghost use Rattle.constructions.specs.Calls.{Enlarges, EnlargesColumn, EnlargesBox, MakesBent};
+ghost use Rattle.constructions.specs.Calls.{columnChecks, enlargeChecks, bentChecks, ColumnCalled, BoxCalled, BentCalled};
+ghost use Rattle.constructions.specs.Work.{sourceOf, Enlarges, EnlargesColumn, EnlargesBox, MakesBent};
 
 // Whether an array with so many entries is as long as a table of n inputs.
 fn has_inputs(count: usize, n: u32) -> bool
@@ -30,7 +30,8 @@ fn can_grow(n: u32) -> bool
     refusals::in_range(1, 7, n)
 }
 
-// The input at which the smaller function is asked. The lower half asks at x itself. The upper half asks without the top bit, and with bit k flipped.
+// The input at which the smaller function is asked. The lower half asks at x itself. The upper half asks without the top bit, and with
+// bit k flipped.
 fn source(n: u32, k: u32, x: usize) -> usize
     requires { ⌜ Enlarges n k × (x < 2 ^ suc n) ⌝ }
     ensures { λ r. ⌜ (r ≡ sourceOf n k x) × (r < 2 ^ n) ⌝ }

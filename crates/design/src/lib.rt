@@ -10,8 +10,8 @@ ghost use Rattle.refusals.specs.declared.Written.the-variants as answers;
 ghost use Rattle.design.specs.Model as model;
 ghost use Rattle.design.specs.Calls.{snapshotOf, boxHeld, Begun, Swapped, Added, Marked, Returned, Read};
 
-// A mark: 1 and the rows of the moment when it was last set, or zeros where it was never set. A caller in C may hand in any number, so it is
-// no bool.
+// A mark: 1 and the rows of the moment when it was last set, or zeros where it was never set. A caller in C may hand in any number, so it
+// is no bool.
 #[repr(C)]
 pub struct Snapshot {
     pub taken: u32,

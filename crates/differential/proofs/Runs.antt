@@ -22,7 +22,7 @@ use Rattle.refusals.specs.Table.{Box}
 use Rattle.differential.specs.XorTable.{cell, largestCell}
 use Rattle.differential.specs.Running.{Paired}
 use Rattle.differential.specs.Work.{IsRow, rowCells, runAt, runs}
-use Rattle.sorting.specs.Sorting.{Sorted}
+use Rattle.sorting.specs.Work.{Sorted}
 use Rattle.sorting.proofs.Occurrences.{occurs-more, occurs-at}
 use Rattle.differential.proofs.Pairs.{cell-twice, pair-small}
 use Rattle.differential.proofs.CellRows.{ascending-same, mem-row, in-row, ascending-row}

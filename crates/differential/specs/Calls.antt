@@ -4,7 +4,8 @@ use mathlib.Core.List.{List, [], _∷_, _++_}
 use lib.Dec.{eqb, leb}
 use lib.ListN.{length, drop}
 use Rattle.boolean.specs.Selection.{shown}
-use Rattle.refusals.specs.Table.{Check, _unless_, first, inRange, boxChecksUpTo, boxChecks, Reply, figures, refusal, number, replyAfter, Wrote, written}
+use Rattle.refusals.specs.Table.{Check, _unless_, first, inRange, boxChecksUpTo, boxChecks, Reply}
+use Rattle.refusals.specs.Table.{figures, refusal, number, replyAfter, Wrote, written}
 use Rattle.refusals.specs.declared.Refusal.the-variants.{Parameter, WrittenLength, ListTooShort}
 use Rattle.refusals.specs.declared.Written.{Written}
 use Rattle.differential.specs.XorTable.{xorRow, largestCell, largestCells}

@@ -11,7 +11,7 @@ use Rattle.boolean.specs.Sums.{countBelow, listBelow, each, keep}
 use Rattle.boolean.specs.Functions.{at, Below, occurrences}
 use Rattle.boolean.specs.Selection.{Candidate}
 use Rattle.refusals.specs.Table.{Box}
-use Rattle.sorting.specs.Sorting.{Sorted}
+use Rattle.sorting.specs.Work.{Sorted}
 use Rattle.differential.specs.XorTable.{difference, cell, cellsOf, largestCell, coded}
 use Rattle.differential.specs.Running.{Paired, Largest, standing, LargestSoFar, numberIn}
 use Rattle.differential.specs.declared.FoundCell.{FoundCell}

@@ -152,8 +152,8 @@ fn larger(x: u64, y: u64) -> u64
 // the first difference of a row that falls into a slot takes it.
 //
 // The number of the difference at y after its count has risen: by one in its slot, or, where another difference has the slot, from those
-// before it that are the same. That a slot is free shows in the larger of two numbers, and not in a branch: free or taken, in no pattern, is
-// what a processor guesses wrong.
+// before it that are the same. That a slot is free shows in the larger of two numbers, and not in a branch: free or taken, in no pattern,
+// is what a processor guesses wrong.
 fn risen(a: u32, differences: &[u32], y: usize, slots: &mut [u64]) -> u64
     requires { ⌜ (a < 256) × (y < length (now differences)) × (length (now differences) ≤ 128)
         × Slots a (now differences) y (now slots) ⌝ }
@@ -211,8 +211,8 @@ fn largest_risen(a: u32, differences: &[u32], slots: &mut [u64]) -> u64
     running - row
 }
 
-// The best cell so far, or the largest of the row of a where that counts more: of the row's pairs, whatever they are, the largest standing is
-// given. A pair stands for two inputs.
+// The best cell so far, or the largest of the row of a where that counts more: of the row's pairs, whatever they are, the largest
+// standing is given. A pair stands for two inputs.
 fn after_row(a: u32, best: u64, found: FoundCell) -> FoundCell
     requires { ⌜ best / 4294967296 ≤ 128 ⌝ }
     ensures { λ r. ⌜ AfterStanding a best (candidate found) (candidate r) ⌝ }
@@ -269,8 +269,8 @@ fn find_largest(n: u32, m: u32, rows: &[u32], pairs: &mut [u32]) -> FoundCell
     }
 }
 
-// The largest cell of a box, in ascending a, then beta. An array is made before the checks, so that room on the stack is: made after them, room
-// for the slots would cost the number of rows, by a fault of the compiler that no proof covers (decision 119).
+// The largest cell of a box, in ascending a, then beta. An array is made before the checks, so that room on the stack is: made after
+// them, room for the slots would cost the number of rows, by a fault of the compiler that no proof covers (decision 119).
 pub fn largest_cell(n: u32, m: u32, rows: &[u32]) -> LargestCell
     ensures { λ r. ⌜ largestReply r ≡ xorReply n m (now (rows .entry)) ⌝ }
 {

@@ -14,7 +14,8 @@ ghost use Rattle.boolean.specs.Sums.{AnyContent};
 ghost use Rattle.differential.specs.XorTable.{largestCells};
 ghost use Rattle.differential.specs.XorTable as spec;
 ghost use Rattle.differential.specs.Calls.{ListCalled};
-ghost use Rattle.differential.specs.Work.{CellsAfter, RunningCells, IsRow, RowMeasured, Measured, rowCells, runAt, runs, FreeFrom, Slots, PairsInOrder};
+ghost use Rattle.differential.specs.Work.{CellsAfter, RunningCells, IsRow, RowMeasured, Measured, rowCells};
+ghost use Rattle.differential.specs.Work.{runAt, runs, FreeFrom, Slots, PairsInOrder};
 ghost use Rattle.differential.specs.Running.{Paired};
 
 // What the list needs of a row: its largest standing, and how many of its cells reach that count.

@@ -29,7 +29,8 @@ fn clear_slots(slots: &mut [u64])
 // One rise: the count of the difference at y goes up by one in its slot, and the running value is brought up to date by one comparison.
 // After each rise its count is the largest so far, and its difference the smallest that has it.
 fn rise_alone(differences: &[u32], y: usize, slots: &mut [u64], running: u64) -> u64
-    requires { ⌜ (y < length (now differences)) × (length (now differences) ≤ 128) × OwnSlots (length (now slots)) (now differences) y (now slots) × LargestSoFar (now differences) y running ⌝ }
+    requires { ⌜ (y < length (now differences)) × (length (now differences) ≤ 128)
+        × OwnSlots (length (now slots)) (now differences) y (now slots) × LargestSoFar (now differences) y running ⌝ }
     ensures { λ r. ⌜ LargestSoFar (now (differences .entry)) (y + 1) r
         × (r ≡ higherOf running (risenAt (now (differences .entry)) y))
         × OwnSlots (length (now (slots .entry))) (now (differences .entry)) (y + 1) (now (slots .exit)) ⌝ }

@@ -22,7 +22,8 @@ use Rattle.boolean.specs.Statements.{masksBelow}
 use Rattle.boolean.proofs.Selection.{best-takes, best-keeps, first-is, firstLeast-le, firstLeast-mem, ranked-first}
 use Rattle.boolean.proofs.Approximations.{walsh-twice, walsh-size, approximation-le, half-power}
 use Rattle.refusals.specs.Table.{Box}
-use Rattle.masks.specs.Masks.{Next, Raised, outputs, preferred}
+use Rattle.masks.specs.Masks.{outputs}
+use Rattle.masks.specs.Work.{Next, Raised, preferred}
 use Rattle.masks.proofs.Walk.{best-starts, best-next, best-ends}
 use Rattle.masks.specs.Statements.{Blocks}
 use Rattle.masks.proofs.Fewest.{least-names, lower-test, least-swept}

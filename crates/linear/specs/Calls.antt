@@ -10,6 +10,8 @@ use Rattle.refusals.specs.declared.Refusal.the-variants.{Parameter, WrittenLeng
 use Rattle.refusals.specs.declared.Written.{Written}
 use Rattle.linear.specs.declared.LeastPair.{LeastPair}
 use Rattle.linear.specs.declared.LeastPair.the-variants.{Reached, Declined}
+use Rattle.boolean.specs.Selection.{Candidate}
+use Rattle.linear.specs.declared.Found.{Found}
 
 -- the spectrum of component c: a box's checks, then the component's mask and the written array
 unfoldable pub componentChecks : (n m : ℕ) (rows : List ℕ) (c room : ℕ) → List Check
@@ -28,3 +30,7 @@ ComponentCalled n m rows c lent answer left =
 abbrev pub leastPair : LeastPair → Reply
 leastPair (Reached count c w b) = figures (count ∷ c ∷ w ∷ b ∷ [])
 leastPair (Declined e) = refusal (number e)
+
+-- the best pair so far, as a candidate
+abbrev pub candidate : Found → Candidate
+candidate f = record { figure = f .count; witness = f .c ∷ f .w ∷ f .b ∷ [] }

@@ -1,17 +1,11 @@
 -- What the functions behind the calls on components ask and leave. The sweeps of the crates above ask some of it too.
 use Prim.Native.Nat.{ℕ, _^_, _≤_, _<_}
 use mathlib.Core.Path.{_≡_}
-use mathlib.Core.List.{List, [], _∷_}
+use mathlib.Core.List.{List}
 use lib.IntN.{ℤ, natAbs}
 use lib.ListN.{length}
 use Rattle.boolean.specs.Functions.{valueAt}
-use Rattle.boolean.specs.Selection.{Candidate}
 use Rattle.refusals.specs.Table.{Box}
-use Rattle.linear.specs.declared.Found.{Found}
-
--- the best pair so far, as a candidate
-abbrev pub candidate : Found → Candidate
-candidate f = record { figure = f .count; witness = f .c ∷ f .w ∷ f .b ∷ [] }
 
 -- an accepted box, and two arrays to work in, as long as its rows
 pub record Swept (n m : ℕ) (rows table : List ℕ) (out : List ℤ) : Type 0 where

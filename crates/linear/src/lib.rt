@@ -12,11 +12,11 @@ ghost use Rattle.boolean.specs.Selection.{best, lower, firstLeast, ranked};
 ghost use Rattle.refusals.specs.Table.{first, Box};
 ghost use Rattle.walsh.specs.Work.{Spectra};
 ghost use Rattle.masks.specs.Masks.{outputs};
-ghost use Rattle.masks.specs.Steps.{stepTables, Stepping};
+ghost use Rattle.masks.specs.Work.{stepTables, Stepping};
 ghost use Rattle.linear.specs.Nonlinearity.{pairsOf, nonlinearityReply};
 ghost use Rattle.linear.specs.Nonlinearity as spec;
-ghost use Rattle.linear.specs.Calls.{componentChecks, ComponentCalled, leastPair};
-ghost use Rattle.linear.specs.Work.{candidate, Swept, Largest, FirstPlace};
+ghost use Rattle.linear.specs.Calls.{componentChecks, ComponentCalled, leastPair, candidate};
+ghost use Rattle.linear.specs.Work.{Swept, Largest, FirstPlace};
 
 // The best pair so far. It stands in a server, which crosses to C by value: so its fields lie as C lays them.
 #[repr(C)]

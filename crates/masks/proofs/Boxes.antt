@@ -8,8 +8,7 @@ use lib.Pow.{pow-pos, pow-mono}
 use Rattle.boolean.specs.Sums.{listBelow}
 use Rattle.boolean.specs.Functions.{component}
 use Rattle.refusals.specs.Table.{Box}
-use Rattle.masks.specs.Masks.{Next, Raised}
-use Rattle.masks.specs.Steps.{Steps, Stepping}
+use Rattle.masks.specs.Work.{Next, Raised, Steps, Stepping}
 use Rattle.masks.proofs.Walk.{Walk, walk-starts, walk-next, raised-first}
 
 module _ {n m : ℕ} {rows : List ℕ} (b : Box n m rows) where

@@ -20,7 +20,8 @@ use Rattle.boolean.proofs.Blocks.{first-blocks}
 use Rattle.boolean.proofs.Components.{mem-masksBelow, ascending-masksBelow, first-masksBelow, ascending-components, same-masks, rank-of-before}
 use Rattle.boolean.proofs.Lists.{mem-each, each-same, ascending-each}
 use Rattle.boolean.proofs.Selection.{least, by-least, largest, by-largest, best-mem, best-from, best-agrees, ranked-all, any-order}
-use Rattle.masks.specs.Masks.{outputs, preferred}
+use Rattle.masks.specs.Masks.{outputs}
+use Rattle.masks.specs.Work.{preferred}
 use Rattle.masks.specs.Statements.{mask, Named, Visit, Blocks}
 
 -- a better figure wins whatever the ranks

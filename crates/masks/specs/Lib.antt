@@ -1,3 +1,3 @@
 pub mod Masks
-pub mod Steps
 pub mod Statements
+pub mod Work

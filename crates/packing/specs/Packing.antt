@@ -15,27 +15,27 @@ unfoldable pub columnBytes : ℕ → ℕ
 columnBytes n = max 1 (2 ^ n / 8)
 
 -- byte k, from 0, of column j: the truth values in input order, eight to a byte, lowest bit first. (Past the last input stands 0.)
-unfoldable pub packedByte : List ℕ → ℕ → ℕ → ℕ
+unfoldable pub packedByte : (rows : List ℕ) (j k : ℕ) → ℕ
 unfolding totalBelow column
 packedByte rows j k = totalBelow 8 (λ t. column rows j (8 * k + t) * 2 ^ t)
 
 -- the packed form: the bytes of column 1 first, of column m last
-unfoldable pub packed : ℕ → ℕ → List ℕ → List ℕ
+unfoldable pub packed : (n m : ℕ) (rows : List ℕ) → List ℕ
 unfolding listBelow packedByte columnBytes
 packed n m rows = listBelow (m * columnBytes n) (λ p. packedByte rows (p / columnBytes n + 1) (p % columnBytes n))
 
 -- the truth value of column j at input x that packed bytes hold
-unfoldable pub packedValue : ℕ → List ℕ → ℕ → ℕ → ℕ
+unfoldable pub packedValue : (n : ℕ) (bytes : List ℕ) (j x : ℕ) → ℕ
 unfolding bit columnBytes
 packedValue n bytes j x = bit (x % 8 + 1) (at bytes ((j - 1) * columnBytes n + x / 8))
 
 -- row x of packed bytes: its bit j is the truth value of column j at x
-unfoldable pub unpackedRow : ℕ → ℕ → List ℕ → ℕ → ℕ
+unfoldable pub unpackedRow : (n m : ℕ) (bytes : List ℕ) (x : ℕ) → ℕ
 unfolding totalBelow packedValue
 unpackedRow n m bytes x = totalBelow m (λ j. packedValue n bytes (j + 1) x * 2 ^ j)
 
 -- the rows of packed bytes
-unfoldable pub unpacked : ℕ → ℕ → List ℕ → List ℕ
+unfoldable pub unpacked : (n m : ℕ) (bytes : List ℕ) → List ℕ
 unfolding listBelow unpackedRow
 unpacked n m bytes = listBelow (2 ^ n) (λ x. unpackedRow n m bytes x)
 
@@ -44,12 +44,12 @@ unfoldable pub usedBits : ℕ → ℕ
 usedBits n = min 8 (2 ^ n)
 
 -- the checks of packing: a box's own, then the written array
-unfoldable pub packChecks : ℕ → ℕ → List ℕ → ℕ → List Check
+unfoldable pub packChecks : (n m : ℕ) (rows : List ℕ) (room : ℕ) → List Check
 unfolding columnBytes
 packChecks n m rows room = boxChecks n m rows ++ ((WrittenLength unless eqb room (m * columnBytes n)) ∷ [])
 
 -- the checks of unpacking: the widths, the packed array's length, then its unused bits, and the written array
-unfoldable pub unpackChecks : ℕ → ℕ → List ℕ → ℕ → List Check
+unfoldable pub unpackChecks : (n m : ℕ) (bytes : List ℕ) (room : ℕ) → List Check
 unfolding columnBytes usedBits
 unpackChecks n m bytes room =
     (InputWidth unless inRange 1 8 n)

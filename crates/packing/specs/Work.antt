@@ -9,20 +9,20 @@ use Rattle.boolean.specs.Functions.{at}
 use Rattle.packing.specs.Packing.{columnBytes, usedBits}
 
 -- the word of the columns i + 1, i + 9, i + 17 and i + 25, a byte or less of each
-unfoldable pub wordOf : (ℕ → ℕ) → ℕ → ℕ
+unfoldable pub wordOf : (b : ℕ → ℕ) (i : ℕ) → ℕ
 wordOf b i = b (i + 1) + 256 * b (i + 9) + 65536 * b (i + 17) + 16777216 * b (i + 25)
 
 -- bit j of eight numbers, as a byte: the first is the lowest
-unfoldable pub byteOf : (ℕ → ℕ) → ℕ → ℕ
+unfoldable pub byteOf : (f : ℕ → ℕ) (j : ℕ) → ℕ
 unfolding totalBelow bit
 byteOf f j = totalBelow 8 (λ t. bit j (f t) * 2 ^ t)
 
 -- eight entries from a start on, each so many places after the one before
-abbrev pub eight : List ℕ → ℕ → ℕ → ℕ → ℕ
+abbrev pub eight : (values : List ℕ) (start step t : ℕ) → ℕ
 eight values start step t = at values (start + t * step)
 
 -- their bits i + 1, i + 9, i + 17 and i + 25, a byte of each
-unfoldable pub gathered : List ℕ → ℕ → ℕ → ℕ → ℕ
+unfoldable pub gathered : (values : List ℕ) (start step i : ℕ) → ℕ
 unfolding wordOf byteOf
 gathered values start step i = wordOf (byteOf (eight values start step)) i
 
@@ -41,21 +41,21 @@ pub record Cleared (room : ℕ) (list : List ℕ) : Type 0 where
   pub none : (x : ℕ) → at list x ≡ 0
 
 -- the same entries, and 0 past the last of them
-abbrev pub Padded : List ℕ → List ℕ → Type 0
+abbrev pub Padded : (values padded : List ℕ) → Type 0
 Padded values padded = (x : ℕ) → at padded x ≡ at values x
 
 -- the words of packed columns: word i × size + y has byte y of the columns i + 1, i + 9, i + 17 and i + 25
-abbrev pub GatheredWords : List ℕ → ℕ → List ℕ → Type 0
+abbrev pub GatheredWords : (rows : List ℕ) (size : ℕ) (words : List ℕ) → Type 0
 GatheredWords rows size words = (q : ℕ) → q < 8 * size → at words q ≡ gathered rows (8 * (q % size)) 1 (q / size)
 
 -- byte p of packed columns, from their words: it is byte p % size of the column after p / size others
-unfoldable pub wordByte : List ℕ → ℕ → ℕ → ℕ
+unfoldable pub wordByte : (words : List ℕ) (size p : ℕ) → ℕ
 wordByte words size p = at words (p / size % 8 * size + p % size) / 256 ^ (p / size / 8) % 256
 
 -- the word of four bytes, each eight columns after the one before
-unfoldable pub fourBytes : List ℕ → ℕ → ℕ → ℕ
+unfoldable pub fourBytes : (bytes : List ℕ) (size q : ℕ) → ℕ
 fourBytes bytes size q = at bytes q + 256 * at bytes (q + 8 * size) + 65536 * at bytes (q + 16 * size) + 16777216 * at bytes (q + 24 * size)
 
 -- the words of packed bytes
-abbrev pub BytesWords : List ℕ → ℕ → List ℕ → Type 0
+abbrev pub BytesWords : (bytes : List ℕ) (size : ℕ) (words : List ℕ) → Type 0
 BytesWords bytes size words = (q : ℕ) → q < 8 * size → at words q ≡ fourBytes bytes size q

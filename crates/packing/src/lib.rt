@@ -43,8 +43,8 @@ fn kept(v: u32, i: u32) -> u64
     (v as u64) & (16843009u64 << i)
 }
 
-// These bits of eight entries, a byte for each: the entry at the start has the lowest bit of every byte. The last entry comes first, and what was
-// gathered moves up by one bit for each that follows; one shift at the end brings the bytes to their places.
+// These bits of eight entries, a byte for each: the entry at the start has the lowest bit of every byte. The last entry comes first, and
+// what was gathered moves up by one bit for each that follows; one shift at the end brings the bytes to their places.
 fn gather(values: &[u32], start: usize, step: usize, i: u32) -> u32
     requires { ⌜ (i < 8) × (start + 7 * step < length (now values)) ⌝ }
     ensures { λ r. ⌜ r ≡ gathered (now (values .entry)) start step i ⌝ }
@@ -72,8 +72,10 @@ fn pad_rows(rows: &[u32], padded: &mut [u32])
 
 // The words of the columns i + 1, i + 9, i + 17 and i + 25.
 fn gather_group(rows: &[u32], i: u32, size: usize, words: &mut [u32])
-    requires { ⌜ (i < 8) × (1 ≤ size) × (size ≤ 32) × (length (now rows) ≡ 256) × (length (now words) ≡ 256) × ((q : ℕ) → q < i * size → at (now words) q ≡ gathered (now rows) (8 * (q % size)) 1 (q / size)) ⌝ }
-    ensures { λ _. ⌜ ((q : ℕ) → q < i * size + size → at (now (words .exit)) q ≡ gathered (now (rows .entry)) (8 * (q % size)) 1 (q / size)) ⌝ }
+    requires { ⌜ (i < 8) × (1 ≤ size) × (size ≤ 32) × (length (now rows) ≡ 256) × (length (now words) ≡ 256)
+        × ((q : ℕ) → q < i * size → at (now words) q ≡ gathered (now rows) (8 * (q % size)) 1 (q / size)) ⌝ }
+    ensures { λ _. ⌜ ((q : ℕ) → q < i * size + size
+        → at (now (words .exit)) q ≡ gathered (now (rows .entry)) (8 * (q % size)) 1 (q / size)) ⌝ }
 {
     let start = i as usize * size;
     let mut y = 0;
@@ -105,7 +107,8 @@ fn byte_of(word: u32, group: u32) -> u8
 
 // The bytes of the column after j others.
 fn write_column(words: &[u32], j: usize, size: usize, out: &mut [u8])
-    requires { ⌜ (j < 32) × (1 ≤ size) × (size ≤ 32) × (length (now words) ≡ 256) × (j * size + size ≤ length (now out)) × ((p : ℕ) → p < j * size → at (now out) p ≡ wordByte (now words) size p) ⌝ }
+    requires { ⌜ (j < 32) × (1 ≤ size) × (size ≤ 32) × (length (now words) ≡ 256) × (j * size + size ≤ length (now out))
+        × ((p : ℕ) → p < j * size → at (now out) p ≡ wordByte (now words) size p) ⌝ }
     ensures { λ _. ⌜ ((p : ℕ) → p < j * size + size → at (now (out .exit)) p ≡ wordByte (now (words .entry)) size p) ⌝ }
 {
     let start = j * size;

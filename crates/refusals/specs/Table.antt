@@ -8,7 +8,10 @@ use lib.Dec.{ltb, leb, eqb}
 use Rattle.boolean.specs.Sums.{every}
 use Rattle.boolean.specs.Functions.{at}
 use Rattle.refusals.specs.declared.Refusal.{Refusal}
-use Rattle.refusals.specs.declared.Refusal.the-variants.{InputWidth, OutputWidth, ReadLength, Value, Permutation, Parameter, WrittenLength, NoFunction, ListTooShort, FileLength, BoxCount, OutputWidths, Catalogue, NoRoom, NoRecord, UnusedBit, UnsetMark, NoPlace, PlaceState}
+use Rattle.refusals.specs.declared.Refusal.the-variants.{InputWidth, OutputWidth, ReadLength, Value, Permutation}
+use Rattle.refusals.specs.declared.Refusal.the-variants.{Parameter, WrittenLength, NoFunction, ListTooShort, FileLength}
+use Rattle.refusals.specs.declared.Refusal.the-variants.{BoxCount, OutputWidths, Catalogue, NoRoom, NoRecord}
+use Rattle.refusals.specs.declared.Refusal.the-variants.{UnusedBit, UnsetMark, NoPlace, PlaceState}
 use Rattle.refusals.specs.declared.Checked.{Checked}
 use Rattle.refusals.specs.declared.Checked.the-variants.{Accepted, Refused}
 use Rattle.refusals.specs.declared.Written.{Written}
@@ -49,15 +52,15 @@ first [] = Accepted
 first ((e unless ok) ∷ cs) = elim ok [ true ↦ first cs | false ↦ Refused e ]
 
 -- a is at least lo and at most hi
-abbrev pub inRange : ℕ → ℕ → ℕ → Bool
+abbrev pub inRange : (lo hi a : ℕ) → Bool
 inRange lo hi a = leb lo a && leb a hi
 
 -- every number of the list is below the limit
-abbrev pub allBelow : ℕ → List ℕ → Bool
+abbrev pub allBelow : (limit : ℕ) (xs : List ℕ) → Bool
 allBelow limit xs = every (λ x. ltb x limit) xs
 
 -- the checks of a box where at most so many outputs are taken: n inputs, m outputs, 2^n rows below 2^m
-abbrev pub boxChecksUpTo : ℕ → ℕ → ℕ → List ℕ → List Check
+abbrev pub boxChecksUpTo : (most n m : ℕ) (rows : List ℕ) → List Check
 boxChecksUpTo most n m rows =
     (InputWidth unless inRange 1 8 n)
     ∷ (OutputWidth unless inRange 1 most m)
@@ -66,15 +69,15 @@ boxChecksUpTo most n m rows =
     ∷ []
 
 -- the checks of a box: a call takes up to 32 outputs, unless it says otherwise
-abbrev pub boxChecks : ℕ → ℕ → List ℕ → List Check
+abbrev pub boxChecks : (n m : ℕ) (rows : List ℕ) → List Check
 boxChecks n m rows = boxChecksUpTo 32 n m rows
 
 -- the checks of a call on the combinations of at most i outputs: the box's, then i
-unfoldable pub limitChecks : ℕ → ℕ → List ℕ → ℕ → List Check
+unfoldable pub limitChecks : (n m : ℕ) (rows : List ℕ) (i : ℕ) → List Check
 limitChecks n m rows i = boxChecks n m rows ++ ((Parameter unless inRange 1 m i) ∷ [])
 
 -- the checks of a truth table: n inputs, 2^n values of 0 or 1
-abbrev pub tableChecks : ℕ → List ℕ → List Check
+abbrev pub tableChecks : (n : ℕ) (table : List ℕ) → List Check
 tableChecks n table =
     (InputWidth unless inRange 1 8 n)
     ∷ (ReadLength unless eqb (length table) (2 ^ n))
@@ -82,7 +85,7 @@ tableChecks n table =
     ∷ []
 
 -- the checks of a call that reads a truth table and writes 2^n values: the truth table's, then the written array
-unfoldable pub tableCallChecks : ℕ → List ℕ → ℕ → List Check
+unfoldable pub tableCallChecks : (n : ℕ) (table : List ℕ) (room : ℕ) → List Check
 tableCallChecks n table room = tableChecks n table ++ ((WrittenLength unless eqb room (2 ^ n)) ∷ [])
 
 -- what a call replies: its figures in the document's order, or the number of the refusal alone
@@ -91,17 +94,18 @@ pub data Reply : Type 0 where
   refusal : ℕ → Reply
 
 -- the reply of a call whose checks found this
-abbrev pub replyAfter : Checked → List ℕ → Reply
+abbrev pub replyAfter : (checked : Checked) (given : List ℕ) → Reply
 replyAfter Accepted given = figures given
 replyAfter (Refused e) given = refusal (number e)
 
 -- the final content of a lent array whose call's checks found this: the result, or what was there
-abbrev pub contentAfter : {A : Type 0} → Checked → List A → List A → List A
+abbrev pub contentAfter : {A : Type 0} (checked : Checked) (result old : List A) → List A
 contentAfter Accepted result old = result
 contentAfter (Refused e) result old = old
 
--- The outcome of a call that writes to one lent array, by its checks: it says the figures given, or the number of the refusal alone, and the array then
--- holds the result, or what it held. A contract of such a call is this record, and so is what a theorem on such calls assumes.
+-- The outcome of a call that writes to one lent array, by its checks: it says the figures given, or the number of the refusal alone, and
+-- the array then holds the result, or what it held. A contract of such a call is this record, and so is what a theorem on such calls
+-- assumes.
 pub record Wrote {A : Type 0} (checks : List Check) (given : List ℕ) (result old : List A) (said : Reply) (new : List A) : Type 0 where
   pub reply : said ≡ replyAfter (first checks) given
   pub content : new ≡ contentAfter (first checks) result old

@@ -4,7 +4,8 @@ ghost use Prim.Native.Nat.{_≤_};
 ghost use lib.ListN.{length};
 ghost use Rattle.boolean.specs.Functions.{at};
 ghost use Rattle.boolean.specs.Sums.{largestBelow};
-ghost use Rattle.refusals.specs.Table.{number, first, inRange, allBelow, boxChecksUpTo, boxChecks, limitChecks, tableChecks, tableCallChecks};
+ghost use Rattle.refusals.specs.Table.{number, first, inRange, allBelow, boxChecksUpTo};
+ghost use Rattle.refusals.specs.Table.{boxChecks, limitChecks, tableChecks, tableCallChecks};
 
 pub enum Refusal {
     InputWidth,

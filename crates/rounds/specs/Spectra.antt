@@ -14,7 +14,8 @@ use Rattle.rounds.specs.Round.{Summand, inputsOf}
 unfoldable pub peak : (s : Summand) (c : ℕ) → Candidate
 unfolding listBelow walsh firstLargest
 peak s c =
-    firstLargest (listBelow (2 ^ s .inputs) (λ w. record { figure = natAbs (walsh (s .inputs) (component (s .rows) c) w); witness = w ∷ [] }))
+    firstLargest
+    (listBelow (2 ^ s .inputs) (λ w. record { figure = natAbs (walsh (s .inputs) (component (s .rows) c) w); witness = w ∷ [] }))
 
 -- the product of the boxes' largest magnitudes
 unfoldable pub product : (ss : List Summand) (c : ℕ) → ℕ

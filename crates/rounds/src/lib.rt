@@ -11,12 +11,13 @@ ghost use Rattle.boolean.specs.Sums.{each, AnyContent};
 ghost use Rattle.boolean.specs.Functions.{component, components, spectrum};
 ghost use Rattle.refusals.specs.Table.{first, Box};
 ghost use Rattle.walsh.specs.Work.{Spectra};
-ghost use Rattle.masks.specs.Masks.{preferred};
+ghost use Rattle.masks.specs.Work.{preferred};
 ghost use Rattle.linear.specs.Work.{Swept};
 ghost use Rattle.rounds.specs.Round.{boxOf, checksOf, sumChecks, sumReply};
 ghost use Rattle.rounds.specs.Spectra.{peak, product, largestProduct};
 ghost use Rattle.rounds.specs.Calls.{handed, read, SumAnswer};
-ghost use Rattle.rounds.specs.Work.{checksIf, sameIf, inputsIf, sizeIf, Round, Roomy, foundCandidate, Highest, TopOf, TopIf, WitnessOf};
+ghost use Rattle.rounds.specs.Work.{checksIf, sameIf, inputsIf, sizeIf, Round, Roomy};
+ghost use Rattle.rounds.specs.Work.{foundCandidate, Highest, TopOf, TopIf, WitnessOf};
 
 // The inputs and outputs of the four boxes that are handed over.
 pub struct Widths {
@@ -65,8 +66,8 @@ pub enum LeastSum {
     Declined(Refusal),
 }
 
-// The largest magnitude of a Walsh value of component c of a box, by the fewest inputs at which the component differs from an affine function:
-// twice that count and the magnitude make 2^n. The fixed table and two arrays to work in are lent.
+// The largest magnitude of a Walsh value of component c of a box, by the fewest inputs at which the component differs from an affine
+// function: twice that count and the magnitude make 2^n. The fixed table and two arrays to work in are lent.
 fn size_in(
     fixed: &[i32; 2048],
     n: u32,

@@ -11,7 +11,7 @@ use Rattle.catalogue.specs.Format.{count}
 use Rattle.catalogue.specs.Calls.{gapFor, isGap, offeredChecks}
 
 -- the list of cells: the array for its one figure is looked at before the list
-unfoldable pub cellsChecks : ℕ → ℕ → List ℕ → ℕ → ℕ → List Check
+unfoldable pub cellsChecks : (n m : ℕ) (rows : List ℕ) (room listed : ℕ) → List Check
 unfolding largestCells
 cellsChecks n m rows room listed =
     boxChecks n m rows ++ (
@@ -20,12 +20,12 @@ cellsChecks n m rows room listed =
     ∷ [])
 
 -- reading a box file: the array for the rows is looked at before that for the two figures
-unfoldable pub readBoxChecks : List ℕ → ℕ → ℕ → List Check
+unfoldable pub readBoxChecks : (file : List ℕ) (rows room : ℕ) → List Check
 unfolding fileChecks
 readBoxChecks file rows room = fileChecks file rows ++ ((WrittenLength unless eqb room 2) ∷ [])
 
 -- adding to a catalogue: the array for the index is looked at after the catalogue and the file, and before the room
-unfoldable pub addRecordChecks : List ℕ → List ℕ → ℕ → List Check
+unfoldable pub addRecordChecks : (b file : List ℕ) (room : ℕ) → List Check
 unfolding offeredChecks gapFor count
 addRecordChecks b file room =
     offeredChecks b file ++ (

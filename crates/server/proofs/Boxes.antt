@@ -16,9 +16,8 @@ use Rattle.refusals.specs.declared.Checked.the-variants.{Accepted, Refused}
 use Rattle.refusals.proofs.Checks.{box-accepted}
 use Rattle.refusals.proofs.Bounds.{range-high}
 use Rattle.masks.specs.Masks.{outputs}
-use Rattle.linear.specs.Work.{candidate}
+use Rattle.linear.specs.Calls.{candidate}
 use Rattle.linear.specs.Nonlinearity.{pairsOf}
-use Rattle.linear.specs.Work.{candidate}
 use Rattle.linear.proofs.Nearest.{nearestOf}
 use Rattle.server.specs.declared.Place.{Place}
 use Rattle.server.specs.Model.{heldOf, analysis, Spot, holds, unfinished, advanced}

@@ -13,7 +13,7 @@ use Rattle.refusals.specs.declared.Checked.{Checked}
 use Rattle.refusals.specs.declared.Checked.the-variants.{Accepted, Refused}
 use Rattle.refusals.proofs.Checks.{passed, accepted-after, box-up-to, few-outputs, reply-refused, reply-accepted}
 use Rattle.refusals.proofs.Bounds.{range-low, range-high}
-use Rattle.linear.specs.Work.{candidate}
+use Rattle.linear.specs.Calls.{candidate}
 use Rattle.server.specs.declared.Place.{Place}
 use Rattle.server.specs.declared.Server.{Server}
 use Rattle.server.specs.Model.{Spot, empty, holds, State, spotAt, taken, unfinished, heldChecks, putChecks, analysis}

@@ -15,7 +15,7 @@ use Rattle.boolean.specs.Sums.{totalBelow}
 use Rattle.boolean.specs.Selection.{Candidate}
 use Rattle.boolean.proofs.Counts.{total-cong, total-le}
 use Rattle.refusals.proofs.Bounds.{range-high}
-use Rattle.linear.specs.Work.{candidate}
+use Rattle.linear.specs.Calls.{candidate}
 use Rattle.server.specs.Model.{Analysis, Spot, empty, holds, State, spotAt, more, unfinished, circle, served, step}
 use Rattle.server.specs.declared.Place.{Place}
 use Rattle.server.specs.Calls.{boxOf, rowsOf, spot, oneMore}

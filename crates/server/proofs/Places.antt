@@ -10,14 +10,13 @@ use lib.Dec.{ltb, eqb}
 use lib.ListN.{getD, set, length, take}
 use Rattle.boolean.specs.Selection.{Candidate}
 use Rattle.refusals.specs.Table.{inRange}
-use Rattle.linear.specs.Work.{candidate}
+use Rattle.linear.specs.Calls.{candidate}
 use lib.Seq.{take-append-seam}
 use Rattle.boolean.proofs.Every.{both, both-true}
 use Rattle.server.specs.declared.Place.{Place}
 use Rattle.server.specs.declared.Server.{Server}
 use Rattle.server.specs.Model.{Analysis, heldOf, Spot, empty, holds, State, spotAt, withSpot, start, taken, more, unfinished}
-use Rattle.server.specs.Calls.{boxOf, spotOf, spot, spots, state, filled, foundOf, placeOf, placesOf, serverOf}
-use Rattle.server.specs.Calls.{SoundSpot, SoundSpots, Sound, Began, withPlace}
+use Rattle.server.specs.Calls.{boxOf, spotOf, spot, spots, state, filled, foundOf, placeOf, placesOf, serverOf, SoundSpot, SoundSpots, Sound, Began, withPlace}
 use Rattle.server.proofs.SoFar.{held-so-far}
 
 -- what a read past the end would give: no box

@@ -9,7 +9,8 @@ use lib.ListN.{getD, set}
 use Rattle.boolean.specs.Sums.{listBelow}
 use Rattle.server.specs.declared.Server.{Server}
 use Rattle.server.specs.Model.{analysis, Spot, empty, holds, State, spotAt, unfinished, circle, served, advanced, serve, step}
-use Rattle.server.specs.Calls.{state, SoundSpot, SoundSpots, Waiting, turn}
+use Rattle.server.specs.Calls.{state, SoundSpot, SoundSpots}
+use Rattle.server.specs.Work.{Waiting, turn}
 use Rattle.server.proofs.Circle.{found-first, found-none, found-passes, found-cong}
 use Rattle.server.proofs.Places.{more-left, sound-at, sound-set}
 

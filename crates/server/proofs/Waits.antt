@@ -10,7 +10,8 @@ use lib.Seq.{getD-set-same, getD-set-other}
 use Rattle.server.specs.declared.Place.{Place}
 use Rattle.server.specs.declared.Server.{Server}
 use Rattle.server.specs.Model.{Spot, empty, unfinished}
-use Rattle.server.specs.Calls.{spot, spots, Waiting}
+use Rattle.server.specs.Calls.{spot, spots}
+use Rattle.server.specs.Work.{Waiting}
 use Rattle.server.proofs.Places.{nowhere, spots-at, spots-set, unfinished-inside}
 
 -- the places below k are marked

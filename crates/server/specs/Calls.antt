@@ -1,6 +1,6 @@
 -- What the code's server and its answers stand for, all that the code's values hold, and the outcome of each call: its contract, in
 -- Rattle and for C, and what the theorems on calls assume.
-use Prim.Native.Nat.{ℕ, zero, suc, _+_, _-_, _^_, _<_, _≤_}
+use Prim.Native.Nat.{ℕ, zero, suc, _+_, _-_, _^_, _≤_}
 use mathlib.Core.Path.{_≡_}
 use mathlib.Core.Bool.{Bool, true, false}
 use mathlib.Core.List.{List, [], _∷_, _++_}
@@ -13,14 +13,14 @@ use Rattle.refusals.specs.declared.Checked.{Checked}
 use Rattle.refusals.specs.declared.Checked.the-variants.{Accepted, Refused}
 use Rattle.masks.specs.Masks.{outputs}
 use Rattle.linear.specs.declared.Found.{Found}
-use Rattle.linear.specs.Work.{candidate}
+use Rattle.linear.specs.Calls.{candidate}
 use Rattle.linear.specs.Nonlinearity.{pairsOf}
 use Rattle.server.specs.declared.Place.{Place}
 use Rattle.server.specs.declared.Server.{Server}
 use Rattle.server.specs.declared.Asked.{Asked}
 use Rattle.server.specs.declared.Asked.the-variants.{Unfinished, Finished, Declined}
 use Rattle.server.specs.Model.{Analysis, heldOf, analysis, Spot, empty, holds, State, start, putChecks, heldChecks}
-use Rattle.server.specs.Model.{unfinished, circle, firstWhere, served, step, Standing, declined, stillUnfinished, finished, ask}
+use Rattle.server.specs.Model.{served, step, Standing, declined, stillUnfinished, finished, ask}
 
 -- ---- what the code's values stand for
 -- a box's rows, the first 2^n of the array
@@ -160,17 +160,6 @@ serverServed s (suc i) = record { places = set (s .places) i (oneMore (getD (s .
 pub record Stepped (self r : Server) : Type 0 where
   pub server : r ≡ serverServed self (served (state self))
   pub stands : Sound self → r ≡ serverOf (step (state self))
-
--- Kept beside a server while it runs, so that a step looks at no place that it does not serve: of each place, whether its box is
--- unfinished.
-pub record Waiting (s : Server) (waiting : List Bool) : Type 0 where
-  pub size : length waiting ≡ 8
-  pub marked : (i : ℕ) → i < 8 → getD waiting i false ≡ unfinished (getD (spots (s .places)) i empty)
-
--- the first place in the circle that is marked, and 0 where there is none
-unfoldable pub turn : (waiting : List Bool) (last : ℕ) → ℕ
-unfolding circle firstWhere
-turn waiting last = firstWhere (λ p. getD waiting (p - 1) false) (circle last)
 
 -- so many steps, one after the other
 pub data Ran (self : Server) : (budget : ℕ) (r : Server) → Type 0 where

@@ -14,10 +14,12 @@ ghost use Rattle.refusals.specs.Table.{Box, first, written};
 ghost use Rattle.walsh.specs.Work.{Spectra};
 ghost use Rattle.masks.specs.Masks.{outputs};
 ghost use Rattle.linear.specs.Nonlinearity.{pairsOf};
-ghost use Rattle.linear.specs.Work.{candidate, Swept};
+ghost use Rattle.linear.specs.Work.{Swept};
+ghost use Rattle.linear.specs.Calls.{candidate};
 ghost use Rattle.server.specs.Model as model;
-ghost use Rattle.server.specs.Calls.{spot, state, answered, filled, foundOf, placeOf, replaced, better, oneMore, Waiting, turn};
-ghost use Rattle.server.specs.Calls.{Began, Put, Withdrew, Told, Stepped, Ran};
+ghost use Rattle.server.specs.Calls.{spot, state, answered, filled, foundOf, placeOf, replaced, better};
+ghost use Rattle.server.specs.Calls.{oneMore, Began, Put, Withdrew, Told, Stepped, Ran};
+ghost use Rattle.server.specs.Work.{Waiting, turn};
 
 // A place: a box with the number of its combinations that were examined and the best pair among exactly those, or, where `taken` is not
 // 1, none. A caller in C may hand in any number, so it is no bool.

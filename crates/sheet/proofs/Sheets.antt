@@ -16,7 +16,8 @@ use Rattle.boxfile.proofs.FileRoom.{room-same}
 use Rattle.texts.specs.Text.{bytes, line}
 use Rattle.texts.proofs.Lengths.{line-few}
 use Rattle.sheet.specs.Sheet.{untilRefused, sheetLines, fileReply, sheetText}
-use Rattle.sheet.specs.Work.{Printed, SheetWritten}
+use Rattle.sheet.specs.Work.{Printed}
+use Rattle.sheet.specs.Calls.{SheetWritten}
 
 -- a call that replied figures was accepted, and these are what it gives
 pub reply-figures : (k : Checked) {given shows : List ℕ} → replyAfter k given ≡ figures shows → (k ≡ Accepted) × (shows ≡ given)

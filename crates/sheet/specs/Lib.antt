@@ -1,3 +1,4 @@
 pub mod Sheet
 pub mod Work
 pub mod Statements
+pub mod Calls

@@ -11,7 +11,8 @@ ghost use lib.ListN.{length, drop};
 ghost use Rattle.boolean.specs.Sums.{AnyContent};
 ghost use Rattle.boxfile.specs.File.{roomOf};
 ghost use Rattle.sheet.specs.Sheet.{sheetLimit, sheetLines};
-ghost use Rattle.sheet.specs.Work.{Printed, SheetWritten};
+ghost use Rattle.sheet.specs.Work.{Printed};
+ghost use Rattle.sheet.specs.Calls.{SheetWritten};
 
 // The limit on combinations with which the sheet asks for its figures: all outputs up to 16 of them, and 4 above.
 fn limit_of(m: u32) -> u32

@@ -10,7 +10,7 @@ use Rattle.refusals.specs.Table.{Box, figures, refusal}
 use Rattle.refusals.proofs.Checks.{limit-accepted, reply-accepted}
 use Rattle.linear.specs.Nonlinearity.{nonlinearity, nonlinearityReply}
 use Rattle.swaps.specs.Swaps.{figureOf, swaps, shownSwap, raised}
-use Rattle.swaps.specs.Calls.{SearchedIn}
+use Rattle.swaps.specs.Work.{SearchedIn}
 use Rattle.swaps.specs.declared.Searched.{Searched}
 
 -- ---- the nonlinearity over all combinations

@@ -19,7 +19,7 @@ use Rattle.boolean.specs.Sums.{countBelow, one-if}
 use Rattle.boolean.proofs.Cases.{all5}
 use Rattle.boolean.proofs.Counts.{count-cong}
 use Rattle.boolean.proofs.Digits.{affine-lt, component-lt}
-use Rattle.swaps.specs.Calls.{entryOf}
+use Rattle.swaps.specs.Work.{entryOf}
 
 -- ---- counts of two tests that differ at one number, and at two
 count-one : (k l : ℕ) (p q : ℕ → Bool) → l < k → ((x : ℕ) → x ≢ l → p x ≡ q x) → countBelow k q + one-if (p l) ≡ countBelow k p + one-if (q l)

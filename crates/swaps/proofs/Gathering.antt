@@ -23,13 +23,14 @@ use Rattle.boolean.proofs.Selection.{best-step, firstLeast-mem}
 use Rattle.boolean.proofs.Stored.{Stored, stored-more}
 use Rattle.refusals.specs.Table.{Box}
 use Rattle.linear.specs.Nonlinearity.{pair, pairsOf, nonlinearity}
-use Rattle.linear.specs.Work.{candidate, Swept}
+use Rattle.linear.specs.Work.{Swept}
+use Rattle.linear.specs.Calls.{candidate}
 use Rattle.linear.specs.declared.Found.{Found}
 use Rattle.linear.proofs.Nearest.{values-length}
 use Rattle.linear.proofs.Pairs.{mem-pairsOf, pairsOf-some}
 use Rattle.linear.proofs.Theorems.{nonlinearity-reached}
 use Rattle.swaps.specs.Swaps.{figureOf}
-use Rattle.swaps.specs.Calls.{entryOf, tableOf, NearestPair, NearestTable, Gathered}
+use Rattle.swaps.specs.Work.{entryOf, tableOf, NearestPair, NearestTable, Gathered}
 
 -- ---- a run of stores, before it and within it
 module _ {A : Type 0} (d : A) where

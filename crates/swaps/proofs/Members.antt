@@ -17,7 +17,7 @@ use Rattle.boolean.proofs.OneBit.{ones-power, power-of-ones}
 use Rattle.boolean.proofs.Xor.{xor-cancel}
 use Rattle.refusals.specs.Table.{Box}
 use Rattle.swaps.specs.Swaps.{Swap, swapAt, swapsFrom, swapsBy, swaps, raises}
-use Rattle.swaps.specs.Calls.{SearchedIn, swapOf}
+use Rattle.swaps.specs.Work.{SearchedIn, swapOf}
 use Rattle.swaps.specs.Statements.{IsSwap, rowDistance}
 use Rattle.swaps.specs.declared.Searched.{Searched}
 use Rattle.swaps.proofs.Firsts.{first-is}

@@ -19,7 +19,7 @@ use Rattle.refusals.specs.Table.{Box}
 use Rattle.linear.specs.declared.Found.{Found}
 use Rattle.linear.proofs.Theorems.{nonlinearity-least}
 use Rattle.swaps.specs.Swaps.{Swap, figureOf, swapAt, firstOf, raises}
-use Rattle.swaps.specs.Calls.{Tried, Passed, entryOf, tableOf, apartIn, NearestPair, NearestTable, Gathered}
+use Rattle.swaps.specs.Work.{Tried, Passed, entryOf, tableOf, apartIn, NearestPair, NearestTable, Gathered}
 use Rattle.swaps.specs.declared.Attempt.{Attempt}
 use Rattle.swaps.proofs.Apart.{pair-stays}
 use Rattle.swaps.proofs.Firsts.{first-takes, first-skips}

@@ -10,7 +10,7 @@ use Rattle.boolean.specs.Functions.{Within}
 use Rattle.boolean.specs.Sums.{each, listFrom, listBelow}
 use Rattle.boolean.proofs.Components.{whole-within}
 use Rattle.swaps.specs.Swaps.{Swap, swapAt, swapsFrom, swapsBy, swaps, raises, firstOf}
-use Rattle.swaps.specs.Calls.{Searching, Passed, SearchedIn, swapOf}
+use Rattle.swaps.specs.Work.{Searching, Passed, SearchedIn, swapOf}
 use Rattle.swaps.specs.declared.Attempt.{Attempt}
 use Rattle.swaps.specs.declared.Searched.{Searched}
 use Rattle.swaps.proofs.Firsts.{Rest, rest-next, rest-found, rest-none}

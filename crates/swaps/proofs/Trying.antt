@@ -19,7 +19,7 @@ use Rattle.linear.specs.Nonlinearity.{pairsOf}
 use Rattle.linear.proofs.Nearest.{least-le}
 use Rattle.linear.proofs.Theorems.{component-least, component-reached}
 use Rattle.swaps.specs.Swaps.{figureOf}
-use Rattle.swaps.specs.Calls.{Tried, Searching}
+use Rattle.swaps.specs.Work.{Tried, Searching}
 use Rattle.swaps.specs.declared.Attempt.{Attempt}
 use Rattle.refusals.proofs.Swapped.{swapped-box}
 

@@ -1,3 +1,4 @@
 pub mod Swaps
 pub mod Calls
 pub mod Statements
+pub mod Work

@@ -15,9 +15,11 @@ ghost use Rattle.boolean.specs.Sums.{listBelow, every, AnyContent};
 ghost use Rattle.refusals.specs.Table.{figures, Box};
 ghost use Rattle.walsh.specs.Work.{Spectra};
 ghost use Rattle.linear.specs.Nonlinearity.{nonlinearity};
-ghost use Rattle.linear.specs.Work.{candidate, Swept};
+ghost use Rattle.linear.specs.Work.{Swept};
+ghost use Rattle.linear.specs.Calls.{candidate};
 ghost use Rattle.swaps.specs.Swaps.{swapAt, swapsFrom, swapsBy, swaps, raised, raisingReply};
-ghost use Rattle.swaps.specs.Calls.{raisingSwap, entryOf, tableOf, apartIn, NearestPair, Gathered, Searching, Tried, Passed, SearchedIn};
+ghost use Rattle.swaps.specs.Calls.{raisingSwap};
+ghost use Rattle.swaps.specs.Work.{entryOf, tableOf, apartIn, NearestPair, Gathered, Searching, Tried, Passed, SearchedIn};
 
 // The answer of the call: both inputs and the new figure, none, or a refusal.
 pub enum RaisingSwap {
@@ -130,8 +132,9 @@ fn write_table(rows: &[u32], pair: Found, start: usize, tables: &mut [u8])
     }
 }
 
-// The tables of up to 16 nearest pairs, one every 256 bytes, and how many they are: that of the present witness, and from six inputs on also
-// those of the first nearest pair of each component that has one. (With fewer inputs the whole search takes less time than to gather them.)
+// The tables of up to 16 nearest pairs, one every 256 bytes, and how many they are: that of the present witness, and from six inputs on
+// also those of the first nearest pair of each component that has one. (With fewer inputs the whole search takes less time than to gather
+// them.)
 fn gather_pairs(
     fixed: &[i32; 2048],
     n: u32,
@@ -206,7 +209,8 @@ fn try_swap(
     bits: &mut [u8],
     out: &mut [i32],
 ) -> Attempt
-    requires { ⌜ Searching n m (now rows) figure (now tables) count (now work) (now bits) (now out) × Spectra (now fixed) × Within m (2 ^ m) hint
+    requires { ⌜ Searching n m (now rows) figure (now tables) count (now work) (now bits) (now out) × Spectra (now fixed)
+        × Within m (2 ^ m) hint
         × (low < 2 ^ n) × (high < 2 ^ n) ⌝ }
     ensures { λ r. ⌜ Passed n m (now (rows .entry)) (swapAt (now (rows .entry)) d low high) low high r
         × AnyContent (now (work .entry)) (now (work .exit)) × AnyContent (now (bits .entry)) (now (bits .exit))
@@ -238,7 +242,8 @@ fn search_from(
     bits: &mut [u8],
     out: &mut [i32],
 ) -> Searched
-    requires { ⌜ Searching n m (now rows) figure (now tables) count (now work) (now bits) (now out) × Spectra (now fixed) × Within m (2 ^ m) start
+    requires { ⌜ Searching n m (now rows) figure (now tables) count (now work) (now bits) (now out) × Spectra (now fixed)
+        × Within m (2 ^ m) start
         × (low < 2 ^ n) ⌝ }
     ensures { λ r. ⌜ SearchedIn n m (now (rows .entry)) (swapsFrom n (now (rows .entry)) d low) r
         × AnyContent (now (work .entry)) (now (work .exit)) × AnyContent (now (bits .entry)) (now (bits .exit))
@@ -299,7 +304,8 @@ fn search_by(
     bits: &mut [u8],
     out: &mut [i32],
 ) -> Searched
-    requires { ⌜ Searching n m (now rows) figure (now tables) count (now work) (now bits) (now out) × Spectra (now fixed) × Within m (2 ^ m) start ⌝ }
+    requires { ⌜ Searching n m (now rows) figure (now tables) count (now work) (now bits) (now out) × Spectra (now fixed)
+        × Within m (2 ^ m) start ⌝ }
     ensures { λ r. ⌜ SearchedIn n m (now (rows .entry)) (swapsBy n (now (rows .entry)) d) r
         × AnyContent (now (work .entry)) (now (work .exit)) × AnyContent (now (bits .entry)) (now (bits .exit))
         × AnyContent (now (out .entry)) (now (out .exit)) ⌝ }
@@ -351,7 +357,8 @@ fn search(
     bits: &mut [u8],
     out: &mut [i32],
 ) -> Searched
-    requires { ⌜ Searching n m (now rows) figure (now tables) count (now work) (now bits) (now out) × Spectra (now fixed) × Within m (2 ^ m) start ⌝ }
+    requires { ⌜ Searching n m (now rows) figure (now tables) count (now work) (now bits) (now out) × Spectra (now fixed)
+        × Within m (2 ^ m) start ⌝ }
     ensures { λ r. ⌜ SearchedIn n m (now (rows .entry)) (swaps n m (now (rows .entry))) r
         × AnyContent (now (work .entry)) (now (work .exit)) × AnyContent (now (bits .entry)) (now (bits .exit))
         × AnyContent (now (out .entry)) (now (out .exit)) ⌝ }

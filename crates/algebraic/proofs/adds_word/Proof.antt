@@ -11,12 +11,7 @@ use Rattle.algebraic.specs.Work.{PutIn}
 use Rattle.algebraic.proofs.adds_word.Statement.{statement}
 use Rattle.algebraic.proofs.adds_word.Tie as tie
 
-place-of-requires : tie.Need-place-of-requires
-place-of-requires c κs = search needs
-
-mul-put-in : tie.Need-mul-put-in
-mul-put-in c = search needs
-
+-- the word that is read is one of the words
 shared-slice-read-put-in : tie.Need-shared-slice-read-put-in
 shared-slice-read-put-in c = search needs
 
@@ -41,10 +36,4 @@ returns-2 c = let a = c .before .before .before .args in
 pub adds-word-spec : {M : Type 1} → statement M
 adds-word-spec =
     tie.close
-    (tie.spec
-    place-of-requires
-    mul-put-in
-    shared-slice-read-put-in
-    put-in-requires
-    returns
-    returns-2)
+    (tie.spec (λ c κs. search needs) (λ c. search needs) shared-slice-read-put-in put-in-requires returns returns-2)

@@ -20,12 +20,6 @@ abbrev μ-loop : tie.MeasureT-loop
 loop-holds : tie.Need-loop-holds Inv-loop μ-loop
 loop-holds c = (omega arith, λ j l e. omega arith)
 
-shared-slice-read-u : tie.Need-shared-slice-read-u Inv-loop μ-loop
-shared-slice-read-u c = search needs
-
-place-of-requires : tie.Need-place-of-requires Inv-loop μ-loop
-place-of-requires c κs = search needs
-
 mul-is-odd : tie.Need-mul-is-odd Inv-loop μ-loop
 mul-is-odd c =
     let in-loop = c .before .before in
@@ -39,12 +33,6 @@ shared-slice-read-is-odd c =
     let at-loop = in-loop .before in
     omega (arith, c .before .place-of .ensures, at-loop .before .before .before .pre .inside (at-loop .loop .i) (in-loop .loop-test .taken))
 
-is-odd-requires : tie.Need-is-odd-requires Inv-loop μ-loop
-is-odd-requires c κs = search needs
-
-ones-of-requires : tie.Need-ones-of-requires Inv-loop μ-loop
-ones-of-requires c κs = search needs
-
 returns : tie.Need-returns Inv-loop μ-loop
 returns c =
     let found = c .before .before in
@@ -56,12 +44,6 @@ returns c =
     c .ones-of .ensures
     ∙ first-odd (start .pre) (a .c) (at-loop .loop .i) (in-loop .loop-test .taken) (at-loop .loop .inv .1)
     (ap (λ (u : ℕ). dot (at (a .words .now) u) (a .c)) (sym (placed .place-of .ensures)) ∙ eqb-true _ 1 (sym (found .is-odd .ensures) ∙ c .before .if1 .taken))
-
-add-i : tie.Need-add-i Inv-loop μ-loop
-add-i c = search needs
-
-loop-less : tie.Need-loop-less Inv-loop μ-loop
-loop-less c = search needs
 
 loop-again : tie.Need-loop-again Inv-loop μ-loop
 loop-again c =
@@ -84,18 +66,5 @@ returns-2 c =
 pub component-degree-spec : {M : Type 1} → statement M
 component-degree-spec =
     tie.close
-    (tie.spec
-    Inv-loop
-    μ-loop
-    loop-holds
-    shared-slice-read-u
-    place-of-requires
-    mul-is-odd
-    shared-slice-read-is-odd
-    is-odd-requires
-    ones-of-requires
-    returns
-    add-i
-    loop-less
-    loop-again
-    returns-2)
+    (tie.spec Inv-loop μ-loop loop-holds (λ c. search needs) (λ c κs. search needs) mul-is-odd shared-slice-read-is-odd
+    (λ c κs. search needs) (λ c κs. search needs) returns (λ c. search needs) (λ c. search needs) loop-again returns-2)

@@ -9,17 +9,8 @@ use Rattle.refusals.proofs.Checks.{Limited, limited, reply-refused, reply-accep
 use Rattle.algebraic.proofs.degree.Statement.{statement}
 use Rattle.algebraic.proofs.degree.Tie as tie
 
-check-limited-requires : tie.Need-check-limited-requires
-check-limited-requires c κs = search needs
-
-enum-known-e : tie.Need-enum-known-e
-enum-known-e c = search needs
-
 returns : tie.Need-returns
 returns c = reply-refused (sym (c .before .before .before .check-limited .ensures) ∙ c .before .e .given .1) _
-
-enum-told : tie.Need-enum-told
-enum-told c = search needs
 
 -- accepted: the rows are a box, and the limit is one of it
 accepted : (c : tie.After-enum-told) → let a = c .before .before .before .before .args in first (limitChecks (a .n) (a .m) (a .rows .now) (a .i)) ≡ Accepted
@@ -37,9 +28,6 @@ array-borrow-prefix-words c = boxed c .small
 slice-aggregate-weakest-of : tie.Need-slice-aggregate-weakest-of
 slice-aggregate-weakest-of c = sym (length-take-le _ _ (boxed (c .before) .small))
 
-slice-aggregate-weakest-of-2 : tie.Need-slice-aggregate-weakest-of-2
-slice-aggregate-weakest-of-2 c = search needs
-
 weakest-of-requires : tie.Need-weakest-of-requires
 weakest-of-requires c κs = let l = within (c .before .before) in (l .box, l .i-low, length-take-le _ _ (l .box .small) ∙ l .box .size, refl)
 
@@ -51,13 +39,5 @@ returns-2 c =
 pub degree-spec : {M : Type 1} → statement M
 degree-spec =
     tie.close
-    (tie.spec
-    check-limited-requires
-    enum-known-e
-    returns
-    enum-told
-    array-borrow-prefix-words
-    slice-aggregate-weakest-of
-    slice-aggregate-weakest-of-2
-    weakest-of-requires
-    returns-2)
+    (tie.spec (λ c κs. search needs) (λ c. search needs) returns (λ c. search needs) array-borrow-prefix-words
+    slice-aggregate-weakest-of (λ c. search needs) weakest-of-requires returns-2)

@@ -33,28 +33,16 @@ put c =
     (subst (λ (r : Bool). PutIn (a .m) (at (a .words .now) (at (at-loop .before .by-ones .result) (at-loop .loop .i))) (at-loop .loop .basis) (c .before .adds-word .last .1 .1 .1 .0) r)
     (c .if1 .taken) (c .before .adds-word .ensures))
 
-by-ones-requires : tie.Need-by-ones-requires Inv-loop μ-loop
-by-ones-requires c κs = search needs
-
 loop-holds : tie.Need-loop-holds Inv-loop μ-loop
 loop-holds c = gathering-none _ _ _ _ (c .before .before .before .pre .3) refl (zeroes 32)
-
-array-read-adds-word : tie.Need-array-read-adds-word Inv-loop μ-loop
-array-read-adds-word c = search needs
 
 adds-word-requires : tie.Need-adds-word-requires Inv-loop μ-loop
 adds-word-requires c κs = let at-loop = c .before .before in
     let start = at-loop .before .before .before .before in
     (start .pre .0, start .pre .1, at-loop .loop .inv .stairs)
 
-array-read-inputs : tie.Need-array-read-inputs Inv-loop μ-loop
-array-read-inputs c = search needs
-
 slice-write-inputs : tie.Need-slice-write-inputs Inv-loop μ-loop
 slice-write-inputs c = omega (arith, c .before .before .before .before .loop .inv .few, c .before .before .before .before .loop .inv .long, c .before .before .before .loop-test .taken)
-
-add-count : tie.Need-add-count Inv-loop μ-loop
-add-count c = search needs
 
 array-share-prefix-basis : tie.Need-array-share-prefix-basis Inv-loop μ-loop
 array-share-prefix-basis c = omega (arith, put c .places, c .before .before .before .before .before .before .before .before .pre .0)
@@ -62,9 +50,6 @@ array-share-prefix-basis c = omega (arith, put c .places, c .before .before .bef
 slice-aggregate-none-equal : tie.Need-slice-aggregate-none-equal Inv-loop μ-loop
 slice-aggregate-none-equal c = let put-in = c .before in
     omega (arith, length-take (put-in .before .before .before .before .before .before .before .before .args .m) (put-in .before .adds-word .last .1 .1 .1 .0), put put-in .places, put-in .before .before .before .before .before .before .before .before .pre .0)
-
-none-equal-requires : tie.Need-none-equal-requires Inv-loop μ-loop
-none-equal-requires c κs = search needs
 
 same-length : tie.Need-same-length Inv-loop μ-loop
 same-length c = put (c .before .before .before) .long ∙ sym (c .before .before .before .before .before .before .before .before .before .before .before .pre .3)
@@ -75,12 +60,6 @@ returns c = let put-in = c .before .before .before in
     let start = at-loop .before .before .before .before in
     gathering-full (put put-in) (at-loop .before .by-ones .ensures) (start .pre .2) (start .pre .1)
     (none-zero (start .args .m) (put-in .before .adds-word .last .1 .1 .1 .0) (omega (arith, put put-in .places, start .pre .0)) (sym (c .before .none-equal .ensures) ∙ c .if2 .taken))
-
-add-i : tie.Need-add-i Inv-loop μ-loop
-add-i c = search needs
-
-loop-less : tie.Need-loop-less Inv-loop μ-loop
-loop-less c = search needs
 
 loop-again : tie.Need-loop-again Inv-loop μ-loop
 loop-again c = let word = c .before in
@@ -102,23 +81,6 @@ returns-2 c = gathering-all (c .before .loop .inv) (c .before .before .by-ones .
 pub gather-spec : {M : Type 1} → statement M
 gather-spec =
     tie.close
-    (tie.spec
-    Inv-loop
-    μ-loop
-    by-ones-requires
-    loop-holds
-    array-read-adds-word
-    adds-word-requires
-    array-read-inputs
-    slice-write-inputs
-    add-count
-    array-share-prefix-basis
-    slice-aggregate-none-equal
-    none-equal-requires
-    same-length
-    returns
-    add-i
-    loop-less
-    loop-again
-    same-length-2
-    returns-2)
+    (tie.spec Inv-loop μ-loop (λ c κs. search needs) loop-holds (λ c. search needs) adds-word-requires (λ c. search needs)
+    slice-write-inputs (λ c. search needs) array-share-prefix-basis slice-aggregate-none-equal (λ c κs. search needs) same-length
+    returns (λ c. search needs) (λ c. search needs) loop-again same-length-2 returns-2)

@@ -10,17 +10,8 @@ use Rattle.algebraic.proofs.Bijections.{bijective-unequal, bijective-eq
 use Rattle.algebraic.proofs.is_bijective.Statement.{statement}
 use Rattle.algebraic.proofs.is_bijective.Tie as tie
 
-check-box-requires : tie.Need-check-box-requires
-check-box-requires c κs = search needs
-
-enum-known-e : tie.Need-enum-known-e
-enum-known-e c = search needs
-
 returns : tie.Need-returns
 returns c = reply-refused (sym (c .before .before .before .check-box .ensures) ∙ c .before .e .given .1) _
-
-enum-told : tie.Need-enum-told
-enum-told c = search needs
 
 -- accepted: what is found of the rows is the reply's figure
 accepted : (c : tie.After-enum-told) → let a = c .before .before .before .before .args in first (boxChecks (a .n) (a .m) (a .rows .now)) ≡ Accepted
@@ -33,9 +24,6 @@ decided c found e = ap (λ (t : Bool). figures (asFigure t)) (sym e) ∙ reply-a
 
 returns-2 : tie.Need-returns-2
 returns-2 c = decided (c .before) false (bijective-unequal _ _ _ (c .if1 .taken))
-
-all-distinct-requires : tie.Need-all-distinct-requires
-all-distinct-requires c κs = search needs
 
 -- of equal widths: what was found of the rows
 found : (c : tie.After-all-distinct) → let a = c .before .before .before .before .before .before .args in bijective (a .n) (a .m) (a .rows .now) ≡ c .all-distinct .result
@@ -50,12 +38,5 @@ returns-4 c = decided (c .before .before .before) false (found (c .before) ∙ c
 pub is-bijective-spec : {M : Type 1} → statement M
 is-bijective-spec =
     tie.close
-    (tie.spec
-    check-box-requires
-    enum-known-e
-    returns
-    enum-told
-    returns-2
-    all-distinct-requires
-    returns-3
+    (tie.spec (λ c κs. search needs) (λ c. search needs) returns (λ c. search needs) returns-2 (λ c κs. search needs) returns-3
     returns-4)

@@ -6,11 +6,8 @@ use lib.Dec.{eqb}
 use Rattle.algebraic.proofs.is_odd.Statement.{statement}
 use Rattle.algebraic.proofs.is_odd.Tie as tie
 
-dot-requires : tie.Need-dot-requires
-dot-requires c κs = search needs
-
 returns : tie.Need-returns
 returns c = ap (λ (k : ℕ). eqb k 1) (c .dot .ensures .0)
 
 pub is-odd-spec : {M : Type 1} → statement M
-is-odd-spec = tie.close (tie.spec dot-requires returns)
+is-odd-spec = tie.close (tie.spec (λ c κs. search needs) returns)

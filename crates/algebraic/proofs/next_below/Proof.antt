@@ -14,9 +14,6 @@ Inv-loop n m words i inputs count bar c masks at₀ at = Passing m words i bar c
 abbrev μ-loop : tie.MeasureT-loop
 μ-loop n m words i inputs count bar c masks at₀ at = masks - at
 
-power-of-two-requires : tie.Need-power-of-two-requires Inv-loop μ-loop
-power-of-two-requires c κs = search needs
-
 loop-holds : tie.Need-loop-holds Inv-loop μ-loop
 loop-holds c =
     let start = c .before .before .before in
@@ -32,9 +29,6 @@ fits c = lt-of-lt-of-le (below c) (pow-mono {j = 32} (c .before .before .before 
 
 cast-component-degree : tie.Need-cast-component-degree Inv-loop μ-loop
 cast-component-degree c = omega (arith, fits c)
-
-component-degree-requires : tie.Need-component-degree-requires Inv-loop μ-loop
-component-degree-requires c κs = search needs
 
 returns : tie.Need-returns Inv-loop μ-loop
 returns c =
@@ -64,15 +58,5 @@ returns-2 c = passing-ends (c .before .loop .inv) (omega (arith, c .loop-test .l
 pub next-below-spec : {M : Type 1} → statement M
 next-below-spec =
     tie.close
-    (tie.spec
-    Inv-loop
-    μ-loop
-    power-of-two-requires
-    loop-holds
-    cast-component-degree
-    component-degree-requires
-    returns
-    next-within-requires
-    loop-less
-    loop-again
-    returns-2)
+    (tie.spec Inv-loop μ-loop (λ c κs. search needs) loop-holds cast-component-degree (λ c κs. search needs) returns
+    next-within-requires loop-less loop-again returns-2)

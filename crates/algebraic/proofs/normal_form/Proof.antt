@@ -15,17 +15,8 @@ use Rattle.refusals.proofs.Outcomes.{wrote-refused, wrote-accepted}
 use Rattle.algebraic.proofs.normal_form.Statement.{statement}
 use Rattle.algebraic.proofs.normal_form.Tie as tie
 
-check-table-call-requires : tie.Need-check-table-call-requires
-check-table-call-requires c κs = search needs
-
-enum-known-e : tie.Need-enum-known-e
-enum-known-e c = search needs
-
 returns : tie.Need-returns
 returns c = wrote-refused (sym (c .before .before .before .check-table-call .ensures) ∙ c .before .e .given .1)
-
-enum-told : tie.Need-enum-told
-enum-told c = search needs
 
 -- accepted: the table is one, and the array has 2^n places
 room : (n : ℕ) (values out : List ℕ) → first (tableCallChecks n values (length out)) ≡ Accepted → length out ≡ 2 ^ n
@@ -62,9 +53,6 @@ write-form-requires c κs =
     let a = told .before .before .before .before .before .args in
     (is-table told, length-take-le _ _ (few told) ∙ is-table told .size, room (a .n) (a .table .now) (a .out .now) (accepted told))
 
-same-length : tie.Need-same-length
-same-length c = search needs
-
 returns-2 : tie.Need-returns-2
 returns-2 c =
     let written = c .before .before .before in
@@ -73,13 +61,5 @@ returns-2 c =
 pub normal-form-spec : {M : Type 1} → statement M
 normal-form-spec =
     tie.close
-    (tie.spec
-    check-table-call-requires
-    enum-known-e
-    returns
-    enum-told
-    array-borrow-prefix-words
-    slice-aggregate-write-form
-    write-form-requires
-    same-length
-    returns-2)
+    (tie.spec (λ c κs. search needs) (λ c. search needs) returns (λ c. search needs) array-borrow-prefix-words
+    slice-aggregate-write-form write-form-requires (λ c. search needs) returns-2)

@@ -20,9 +20,6 @@ abbrev μ-loop : tie.MeasureT-loop
 inside : (c : tie.In-loop Inv-loop μ-loop) → (1 ≤ c .before .loop .place) × (c .before .loop .place ≤ 32)
 inside c = (place-left (c .before .loop .inv .1) (λ z. c .loop-test .taken z), omega (arith, c .before .loop .inv .1 .inside, c .before .before .before .pre .0))
 
-power-of-two-requires : tie.Need-power-of-two-requires Inv-loop μ-loop
-power-of-two-requires c κs = search needs
-
 loop-holds : tie.Need-loop-holds Inv-loop μ-loop
 loop-holds c = (refl, reducing-starts _ _ _ _ (c .before .pre .1) (c .power-of-two .ensures .0))
 
@@ -79,20 +76,5 @@ returns-2 c = rw (c .before .loop .inv .0) (reducing-ends (c .before .loop .inv 
 pub put-in-spec : {M : Type 1} → statement M
 put-in-spec =
     tie.close
-    (tie.spec
-    Inv-loop
-    μ-loop
-    power-of-two-requires
-    loop-holds
-    sub-place
-    cast-if1
-    mul-here
-    element-copy-out-here
-    mul-basis
-    element-write-basis
-    returns
-    loop-less
-    loop-again
-    loop-less-2
-    loop-again-2
-    returns-2)
+    (tie.spec Inv-loop μ-loop (λ c κs. search needs) loop-holds sub-place cast-if1 mul-here element-copy-out-here mul-basis
+    element-write-basis returns loop-less loop-again loop-less-2 loop-again-2 returns-2)

@@ -16,15 +16,6 @@ Inv-loop n m words i inputs count masks found₀ met₀ found met = Meeting m wo
 abbrev μ-loop : tie.MeasureT-loop
 μ-loop n m words i inputs count masks found₀ met₀ found met = masks - met .c
 
-power-of-two-requires : tie.Need-power-of-two-requires Inv-loop μ-loop
-power-of-two-requires c κs = search needs
-
-add-t12 : tie.Need-add-t12 Inv-loop μ-loop
-add-t12 c = search needs
-
-add-t13 : tie.Need-add-t13 Inv-loop μ-loop
-add-t13 c = search needs
-
 next-below-requires : tie.Need-next-below-requires Inv-loop μ-loop
 next-below-requires c κs =
     let start = c .before .before .before in
@@ -92,18 +83,5 @@ returns c =
 pub sweep-spec : {M : Type 1} → statement M
 sweep-spec =
     tie.close
-    (tie.spec
-    Inv-loop
-    μ-loop
-    power-of-two-requires
-    add-t12
-    add-t13
-    next-below-requires
-    loop-holds
-    cast-weaker
-    weaker-requires
-    next-within-requires
-    next-below-requires-2
-    loop-less
-    loop-again
-    returns)
+    (tie.spec Inv-loop μ-loop (λ c κs. search needs) (λ c. search needs) (λ c. search needs) next-below-requires loop-holds
+    cast-weaker weaker-requires next-within-requires next-below-requires-2 loop-less loop-again returns)

@@ -9,12 +9,6 @@ use Rattle.algebraic.specs.Work.{degreeAt, candidate}
 use Rattle.algebraic.proofs.weaker.Statement.{statement}
 use Rattle.algebraic.proofs.weaker.Tie as tie
 
-is-preferred-requires : tie.Need-is-preferred-requires
-is-preferred-requires c κs = search needs
-
-bar-of-requires : tie.Need-bar-of-requires
-bar-of-requires c κs = search needs
-
 returns : tie.Need-returns
 unfolding best
 returns c =
@@ -34,4 +28,4 @@ returns-2 c =
     (sym (best-keeps (ranked lower outputs) (candidate (a .found)) (degreeAt (a .degree) (a .c)) [] (sym (tested .is-preferred .ensures) ∙ c .if1 .left)), start .pre .1)
 
 pub weaker-spec : {M : Type 1} → statement M
-weaker-spec = tie.close (tie.spec is-preferred-requires bar-of-requires returns returns-2)
+weaker-spec = tie.close (tie.spec (λ c κs. search needs) (λ c κs. search needs) returns returns-2)

@@ -9,12 +9,6 @@ use Rattle.algebraic.proofs.Sweeping.{by-words}
 use Rattle.algebraic.proofs.weakest_of.Statement.{statement}
 use Rattle.algebraic.proofs.weakest_of.Tie as tie
 
-copy-requires : tie.Need-copy-requires
-copy-requires c κs = search needs
-
-moebius-requires : tie.Need-moebius-requires
-moebius-requires c κs = search needs
-
 -- the words are the normal form of the rows
 formed : (c : tie.After-moebius) → let a = c .before .before .before .before .before .before .before .before .before .args in
     c .moebius .last .1 .0 ≡ normalForm (a .n) (at (a .rows .now))
@@ -31,12 +25,6 @@ gather-requires c κs =
     let box = start .pre .0 in
     (box .m-high, words-lt (a .n) (a .m) (a .rows .now) _ (formed words) (box .below), search needs, search needs)
 
-sweep-requires : tie.Need-sweep-requires
-sweep-requires c κs = search needs
-
-same-length : tie.Need-same-length
-same-length c = search needs
-
 same-length-2 : tie.Need-same-length-2
 same-length-2 c = search needs
 
@@ -49,11 +37,5 @@ returns c =
 pub weakest-of-spec : {M : Type 1} → statement M
 weakest-of-spec =
     tie.close
-    (tie.spec
-    copy-requires
-    moebius-requires
-    gather-requires
-    sweep-requires
-    same-length
-    same-length-2
+    (tie.spec (λ c κs. search needs) (λ c κs. search needs) gather-requires (λ c κs. search needs) (λ c. search needs) same-length-2
     returns)

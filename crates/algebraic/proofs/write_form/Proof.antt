@@ -10,12 +10,6 @@ use Rattle.algebraic.proofs.Theorems.{form-is-table}
 use Rattle.algebraic.proofs.write_form.Statement.{statement}
 use Rattle.algebraic.proofs.write_form.Tie as tie
 
-write-words-requires : tie.Need-write-words-requires
-write-words-requires c κs = search needs
-
-moebius-requires : tie.Need-moebius-requires
-moebius-requires c κs = search needs
-
 -- after the transform the words are the normal form of the table
 formed : (c : tie.After-moebius) →
     let a = c .before .before .before .before .before .before .before .before .before .args in
@@ -34,12 +28,6 @@ write-bits-requires c κs =
       λ x. subst (λ (l : List ℕ). at l x < 2) (sym (formed done)) (t .bits x),
     )
 
-same-length : tie.Need-same-length
-same-length c = search needs
-
-same-length-2 : tie.Need-same-length-2
-same-length-2 c = search needs
-
 returns : tie.Need-returns
 returns c =
     let wrote = c .before .before in
@@ -49,10 +37,4 @@ returns c =
 pub write-form-spec : {M : Type 1} → statement M
 write-form-spec =
     tie.close
-    (tie.spec
-    write-words-requires
-    moebius-requires
-    write-bits-requires
-    same-length
-    same-length-2
-    returns)
+    (tie.spec (λ c κs. search needs) (λ c κs. search needs) write-bits-requires (λ c. search needs) (λ c. search needs) returns)

@@ -6,17 +6,8 @@ use borrow.Author.Needs.{needs}
 use Rattle.answers.proofs.give.Statement.{statement}
 use Rattle.answers.proofs.give.Tie as tie
 
-number-of-requires : tie.Need-number-of-requires
-number-of-requires c κs = search needs
-
 returns : tie.Need-returns
 returns c = gives-other (c .number-of .ensures) (c .before .if1 .taken)
-
-copy-requires : tie.Need-copy-requires
-copy-requires c κs = search needs
-
-same-length : tie.Need-same-length
-same-length c = search needs
 
 returns-2 : tie.Need-returns-2
 returns-2 c =
@@ -25,4 +16,4 @@ returns-2 c =
     gives-all same (c .before .before .copy .ensures)
 
 pub give-spec : {M : Type 1} → statement M
-give-spec = tie.close (tie.spec number-of-requires returns copy-requires same-length returns-2)
+give-spec = tie.close (tie.spec (λ c κs. search needs) returns (λ c κs. search needs) (λ c. search needs) returns-2)

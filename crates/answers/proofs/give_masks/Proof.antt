@@ -21,30 +21,12 @@ withMasks s ws = let a = s .args in figures (a .figure ∷ a .c ∷ (ws ++ (a .b
 so-many : (s : tie.Start) {k : ℕ} → s .args .count ≡ k → withMasks s (take k (all s)) ≡ withMasks s (take (s .args .count) (all s))
 so-many s e = ap (λ (k : ℕ). withMasks s (take k (all s))) (sym e)
 
-slice-aggregate-give : tie.Need-slice-aggregate-give
-slice-aggregate-give c = search needs
-
-give-requires : tie.Need-give-requires
-give-requires c κs = search needs
-
-same-length : tie.Need-same-length
-same-length c = search needs
-
 returns : tie.Need-returns
 returns c =
     let given = c .before .before in
     let then = given .before .before .before in
     let s = then .before .before in
     gives-same (so-many s (then .if1 .taken)) (given .give .ensures)
-
-slice-aggregate-give-2 : tie.Need-slice-aggregate-give-2
-slice-aggregate-give-2 c = search needs
-
-give-requires-2 : tie.Need-give-requires-2
-give-requires-2 c κs = search needs
-
-same-length-2 : tie.Need-same-length-2
-same-length-2 c = search needs
 
 returns-2 : tie.Need-returns-2
 returns-2 c =
@@ -53,15 +35,6 @@ returns-2 c =
     let s = then .before .before .before in
     gives-same (so-many s (then .if2 .taken)) (given .give2 .ensures)
 
-slice-aggregate-give-3 : tie.Need-slice-aggregate-give-3
-slice-aggregate-give-3 c = search needs
-
-give-requires-3 : tie.Need-give-requires-3
-give-requires-3 c κs = search needs
-
-same-length-3 : tie.Need-same-length-3
-same-length-3 c = search needs
-
 returns-3 : tie.Need-returns-3
 returns-3 c =
     let given = c .before .before in
@@ -69,30 +42,12 @@ returns-3 c =
     let s = then .before .before .before .before in
     gives-same (so-many s (then .if3 .taken)) (given .give3 .ensures)
 
-slice-aggregate-give-4 : tie.Need-slice-aggregate-give-4
-slice-aggregate-give-4 c = search needs
-
-give-requires-4 : tie.Need-give-requires-4
-give-requires-4 c κs = search needs
-
-same-length-4 : tie.Need-same-length-4
-same-length-4 c = search needs
-
 returns-4 : tie.Need-returns-4
 returns-4 c =
     let given = c .before .before in
     let then = given .before .before .before in
     let s = then .before .before .before .before .before in
     gives-same (so-many s (then .if4 .taken)) (given .give4 .ensures)
-
-slice-aggregate-give-5 : tie.Need-slice-aggregate-give-5
-slice-aggregate-give-5 c = search needs
-
-give-requires-5 : tie.Need-give-requires-5
-give-requires-5 c κs = search needs
-
-same-length-5 : tie.Need-same-length-5
-same-length-5 c = search needs
 
 returns-5 : tie.Need-returns-5
 returns-5 c =
@@ -109,24 +64,6 @@ returns-5 c =
 pub give-masks-spec : {M : Type 1} → statement M
 give-masks-spec =
     tie.close
-    (tie.spec
-    slice-aggregate-give
-    give-requires
-    same-length
-    returns
-    slice-aggregate-give-2
-    give-requires-2
-    same-length-2
-    returns-2
-    slice-aggregate-give-3
-    give-requires-3
-    same-length-3
-    returns-3
-    slice-aggregate-give-4
-    give-requires-4
-    same-length-4
-    returns-4
-    slice-aggregate-give-5
-    give-requires-5
-    same-length-5
-    returns-5)
+    (tie.spec (λ c. search needs) (λ c κs. search needs) (λ c. search needs) returns (λ c. search needs) (λ c κs. search needs)
+    (λ c. search needs) returns-2 (λ c. search needs) (λ c κs. search needs) (λ c. search needs) returns-3 (λ c. search needs)
+    (λ c κs. search needs) (λ c. search needs) returns-4 (λ c. search needs) (λ c κs. search needs) (λ c. search needs) returns-5)

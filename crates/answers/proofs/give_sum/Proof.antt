@@ -6,21 +6,6 @@ use borrow.Author.Needs.{needs}
 use Rattle.answers.proofs.give_sum.Statement.{statement}
 use Rattle.answers.proofs.give_sum.Tie as tie
 
-enum-known-answer : tie.Need-enum-known-answer
-enum-known-answer c = search needs
-
-give-masks-requires : tie.Need-give-masks-requires
-give-masks-requires c κs = search needs
-
-enum-known-answer-2 : tie.Need-enum-known-answer-2
-enum-known-answer-2 c = search needs
-
-number-of-requires : tie.Need-number-of-requires
-number-of-requires c κs = search needs
-
-same-length : tie.Need-same-length
-same-length c = search needs
-
 returns : tie.Need-returns
 returns c =
     let given = c .before .before in
@@ -36,11 +21,5 @@ returns-2 c =
 pub give-sum-spec : {M : Type 1} → statement M
 give-sum-spec =
     tie.close
-    (tie.spec
-    enum-known-answer
-    give-masks-requires
-    enum-known-answer-2
-    number-of-requires
-    same-length
-    returns
+    (tie.spec (λ c. search needs) (λ c κs. search needs) (λ c. search needs) (λ c κs. search needs) (λ c. search needs) returns
     returns-2)

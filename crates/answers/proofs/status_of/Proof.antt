@@ -7,15 +7,6 @@ use Rattle.answers.specs.Answers.{status}
 use Rattle.answers.proofs.status_of.Statement.{statement}
 use Rattle.answers.proofs.status_of.Tie as tie
 
-enum-told : tie.Need-enum-told
-enum-told c = search needs
-
-enum-known-answer : tie.Need-enum-known-answer
-enum-known-answer c = search needs
-
-number-of-requires : tie.Need-number-of-requires
-number-of-requires c κs = search needs
-
 returns : tie.Need-returns
 unfolding status
 returns c = search needs
@@ -26,4 +17,4 @@ returns-2 c = c .number-of .ensures ∙ sym (ap (λ (w : Written). status (writt
 
 pub status-of-spec : {M : Type 1} → statement M
 status-of-spec =
-    tie.close (tie.spec enum-told enum-known-answer number-of-requires returns returns-2)
+    tie.close (tie.spec (λ c. search needs) (λ c. search needs) (λ c κs. search needs) returns returns-2)

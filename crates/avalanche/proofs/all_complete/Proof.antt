@@ -20,12 +20,6 @@ abbrev μ-loop : tie.MeasureT-loop
 loop-holds : tie.Need-loop-holds Inv-loop μ-loop
 loop-holds c = passing-none _ _
 
-sub-power-of-two : tie.Need-sub-power-of-two Inv-loop μ-loop
-sub-power-of-two c = search needs
-
-power-of-two-requires : tie.Need-power-of-two-requires Inv-loop μ-loop
-power-of-two-requires c κs = search needs
-
 every-column-changes-requires : tie.Need-every-column-changes-requires Inv-loop μ-loop
 every-column-changes-requires c κs =
     let in-loop = c .before in
@@ -47,12 +41,6 @@ returns c =
     let in-loop = c .before .before .before in
     passing-fails (in-loop .before .loop .inv) (omega arith) (fails (answer (c .before)) (c .if1 .taken))
 
-add-k : tie.Need-add-k Inv-loop μ-loop
-add-k c = search needs
-
-loop-less : tie.Need-loop-less Inv-loop μ-loop
-loop-less c = search needs
-
 loop-again : tie.Need-loop-again Inv-loop μ-loop
 loop-again c =
     let in-loop = c .before .before .before in
@@ -65,15 +53,5 @@ returns-2 c = passing-all (c .before .loop .inv) (omega arith)
 pub all-complete-spec : {M : Type 1} → statement M
 all-complete-spec =
     tie.close
-    (tie.spec
-    Inv-loop
-    μ-loop
-    loop-holds
-    sub-power-of-two
-    power-of-two-requires
-    every-column-changes-requires
-    returns
-    add-k
-    loop-less
-    loop-again
-    returns-2)
+    (tie.spec Inv-loop μ-loop loop-holds (λ c. search needs) (λ c κs. search needs) every-column-changes-requires returns
+    (λ c. search needs) (λ c. search needs) loop-again returns-2)

@@ -10,17 +10,8 @@ use borrow.Author.Needs.{needs}
 use Rattle.avalanche.proofs.autocorrelation.Statement.{statement}
 use Rattle.avalanche.proofs.autocorrelation.Tie as tie
 
-check-limited-requires : tie.Need-check-limited-requires
-check-limited-requires c κs = search needs
-
-enum-known-e : tie.Need-enum-known-e
-enum-known-e c = search needs
-
 returns : tie.Need-returns
 returns c = reply-refused (sym (c .before .before .before .check-limited .ensures) ∙ c .before .e .given .1) _
-
-enum-told : tie.Need-enum-told
-enum-told c = search needs
 
 -- accepted: the rows are a box, and the limit is one of it
 accepted : (c : tie.After-enum-told) → let a = c .before .before .before .before .args in first (limitChecks (a .n) (a .m) (a .rows .now) (a .i)) ≡ Accepted
@@ -39,10 +30,4 @@ returns-2 c = ap (λ (k : Candidate). figures (shown k)) (c .largest-correlation
 pub autocorrelation-spec : {M : Type 1} → statement M
 autocorrelation-spec =
     tie.close
-    (tie.spec
-    check-limited-requires
-    enum-known-e
-    returns
-    enum-told
-    largest-correlation-requires
-    returns-2)
+    (tie.spec (λ c κs. search needs) (λ c. search needs) returns (λ c. search needs) largest-correlation-requires returns-2)

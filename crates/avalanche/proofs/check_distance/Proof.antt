@@ -22,12 +22,6 @@ outputs c = holds (c .before .in-range .ensures) (c .if1 .left)
 inputs : (c : tie.Else2) → let a = c .before .before .before .before .before .before .before .before .args in inRange 1 (a .n) (a .j) ≡ true
 inputs c = holds (c .before .in-range2 .ensures) (c .if2 .left)
 
-check-box-requires : tie.Need-check-box-requires
-check-box-requires c κs = search needs
-
-enum-known-e : tie.Need-enum-known-e
-enum-known-e c = search needs
-
 returns : tie.Need-returns
 unfolding distanceChecks
 returns c =
@@ -35,18 +29,9 @@ returns c =
     let a = p .before .before .args in
     found-before (boxChecks (a .n) (a .m) (a .rows .now)) _ (sym (p .check-box .ensures) ∙ c .before .e .given .1)
 
-enum-told : tie.Need-enum-told
-enum-told c = search needs
-
-in-range-requires : tie.Need-in-range-requires
-in-range-requires c κs = search needs
-
 returns-2 : tie.Need-returns-2
 unfolding distanceChecks
 returns-2 c = found-after _ (ok-box (c .before .before)) (stop (fails (c .before .in-range .ensures) (c .if1 .taken)))
-
-in-range-requires-2 : tie.Need-in-range-requires-2
-in-range-requires-2 c κs = search needs
 
 returns-3 : tie.Need-returns-3
 unfolding distanceChecks
@@ -64,13 +49,5 @@ returns-4 c =
 pub check-distance-spec : {M : Type 1} → statement M
 check-distance-spec =
     tie.close
-    (tie.spec
-    check-box-requires
-    enum-known-e
-    returns
-    enum-told
-    in-range-requires
-    returns-2
-    in-range-requires-2
-    returns-3
-    returns-4)
+    (tie.spec (λ c κs. search needs) (λ c. search needs) returns (λ c. search needs) (λ c κs. search needs) returns-2
+    (λ c κs. search needs) returns-3 returns-4)

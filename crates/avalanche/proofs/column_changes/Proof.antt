@@ -19,12 +19,6 @@ abbrev μ-loop : tie.MeasureT-loop
 loop-holds : tie.Need-loop-holds Inv-loop μ-loop
 loop-holds c = let a = c .before .args in unchanged-none (a .rows .now) (a .flip) (a .j)
 
-mul-bit-differs : tie.Need-mul-bit-differs Inv-loop μ-loop
-mul-bit-differs c = search needs
-
-shared-slice-read-bit-differs : tie.Need-shared-slice-read-bit-differs Inv-loop μ-loop
-shared-slice-read-bit-differs c = search needs
-
 -- the other input is one of the box
 inside : (c : tie.In-loop Inv-loop μ-loop) →
     let a = c .before .before .before .args in
@@ -37,21 +31,12 @@ mul-bit-differs-2 c = let h = inside (c .before) in omega arith
 shared-slice-read-bit-differs-2 : tie.Need-shared-slice-read-bit-differs-2 Inv-loop μ-loop
 shared-slice-read-bit-differs-2 c = inside (c .before .before)
 
-bit-differs-requires : tie.Need-bit-differs-requires Inv-loop μ-loop
-bit-differs-requires c κs = search needs
-
 returns : tie.Need-returns Inv-loop μ-loop
 unfolding column
 returns c =
     let known = c .before .before .before in
     let at-loop = known .before .before in
     changed-at (at-loop .loop .inv) (at-loop .before .before .args .n) (at-loop .before .before .pre .0 .size) (known .before .loop-test .taken) (sym (c .before .bit-differs .ensures) ∙ c .if1 .taken)
-
-add-x : tie.Need-add-x Inv-loop μ-loop
-add-x c = search needs
-
-loop-less : tie.Need-loop-less Inv-loop μ-loop
-loop-less c = search needs
 
 loop-again : tie.Need-loop-again Inv-loop μ-loop
 unfolding column
@@ -65,17 +50,5 @@ returns-2 c = unchanged-all (c .before .loop .inv) (c .before .before .before .a
 pub column-changes-spec : {M : Type 1} → statement M
 column-changes-spec =
     tie.close
-    (tie.spec
-    Inv-loop
-    μ-loop
-    loop-holds
-    mul-bit-differs
-    shared-slice-read-bit-differs
-    mul-bit-differs-2
-    shared-slice-read-bit-differs-2
-    bit-differs-requires
-    returns
-    add-x
-    loop-less
-    loop-again
-    returns-2)
+    (tie.spec Inv-loop μ-loop loop-holds (λ c. search needs) (λ c. search needs) mul-bit-differs-2 shared-slice-read-bit-differs-2
+    (λ c κs. search needs) returns (λ c. search needs) (λ c. search needs) loop-again returns-2)

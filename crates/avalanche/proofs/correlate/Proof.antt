@@ -45,9 +45,6 @@ transform-requires c κs =
     let a = start .args in
     squares-summable (a .n) (a .rows .now) (a .c) (start .pre .0 .box .n-low) (start .pre .0 .box .n-high) (spectrum-is done) (squared .square-all .ensures)
 
-same-length : tie.Need-same-length
-same-length c = search needs
-
 returns : tie.Need-returns
 returns c =
     let squared = c .before .before .before .before in
@@ -60,4 +57,4 @@ returns c =
 pub correlate-spec : {M : Type 1} → statement M
 correlate-spec =
     tie.close
-    (tie.spec descend-requires square-all-requires transform-requires same-length returns)
+    (tie.spec descend-requires square-all-requires transform-requires (λ c. search needs) returns)

@@ -11,17 +11,8 @@ use borrow.Author.Needs.{needs}
 use Rattle.avalanche.proofs.dynamic_distance.Statement.{statement}
 use Rattle.avalanche.proofs.dynamic_distance.Tie as tie
 
-check-distance-requires : tie.Need-check-distance-requires
-check-distance-requires c κs = search needs
-
-enum-known-e : tie.Need-enum-known-e
-enum-known-e c = search needs
-
 returns : tie.Need-returns
 returns c = reply-refused (sym (c .before .before .before .check-distance .ensures) ∙ c .before .e .given .1) _
-
-enum-told : tie.Need-enum-told
-enum-told c = search needs
 
 -- accepted: the rows are a box, and the order is in its range
 accepted : (c : tie.After-enum-told) →
@@ -49,10 +40,4 @@ returns-2 c =
 pub dynamic-distance-spec : {M : Type 1} → statement M
 dynamic-distance-spec =
     tie.close
-    (tie.spec
-    check-distance-requires
-    enum-known-e
-    returns
-    enum-told
-    largest-correlation-requires
-    returns-2)
+    (tie.spec (λ c κs. search needs) (λ c. search needs) returns (λ c. search needs) largest-correlation-requires returns-2)

@@ -20,17 +20,11 @@ abbrev μ-loop : tie.MeasureT-loop
 loop-holds : tie.Need-loop-holds Inv-loop μ-loop
 loop-holds c = seeking-all (c .args .values .now) (c .args .largest) (c .pre .1) (c .pre .2)
 
-cast-magnitude : tie.Need-cast-magnitude Inv-loop μ-loop
-cast-magnitude c = search needs
-
 mul-magnitude : tie.Need-mul-magnitude Inv-loop μ-loop
 mul-magnitude c = let h = seeking-inside (c .loop .inv) in omega arith
 
 shared-slice-copy-out-magnitude : tie.Need-shared-slice-copy-out-magnitude Inv-loop μ-loop
 shared-slice-copy-out-magnitude c = seeking-inside (c .loop .inv)
-
-magnitude-requires : tie.Need-magnitude-requires Inv-loop μ-loop
-magnitude-requires c κs = search needs
 
 -- the value that is read, and its magnitude
 abbrev value : tie.After-magnitude Inv-loop μ-loop → ℤ
@@ -55,15 +49,5 @@ returns c =
 pub first-from-one-spec : {M : Type 1} → statement M
 first-from-one-spec =
     tie.close
-    (tie.spec
-    Inv-loop
-    μ-loop
-    loop-holds
-    cast-magnitude
-    mul-magnitude
-    shared-slice-copy-out-magnitude
-    magnitude-requires
-    add-place
-    loop-less
-    loop-again
-    returns)
+    (tie.spec Inv-loop μ-loop loop-holds (λ c. search needs) mul-magnitude shared-slice-copy-out-magnitude (λ c κs. search needs)
+    add-place loop-less loop-again returns)

@@ -40,9 +40,6 @@ mul-magnitude c = let h = inside c in omega arith
 shared-slice-copy-out-magnitude : tie.Need-shared-slice-copy-out-magnitude Inv-loop μ-loop
 shared-slice-copy-out-magnitude c = inside c
 
-magnitude-requires : tie.Need-magnitude-requires Inv-loop μ-loop
-magnitude-requires c κs = search needs
-
 -- its value, and its magnitude
 abbrev value : tie.After-magnitude Inv-loop μ-loop → ℤ
 value c = let at-loop = c .before .before in valueAt (at-loop .before .before .before .args .values .now) (at-loop .loop .s)
@@ -86,18 +83,5 @@ returns c =
 pub first-listed-spec : {M : Type 1} → statement M
 first-listed-spec =
     tie.close
-    (tie.spec
-    Inv-loop
-    μ-loop
-    shared-slice-read-s
-    loop-holds
-    cast-magnitude
-    mul-magnitude
-    shared-slice-copy-out-magnitude
-    magnitude-requires
-    add-k
-    mul-s
-    shared-slice-read-s-2
-    loop-less
-    loop-again
-    returns)
+    (tie.spec Inv-loop μ-loop shared-slice-read-s loop-holds cast-magnitude mul-magnitude shared-slice-copy-out-magnitude
+    (λ c κs. search needs) add-k mul-s shared-slice-read-s-2 loop-less loop-again returns)

@@ -28,14 +28,8 @@ returns c z = absurd (false≢true z)
 largest-from-one-requires : tie.Need-largest-from-one-requires
 largest-from-one-requires c κs = short (c .before .before .before)
 
-cast-bound : tie.Need-cast-bound
-cast-bound c = search needs
-
 div-bound : tie.Need-div-bound
 div-bound c = let s = c .before .before .before .before in omega (arith, s .pre .box .size, pow-pos (s .args .n))
-
-is-preferred-requires : tie.Need-is-preferred-requires
-is-preferred-requires c κs = search needs
 
 returns-2 : tie.Need-returns-2
 returns-2 c z =
@@ -50,10 +44,4 @@ returns-2 c z =
 pub is-beaten-spec : {M : Type 1} → statement M
 is-beaten-spec =
     tie.close
-    (tie.spec
-    returns
-    largest-from-one-requires
-    cast-bound
-    div-bound
-    is-preferred-requires
-    returns-2)
+    (tie.spec returns largest-from-one-requires (λ c. search needs) div-bound (λ c κs. search needs) returns-2)

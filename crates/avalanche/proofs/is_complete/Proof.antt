@@ -9,17 +9,8 @@ use borrow.Author.Needs.{needs}
 use Rattle.avalanche.proofs.is_complete.Statement.{statement}
 use Rattle.avalanche.proofs.is_complete.Tie as tie
 
-check-box-requires : tie.Need-check-box-requires
-check-box-requires c κs = search needs
-
-enum-known-e : tie.Need-enum-known-e
-enum-known-e c = search needs
-
 returns : tie.Need-returns
 returns c = reply-refused (sym (c .before .before .before .check-box .ensures) ∙ c .before .e .given .1) _
-
-enum-told : tie.Need-enum-told
-enum-told c = search needs
 
 accepted : (c : tie.After-enum-told) → let a = c .before .before .before .before .args in first (boxChecks (a .n) (a .m) (a .rows .now)) ≡ Accepted
 accepted c = sym (c .before .before .check-box .ensures) ∙ c .enum-told .given .1
@@ -38,11 +29,4 @@ returns-3 c =
 pub is-complete-spec : {M : Type 1} → statement M
 is-complete-spec =
     tie.close
-    (tie.spec
-    check-box-requires
-    enum-known-e
-    returns
-    enum-told
-    all-complete-requires
-    returns-2
-    returns-3)
+    (tie.spec (λ c κs. search needs) (λ c. search needs) returns (λ c. search needs) all-complete-requires returns-2 returns-3)

@@ -12,12 +12,6 @@ use Rattle.avalanche.specs.Work.{Listed}
 use Rattle.avalanche.proofs.largest_correlation.Statement.{statement}
 use Rattle.avalanche.proofs.largest_correlation.Tie as tie
 
-spectra-requires : tie.Need-spectra-requires
-spectra-requires c κs = search needs
-
-array-borrow-prefix-list : tie.Need-array-borrow-prefix-list
-array-borrow-prefix-list c = search needs
-
 slice-aggregate-list-changes : tie.Need-slice-aggregate-list-changes
 slice-aggregate-list-changes c = sym (length-take-le _ _ (c .before .before .before .pre .0 .small))
 
@@ -48,14 +42,8 @@ array-borrow-prefix-steps c = steps-few (c .before .before .before .before .befo
 slice-aggregate-sweep-2 : tie.Need-slice-aggregate-sweep-2
 slice-aggregate-sweep-2 c = sym (length-take-le _ _ (steps-few (c .before .before .before .before .before .before .before .before .pre .0)))
 
-array-borrow-prefix-table : tie.Need-array-borrow-prefix-table
-array-borrow-prefix-table c = search needs
-
 slice-aggregate-sweep-3 : tie.Need-slice-aggregate-sweep-3
 slice-aggregate-sweep-3 c = sym (length-take-le _ _ (c .before .before .before .before .before .before .before .before .before .pre .0 .small))
-
-array-borrow-prefix-values : tie.Need-array-borrow-prefix-values
-array-borrow-prefix-values c = search needs
 
 slice-aggregate-sweep-4 : tie.Need-slice-aggregate-sweep-4
 slice-aggregate-sweep-4 c = sym (length-take-le _ _ (c .before .before .before .before .before .before .before .before .before .before .pre .0 .small))
@@ -73,25 +61,9 @@ sweep-requires c κs =
       λ l. subst (Listed _ _) (sym (take-append-le _ _ _ (few called))) (called .list-changes .ensures .1 l),
     )
 
-returns : tie.Need-returns
-returns c = search needs
-
 pub largest-correlation-spec : {M : Type 1} → statement M
 largest-correlation-spec =
     tie.close
-    (tie.spec
-    spectra-requires
-    array-borrow-prefix-list
-    slice-aggregate-list-changes
-    list-changes-requires
-    mul-total
-    array-share-prefix-list
-    slice-aggregate-sweep
-    array-borrow-prefix-steps
-    slice-aggregate-sweep-2
-    array-borrow-prefix-table
-    slice-aggregate-sweep-3
-    array-borrow-prefix-values
-    slice-aggregate-sweep-4
-    sweep-requires
-    returns)
+    (tie.spec (λ c κs. search needs) (λ c. search needs) slice-aggregate-list-changes list-changes-requires mul-total
+    array-share-prefix-list slice-aggregate-sweep array-borrow-prefix-steps slice-aggregate-sweep-2 (λ c. search needs)
+    slice-aggregate-sweep-3 (λ c. search needs) slice-aggregate-sweep-4 sweep-requires (λ c. search needs))

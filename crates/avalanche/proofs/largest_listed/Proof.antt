@@ -21,12 +21,6 @@ abbrev μ-loop : tie.MeasureT-loop
 loop-holds : tie.Need-loop-holds Inv-loop μ-loop
 loop-holds c = through-none (c .before .args .values .now) (c .before .args .list .now)
 
-mul-s : tie.Need-mul-s Inv-loop μ-loop
-mul-s c = search needs
-
-shared-slice-read-s : tie.Need-shared-slice-read-s Inv-loop μ-loop
-shared-slice-read-s c = search needs
-
 -- the change that is read has a value
 inside : (c : tie.After-shared-slice-known2 Inv-loop μ-loop) →
     let a = c .before .before .before .before .args in
@@ -42,9 +36,6 @@ mul-magnitude c = let h = inside c in omega arith
 shared-slice-copy-out-magnitude : tie.Need-shared-slice-copy-out-magnitude Inv-loop μ-loop
 shared-slice-copy-out-magnitude c = inside c
 
-magnitude-requires : tie.Need-magnitude-requires Inv-loop μ-loop
-magnitude-requires c κs = search needs
-
 -- the value that is read, and its magnitude
 abbrev value : tie.After-magnitude Inv-loop μ-loop → ℤ
 value c =
@@ -54,12 +45,6 @@ value c =
 
 read : (c : tie.After-magnitude Inv-loop μ-loop) → c .magnitude .result ≡ natAbs (value c)
 read c = c .magnitude .ensures ∙ ap natAbs (word-told (value c) (c .before .magnitude-arg .given))
-
-add-k : tie.Need-add-k Inv-loop μ-loop
-add-k c = search needs
-
-loop-less : tie.Need-loop-less Inv-loop μ-loop
-loop-less c = search needs
 
 loop-again : tie.Need-loop-again Inv-loop μ-loop
 loop-again c =
@@ -73,17 +58,5 @@ returns c = through-all (c .before .loop .inv) (omega arith)
 pub largest-listed-spec : {M : Type 1} → statement M
 largest-listed-spec =
     tie.close
-    (tie.spec
-    Inv-loop
-    μ-loop
-    loop-holds
-    mul-s
-    shared-slice-read-s
-    cast-magnitude
-    mul-magnitude
-    shared-slice-copy-out-magnitude
-    magnitude-requires
-    add-k
-    loop-less
-    loop-again
-    returns)
+    (tie.spec Inv-loop μ-loop loop-holds (λ c. search needs) (λ c. search needs) cast-magnitude mul-magnitude
+    shared-slice-copy-out-magnitude (λ c κs. search needs) (λ c. search needs) (λ c. search needs) loop-again returns)

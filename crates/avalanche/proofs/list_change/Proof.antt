@@ -10,18 +10,6 @@ use Rattle.avalanche.proofs.list_change.Tie as tie
 returns : tie.Need-returns
 returns c = let a = c .before .args in (omega arith, listed-skips (c .before .pre .2) (c .if1 .taken), refl)
 
-mul-list : tie.Need-mul-list
-mul-list c = search needs
-
-slice-write-list : tie.Need-slice-write-list
-slice-write-list c = search needs
-
-add-result : tie.Need-add-result
-add-result c = search needs
-
-same-length : tie.Need-same-length
-same-length c = search needs
-
 returns-2 : tie.Need-returns-2
 returns-2 c =
     let s = c .before in
@@ -30,4 +18,4 @@ returns-2 c =
 
 pub list-change-spec : {M : Type 1} → statement M
 list-change-spec =
-    tie.close (tie.spec returns mul-list slice-write-list add-result same-length returns-2)
+    tie.close (tie.spec returns (λ c. search needs) (λ c. search needs) (λ c. search needs) (λ c. search needs) returns-2)

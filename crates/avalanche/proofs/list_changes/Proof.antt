@@ -68,15 +68,4 @@ returns-2 c =
 pub list-changes-spec : {M : Type 1} → statement M
 list-changes-spec =
     tie.close
-    (tie.spec
-    Inv-loop
-    μ-loop
-    returns
-    cast-end
-    loop-holds
-    list-change-requires
-    add-s
-    loop-less
-    loop-again
-    same-length
-    returns-2)
+    (tie.spec Inv-loop μ-loop returns cast-end loop-holds list-change-requires add-s loop-less loop-again same-length returns-2)

@@ -17,9 +17,6 @@ truth c =
     let a = start .args in
     written-is (a .n) (a .rows .now) (a .c) (a .m) (start .pre .0 .box) _ (c .next-component .ensures)
 
-next-component-requires : tie.Need-next-component-requires
-next-component-requires c κs = search needs
-
 correlate-requires : tie.Need-correlate-requires
 correlate-requires c κs =
     let next = c .before .before .before .before in
@@ -29,16 +26,10 @@ correlate-requires c κs =
       truth next,
     )
 
-same-length : tie.Need-same-length
-same-length c = search needs
-
-same-length-2 : tie.Need-same-length-2
-same-length-2 c = search needs
-
 returns : tie.Need-returns
 returns c = (c .before .correlate .ensures, truth (c .before .before .before .before .before .before))
 
 pub next-correlation-spec : {M : Type 1} → statement M
 next-correlation-spec =
     tie.close
-    (tie.spec next-component-requires correlate-requires same-length same-length-2 returns)
+    (tie.spec (λ c κs. search needs) correlate-requires (λ c. search needs) (λ c. search needs) returns)

@@ -27,12 +27,6 @@ abbrev μ-loop : tie.MeasureT-loop
 loop-holds : tie.Need-loop-holds Inv-loop μ-loop
 loop-holds c = replaced-none (pos 0) squared (c .args .values .now)
 
-mul-value : tie.Need-mul-value Inv-loop μ-loop
-mul-value c = search needs
-
-slice-copy-out-value : tie.Need-slice-copy-out-value Inv-loop μ-loop
-slice-copy-out-value c = search needs
-
 -- the value that is read is still the one that was there, and small
 abbrev read : tie.After-value Inv-loop μ-loop → ℤ
 read c = let at-loop = c .before .before in valueAt (at-loop .loop .values) (at-loop .loop .k)
@@ -61,18 +55,6 @@ double-small c = omega (arith, ap natAbs (double-is c), abs-twice (read c), smal
 mul-values : tie.Need-mul-values Inv-loop μ-loop
 mul-values c = product-fits (double c) (double-small c)
 
-mul-t5 : tie.Need-mul-t5 Inv-loop μ-loop
-mul-t5 c = search needs
-
-slice-set-from-values : tie.Need-slice-set-from-values Inv-loop μ-loop
-slice-set-from-values c = search needs
-
-add-k : tie.Need-add-k Inv-loop μ-loop
-add-k c = search needs
-
-loop-less : tie.Need-loop-less Inv-loop μ-loop
-loop-less c = search needs
-
 loop-again : tie.Need-loop-again Inv-loop μ-loop
 loop-again c =
     let at-loop = c .before .before in
@@ -90,18 +72,5 @@ returns c =
 pub square-all-spec : {M : Type 1} → statement M
 square-all-spec =
     tie.close
-    (tie.spec
-    Inv-loop
-    μ-loop
-    loop-holds
-    mul-value
-    slice-copy-out-value
-    add-double
-    mul-values
-    mul-t5
-    slice-set-from-values
-    add-k
-    loop-less
-    loop-again
-    same-length
-    returns)
+    (tie.spec Inv-loop μ-loop loop-holds (λ c. search needs) (λ c. search needs) add-double mul-values (λ c. search needs)
+    (λ c. search needs) (λ c. search needs) (λ c. search needs) loop-again same-length returns)

@@ -27,9 +27,6 @@ write-component-requires c κs =
     let start = c .before .before .before .before .before .before .before .before .before in
     start .pre .0 .table-size ∙ sym (start .pre .0 .box .size)
 
-power-of-two-requires : tie.Need-power-of-two-requires Inv-loop μ-loop
-power-of-two-requires c κs = search needs
-
 loop-holds : tie.Need-loop-holds Inv-loop μ-loop
 loop-holds c =
     let component = c .before .before .before in
@@ -89,9 +86,6 @@ loop-again c =
     sweep-next (in-loop .before .loop .inv) (below in-loop) (c .next-mask .ensures .0) (c .next-mask .ensures .1)
     (done .next-correlation .ensures .1) (done .next-correlation .ensures .0) (swept .with-correlation .ensures)
 
-same-length : tie.Need-same-length Inv-loop μ-loop
-same-length c = search needs
-
 same-length-2 : tie.Need-same-length-2 Inv-loop μ-loop
 same-length-2 c = c .before .loop .inv .arrays .table-size ∙ sym (c .before .before .before .before .before .before .before .before .before .before .before .before .before .before .before .pre .0 .table-size)
 
@@ -112,20 +106,6 @@ returns c =
 pub sweep-spec : {M : Type 1} → statement M
 sweep-spec =
     tie.close
-    (tie.spec
-    Inv-loop
-    μ-loop
-    write-steps-requires
-    write-component-requires
-    power-of-two-requires
-    loop-holds
-    next-correlation-requires
-    cast-with-correlation
-    with-correlation-requires
-    next-mask-requires
-    loop-less
-    loop-again
-    same-length
-    same-length-2
-    same-length-3
-    returns)
+    (tie.spec Inv-loop μ-loop write-steps-requires write-component-requires (λ c κs. search needs) loop-holds
+    next-correlation-requires cast-with-correlation with-correlation-requires next-mask-requires loop-less loop-again
+    (λ c. search needs) same-length-2 same-length-3 returns)

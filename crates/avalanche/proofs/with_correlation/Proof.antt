@@ -29,14 +29,8 @@ largest-within-requires c κs =
     let a = s .args in
     (s .pre .0 .box .n-high, values-length (a .n) (a .rows .now) (a .c) (a .j) (s .pre .0 .values-are), s .pre .1)
 
-cast-figure : tie.Need-cast-figure
-cast-figure c = search needs
-
 div-figure : tie.Need-div-figure
 div-figure c = let s = c .before .before .before .before .before in omega (arith, s .pre .0 .box .size, pow-pos (s .args .n))
-
-is-preferred-requires : tie.Need-is-preferred-requires
-is-preferred-requires c κs = search needs
 
 first-within-requires : tie.Need-first-within-requires
 first-within-requires c κs =
@@ -70,13 +64,5 @@ returns-3 c =
 pub with-correlation-spec : {M : Type 1} → statement M
 with-correlation-spec =
     tie.close
-    (tie.spec
-    is-beaten-requires
-    returns
-    largest-within-requires
-    cast-figure
-    div-figure
-    is-preferred-requires
-    first-within-requires
-    returns-2
-    returns-3)
+    (tie.spec is-beaten-requires returns largest-within-requires (λ c. search needs) div-figure (λ c κs. search needs)
+    first-within-requires returns-2 returns-3)

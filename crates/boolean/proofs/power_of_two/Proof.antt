@@ -10,13 +10,10 @@ use lib.Pow.{shl-exact, pow-mono}
 use Rattle.boolean.proofs.power_of_two.Statement.{statement}
 use Rattle.boolean.proofs.power_of_two.Tie as tie
 
-shl-result : tie.Need-shl-result
-shl-result c = search needs
-
 returns : tie.Need-returns
 returns c =
     let e = shl-exact 1 (c .args .k) 64 (lit< tt) (omega arith) ∙ one-mul (2 ^ c .args .k) in
     (e, le-trans (le-of-eq e) (pow-mono {i = c .args .k} {j = 32} (omega arith)))
 
 pub power-of-two-spec : {M : Type 1} → statement M
-power-of-two-spec = tie.close (tie.spec shl-result returns)
+power-of-two-spec = tie.close (tie.spec (λ c. search needs) returns)

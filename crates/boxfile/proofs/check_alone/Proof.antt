@@ -8,16 +8,10 @@ use borrow.Author.Needs.{needs}
 use Rattle.boxfile.proofs.check_alone.Statement.{statement}
 use Rattle.boxfile.proofs.check_alone.Tie as tie
 
-room-of-requires : tie.Need-room-of-requires
-room-of-requires c κs = search needs
-
-check-file-requires : tie.Need-check-file-requires
-check-file-requires c κs = search needs
-
 returns : tie.Need-returns
 returns c =
     let file = c .before .before .before .args .file .now in
     c .check-file .ensures ∙ ap (λ (room : ℕ). first (fileChecks file room)) (c .before .room-of .ensures .0) ∙ room-same file
 
 pub check-alone-spec : {M : Type 1} → statement M
-check-alone-spec = tie.close (tie.spec room-of-requires check-file-requires returns)
+check-alone-spec = tie.close (tie.spec (λ c κs. search needs) (λ c κs. search needs) returns)

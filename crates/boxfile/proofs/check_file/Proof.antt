@@ -16,21 +16,6 @@ returns : tie.Need-returns
 unfolding fileChecks
 returns c = found (stop (lt-leb 2 (length (c .before .before .args .file .now)) (omega arith)))
 
-shared-slice-read-wide : tie.Need-shared-slice-read-wide
-shared-slice-read-wide c = search needs
-
-wide-requires : tie.Need-wide-requires
-wide-requires c κs = search needs
-
-shared-slice-read-wide-2 : tie.Need-shared-slice-read-wide-2
-shared-slice-read-wide-2 c = search needs
-
-wide-requires-2 : tie.Need-wide-requires-2
-wide-requires-2 c κs = search needs
-
-check-read-requires : tie.Need-check-read-requires
-check-read-requires c κs = search needs
-
 returns-2 : tie.Need-returns-2
 unfolding fileChecks
 returns-2 c =
@@ -44,11 +29,5 @@ returns-2 c =
 pub check-file-spec : {M : Type 1} → statement M
 check-file-spec =
     tie.close
-    (tie.spec
-    returns
-    shared-slice-read-wide
-    wide-requires
-    shared-slice-read-wide-2
-    wide-requires-2
-    check-read-requires
+    (tie.spec returns (λ c. search needs) (λ c κs. search needs) (λ c. search needs) (λ c κs. search needs) (λ c κs. search needs)
     returns-2)

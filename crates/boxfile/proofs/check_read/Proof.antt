@@ -32,15 +32,9 @@ answer c =
     let a = c .before .before .before .before .before .before .before .before .before .args in
     c .rows-below .ensures ∙ ap (λ (k : ℕ). allBelow k (rowsOf (a .file .now) (a .n))) (c .before .power-of-two2 .ensures .0)
 
-in-range-requires : tie.Need-in-range-requires
-in-range-requires c κs = search needs
-
 returns : tie.Need-returns
 unfolding readChecks
 returns c = found (stop (fails (c .before .in-range .ensures) (c .if1 .taken)))
-
-in-range-requires-2 : tie.Need-in-range-requires-2
-in-range-requires-2 c κs = search needs
 
 returns-2 : tie.Need-returns-2
 unfolding readChecks
@@ -49,12 +43,6 @@ returns-2 c =
 
 power-of-two-requires : tie.Need-power-of-two-requires
 power-of-two-requires c κs = le-trans (range-high 1 8 _ (inputs (c .before .before))) (lit≤ tt)
-
-mul-if3 : tie.Need-mul-if3
-mul-if3 c = search needs
-
-add-if3 : tie.Need-add-if3
-add-if3 c = search needs
 
 returns-3 : tie.Need-returns-3
 unfolding readChecks
@@ -65,9 +53,6 @@ returns-3 c =
 
 power-of-two-requires-2 : tie.Need-power-of-two-requires-2
 power-of-two-requires-2 c κs = range-high 1 32 _ (outputs (c .before .before))
-
-rows-below-requires : tie.Need-rows-below-requires
-rows-below-requires c κs = search needs
 
 returns-4 : tie.Need-returns-4
 unfolding readChecks
@@ -98,17 +83,5 @@ returns-6 c =
 pub check-read-spec : {M : Type 1} → statement M
 check-read-spec =
     tie.close
-    (tie.spec
-    in-range-requires
-    returns
-    in-range-requires-2
-    returns-2
-    power-of-two-requires
-    mul-if3
-    add-if3
-    returns-3
-    power-of-two-requires-2
-    rows-below-requires
-    returns-4
-    returns-5
-    returns-6)
+    (tie.spec (λ c κs. search needs) returns (λ c κs. search needs) returns-2 power-of-two-requires (λ c. search needs)
+    (λ c. search needs) returns-3 power-of-two-requires-2 (λ c κs. search needs) returns-4 returns-5 returns-6)

@@ -14,20 +14,11 @@ use borrow.Author.Needs.{needs}
 use Rattle.boxfile.proofs.read_box.Statement.{statement}
 use Rattle.boxfile.proofs.read_box.Tie as tie
 
-check-file-requires : tie.Need-check-file-requires
-check-file-requires c κs = search needs
-
-enum-known-e : tie.Need-enum-known-e
-enum-known-e c = search needs
-
 returns : tie.Need-returns
 returns c =
     let p = c .before .before .before in
     let h = sym (p .check-file .ensures) ∙ c .before .e .given .1 in
     record { reply = reply-refused h _; content = content-refused h _ _ }
-
-enum-told : tie.Need-enum-told
-enum-told c = search needs
 
 accepted : (c : tie.After-enum-told) →
     let a = c .before .before .before .before .before .args in
@@ -54,9 +45,6 @@ known c = let a = c .before .before .before .before .before .args in whole (a .f
 shared-slice-read-wide : tie.Need-shared-slice-read-wide
 shared-slice-read-wide c = omega (arith, known (c .before) .two)
 
-wide-requires : tie.Need-wide-requires
-wide-requires c κs = search needs
-
 write-rows-requires : tie.Need-write-rows-requires
 write-rows-requires c κs =
     let w = c .before in
@@ -66,12 +54,6 @@ write-rows-requires c κs =
 
 shared-slice-read-wide-2 : tie.Need-shared-slice-read-wide-2
 shared-slice-read-wide-2 c = omega (arith, known (c .before .before .before .before .before .before .before) .two)
-
-wide-requires-2 : tie.Need-wide-requires-2
-wide-requires-2 c κs = search needs
-
-same-length : tie.Need-same-length
-same-length c = search needs
 
 returns-2 : tie.Need-returns-2
 returns-2 c =
@@ -88,15 +70,5 @@ returns-2 c =
 pub read-box-spec : {M : Type 1} → statement M
 read-box-spec =
     tie.close
-    (tie.spec
-    check-file-requires
-    enum-known-e
-    returns
-    enum-told
-    shared-slice-read-wide
-    wide-requires
-    write-rows-requires
-    shared-slice-read-wide-2
-    wide-requires-2
-    same-length
-    returns-2)
+    (tie.spec (λ c κs. search needs) (λ c. search needs) returns (λ c. search needs) shared-slice-read-wide (λ c κs. search needs)
+    write-rows-requires shared-slice-read-wide-2 (λ c κs. search needs) (λ c. search needs) returns-2)

@@ -13,14 +13,8 @@ use Rattle.boxfile.proofs.room_of.Tie as tie
 returns : tie.Need-returns
 returns c = (sym (room-of-empty _ (c .if1 .taken)), lit≤ tt)
 
-shared-slice-read-inputs : tie.Need-shared-slice-read-inputs
-shared-slice-read-inputs c = search needs
-
 cast-inputs : tie.Need-cast-inputs
 cast-inputs c = omega (arith, c .shared-slice-known2 .given 0)
-
-in-range-requires : tie.Need-in-range-requires
-in-range-requires c κs = search needs
 
 returns-2 : tie.Need-returns-2
 returns-2 c = (sym (room-of-none _ (fails (c .before .in-range .ensures) (c .if2 .taken))), lit≤ tt)
@@ -37,11 +31,4 @@ returns-3 c =
 pub room-of-spec : {M : Type 1} → statement M
 room-of-spec =
     tie.close
-    (tie.spec
-    returns
-    shared-slice-read-inputs
-    cast-inputs
-    in-range-requires
-    returns-2
-    power-of-two-requires
-    returns-3)
+    (tie.spec returns (λ c. search needs) cast-inputs (λ c κs. search needs) returns-2 power-of-two-requires returns-3)

@@ -48,29 +48,14 @@ starts : (c : tie.After-known-told2) →
     gapFor (a .catalogue .now) (a .file .now) ≡ Starts (c .before .gap .given .0 .0) (c .before .gap .given .0 .1 .0)
 starts c = answer (c .before .before .before) ∙ c .before .gap .given .1
 
-check-offered-requires : tie.Need-check-offered-requires
-check-offered-requires c κs = search needs
-
-enum-known-e : tie.Need-enum-known-e
-enum-known-e c = search needs
-
-same-length : tie.Need-same-length
-same-length c = search needs
-
 returns : tie.Need-returns
 returns c =
     let p = c .before .before .before in
     let h = add-refused _ _ (sym (p .check-offered .ensures) ∙ c .before .e .given .1) in
     record { reply = reply-refused h _; content = content-refused h _ _ }
 
-enum-told : tie.Need-enum-told
-enum-told c = search needs
-
 word-at-requires : tie.Need-word-at-requires
 word-at-requires c κs = omega (arith, valid-says _ (whole (c .before)) .low)
-
-same-length-2 : tie.Need-same-length-2
-same-length-2 c = search needs
 
 returns-2 : tie.Need-returns-2
 returns-2 c =
@@ -82,15 +67,6 @@ find-gap-requires : tie.Need-find-gap-requires
 find-gap-requires c κs =
     let w = c .before .before in
     (whole (w .before .before), counted w)
-
-enum-known-gap : tie.Need-enum-known-gap
-enum-known-gap c = search needs
-
-enum-told-2 : tie.Need-enum-told-2
-enum-told-2 c = search needs
-
-same-length-3 : tie.Need-same-length-3
-same-length-3 c = search needs
 
 returns-3 : tie.Need-returns-3
 returns-3 c =
@@ -132,9 +108,6 @@ cast-t24 c =
     let h = whole (s .before .before .before) in
     omega (arith, gap-index _ _ h (starts t), few s)
 
-same-length-4 : tie.Need-same-length-4
-same-length-4 c = search needs
-
 returns-4 : tie.Need-returns-4
 returns-4 c =
     let i = c .before .before in
@@ -155,22 +128,6 @@ returns-4 c =
 pub add-spec : {M : Type 1} → statement M
 add-spec =
     tie.close
-    (tie.spec
-    check-offered-requires
-    enum-known-e
-    same-length
-    returns
-    enum-told
-    word-at-requires
-    same-length-2
-    returns-2
-    find-gap-requires
-    enum-known-gap
-    enum-told-2
-    same-length-3
-    returns-3
-    open-place-requires
-    copy-in-requires
-    cast-t24
-    same-length-4
-    returns-4)
+    (tie.spec (λ c κs. search needs) (λ c. search needs) (λ c. search needs) returns (λ c. search needs) word-at-requires
+    (λ c. search needs) returns-2 find-gap-requires (λ c. search needs) (λ c. search needs) (λ c. search needs) returns-3
+    open-place-requires copy-in-requires cast-t24 (λ c. search needs) returns-4)

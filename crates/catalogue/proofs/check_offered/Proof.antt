@@ -8,15 +8,9 @@ use borrow.Author.Needs.{needs}
 use Rattle.catalogue.proofs.check_offered.Statement.{statement}
 use Rattle.catalogue.proofs.check_offered.Tie as tie
 
-is-valid-requires : tie.Need-is-valid-requires
-is-valid-requires c κs = search needs
-
 returns : tie.Need-returns
 unfolding offeredChecks
 returns c = found (stop (fails (c .before .is-valid .ensures) (c .if1 .taken)))
-
-check-alone-requires : tie.Need-check-alone-requires
-check-alone-requires c κs = search needs
 
 returns-2 : tie.Need-returns-2
 unfolding offeredChecks fileFound
@@ -25,4 +19,4 @@ returns-2 c =
 
 pub check-offered-spec : {M : Type 1} → statement M
 check-offered-spec =
-    tie.close (tie.spec is-valid-requires returns check-alone-requires returns-2)
+    tie.close (tie.spec (λ c κs. search needs) returns (λ c κs. search needs) returns-2)

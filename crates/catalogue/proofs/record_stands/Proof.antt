@@ -25,42 +25,15 @@ returns : tie.Need-returns
 unfolding stands
 returns c = stop-at _ _ (lt-leb _ _ (c .if1 .taken))
 
-add-past : tie.Need-add-past
-add-past c = search needs
-
 returns-2 : tie.Need-returns-2
 unfolding stands
 returns-2 c = go-on _ _ (le-leb _ _ (c .before .if1 .left)) (stop-at _ _ (lt-leb _ _ (c .if2 .taken)))
-
-part-values-below-start : tie.Need-part-values-below-start
-part-values-below-start c = search needs
-
-part-values-below-end : tie.Need-part-values-below-end
-part-values-below-end c = search needs
-
-values-below-requires : tie.Need-values-below-requires
-values-below-requires c κs = search needs
 
 returns-3 : tie.Need-returns-3
 unfolding stands
 returns-3 c =
     let p = c .before .before .before in
     go-on _ _ (le-leb _ _ (p .before .if1 .left)) (go-on _ _ (le-leb _ _ (p .if2 .left)) (stop-at _ _ (fails (c .before .values-below .ensures) (c .if3 .taken))))
-
-sub-check-alone : tie.Need-sub-check-alone
-sub-check-alone c = search needs
-
-part-check-alone-start : tie.Need-part-check-alone-start
-part-check-alone-start c = search needs
-
-part-check-alone-end : tie.Need-part-check-alone-end
-part-check-alone-end c = search needs
-
-check-alone-requires : tie.Need-check-alone-requires
-check-alone-requires c κs = search needs
-
-enum-told : tie.Need-enum-told
-enum-told c = search needs
 
 returns-4 : tie.Need-returns-4
 unfolding stands
@@ -70,9 +43,6 @@ returns-4 c =
     let p = v .before .before .before in
     go-on _ _ (le-leb _ _ (p .before .if1 .left)) (go-on _ _ (le-leb _ _ (p .if2 .left)) (go-on _ _ (holds (v .before .values-below .ensures) (v .if3 .left))
     (sym (answer r ∙ ap isAccepted (c .enum-told .given .1)))))
-
-enum-told-2 : tie.Need-enum-told-2
-enum-told-2 c = search needs
 
 returns-5 : tie.Need-returns-5
 unfolding stands
@@ -86,19 +56,6 @@ returns-5 c =
 pub record-stands-spec : {M : Type 1} → statement M
 record-stands-spec =
     tie.close
-    (tie.spec
-    returns
-    add-past
-    returns-2
-    part-values-below-start
-    part-values-below-end
-    values-below-requires
-    returns-3
-    sub-check-alone
-    part-check-alone-start
-    part-check-alone-end
-    check-alone-requires
-    enum-told
-    returns-4
-    enum-told-2
-    returns-5)
+    (tie.spec returns (λ c. search needs) returns-2 (λ c. search needs) (λ c. search needs) (λ c κs. search needs) returns-3
+    (λ c. search needs) (λ c. search needs) (λ c. search needs) (λ c κs. search needs) (λ c. search needs) returns-4
+    (λ c. search needs) returns-5)

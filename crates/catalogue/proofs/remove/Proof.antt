@@ -37,41 +37,17 @@ counted c = c .word-at .ensures .0
 few : (c : tie.After-word-at) → c .word-at .result ≤ 64
 few c = omega (arith, counted c, valid-says _ (known (c .before .before) .whole) .most)
 
-check-index-requires : tie.Need-check-index-requires
-check-index-requires c κs = search needs
-
-enum-known-e : tie.Need-enum-known-e
-enum-known-e c = search needs
-
-same-length : tie.Need-same-length
-same-length c = search needs
-
 returns : tie.Need-returns
 returns c =
     let p = c .before .before .before in
     let h = sym (p .check-index .ensures) ∙ c .before .e .given .1 in
     record { reply = reply-refused h _; content = content-refused h _ _ }
 
-enum-told : tie.Need-enum-told
-enum-told c = search needs
-
 word-at-requires : tie.Need-word-at-requires
 word-at-requires c κs = omega (arith, known (c .before) .listed)
 
-mul-word-at : tie.Need-mul-word-at
-mul-word-at c = search needs
-
-add-word-at : tie.Need-add-word-at
-add-word-at c = search needs
-
 word-at-requires-2 : tie.Need-word-at-requires-2
 word-at-requires-2 c κs = omega (arith, known (c .before .before .before) .listed)
-
-mul-word-at-2 : tie.Need-mul-word-at-2
-mul-word-at-2 c = search needs
-
-add-word-at-2 : tie.Need-add-word-at-2
-add-word-at-2 c = search needs
 
 word-at-requires-3 : tie.Need-word-at-requires-3
 word-at-requires-3 c κs = omega (arith, known (c .before .before .before .before .before) .listed)
@@ -94,9 +70,6 @@ close-place-requires c κs =
     let l = ap length (e .clear .ensures) ∙ length-sets b (w .before .before .word-at2 .result) (replicate (w .word-at3 .result) 0) in
     (omega (arith, i .below, counted n), few n, omega (arith, l, valid-says _ (i .whole) .low))
 
-same-length-2 : tie.Need-same-length-2
-same-length-2 c = search needs
-
 returns-2 : tie.Need-returns-2
 unfolding placeAt
 returns-2 c =
@@ -117,20 +90,6 @@ returns-2 c =
 pub remove-spec : {M : Type 1} → statement M
 remove-spec =
     tie.close
-    (tie.spec
-    check-index-requires
-    enum-known-e
-    same-length
-    returns
-    enum-told
-    word-at-requires
-    mul-word-at
-    add-word-at
-    word-at-requires-2
-    mul-word-at-2
-    add-word-at-2
-    word-at-requires-3
-    clear-requires
-    close-place-requires
-    same-length-2
-    returns-2)
+    (tie.spec (λ c κs. search needs) (λ c. search needs) (λ c. search needs) returns (λ c. search needs) word-at-requires
+    (λ c. search needs) (λ c. search needs) word-at-requires-2 (λ c. search needs) (λ c. search needs) word-at-requires-3
+    clear-requires close-place-requires (λ c. search needs) returns-2)

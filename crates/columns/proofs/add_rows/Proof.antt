@@ -23,27 +23,6 @@ abbrev μ-loop : tie.MeasureT-loop
 loop-holds : tie.Need-loop-holds Inv-loop μ-loop
 loop-holds c = filled-none _ _ _ _ (omega arith)
 
-mul-added-row : tie.Need-mul-added-row Inv-loop μ-loop
-mul-added-row c = search needs
-
-shared-slice-read-added-row : tie.Need-shared-slice-read-added-row Inv-loop μ-loop
-shared-slice-read-added-row c = search needs
-
-added-row-requires : tie.Need-added-row-requires Inv-loop μ-loop
-added-row-requires c κs = search needs
-
-mul-out : tie.Need-mul-out Inv-loop μ-loop
-mul-out c = search needs
-
-slice-write-out : tie.Need-slice-write-out Inv-loop μ-loop
-slice-write-out c = search needs
-
-add-x : tie.Need-add-x Inv-loop μ-loop
-add-x c = search needs
-
-loop-less : tie.Need-loop-less Inv-loop μ-loop
-loop-less c = search needs
-
 loop-again : tie.Need-loop-again Inv-loop μ-loop
 loop-again c = filled-more _ _ _ _ _ (c .before .before .before .loop .inv) (omega arith) _ (c .added-row .ensures)
 
@@ -57,17 +36,5 @@ returns c = filled-whole _ _ _ _ _ (c .before .loop .inv) (omega arith)
 pub add-rows-spec : {M : Type 1} → statement M
 add-rows-spec =
     tie.close
-    (tie.spec
-    Inv-loop
-    μ-loop
-    loop-holds
-    mul-added-row
-    shared-slice-read-added-row
-    added-row-requires
-    mul-out
-    slice-write-out
-    add-x
-    loop-less
-    loop-again
-    same-length
-    returns)
+    (tie.spec Inv-loop μ-loop loop-holds (λ c. search needs) (λ c. search needs) (λ c κs. search needs) (λ c. search needs)
+    (λ c. search needs) (λ c. search needs) (λ c. search needs) loop-again same-length returns)

@@ -11,17 +11,8 @@ use Rattle.columns.proofs.Accepted.{accepts}
 use Rattle.columns.proofs.add_to_column.Statement.{statement}
 use Rattle.columns.proofs.add_to_column.Tie as tie
 
-check-addition-requires : tie.Need-check-addition-requires
-check-addition-requires c κs = search needs
-
-enum-known-e : tie.Need-enum-known-e
-enum-known-e c = search needs
-
 returns : tie.Need-returns
 returns c = wrote-refused (sym (c .before .before .before .check-addition .ensures) ∙ c .before .e .given .1)
-
-enum-told : tie.Need-enum-told
-enum-told c = search needs
 
 -- past the `if` the checks found nothing
 accepted : (c : tie.After-enum-told) →
@@ -35,20 +26,10 @@ add-rows-requires c κs =
     let r = accepts (a .n) (a .m) (a .rows .now) (a .j) (a .w) (a .b) (length (a .out .now)) (accepted (c .before)) in
     (r .j-low, r .j-fits, r .b-bit, r .sound .small, r .room-same)
 
-same-length : tie.Need-same-length
-same-length c = search needs
-
 returns-2 : tie.Need-returns-2
 returns-2 c = wrote-accepted (accepted (c .before .before .before .before)) (c .before .before .add-rows .ensures)
 
 pub add-to-column-spec : {M : Type 1} → statement M
 add-to-column-spec =
     tie.close
-    (tie.spec
-    check-addition-requires
-    enum-known-e
-    returns
-    enum-told
-    add-rows-requires
-    same-length
-    returns-2)
+    (tie.spec (λ c κs. search needs) (λ c. search needs) returns (λ c. search needs) add-rows-requires (λ c. search needs) returns-2)

@@ -39,24 +39,12 @@ constant c =
     let a = c .before .before .before .before .before .before .before .before .before .args in
     lt-ltb (a .b) 2 (omega arith)
 
-check-box-requires : tie.Need-check-box-requires
-check-box-requires c κs = search needs
-
-enum-known-e : tie.Need-enum-known-e
-enum-known-e c = search needs
-
 returns : tie.Need-returns
 unfolding additionChecks
 returns c =
     let p = c .before .before .before in
     let a = p .before .before .args in
     found-before (boxChecks (a .n) (a .m) (a .rows .now)) _ (sym (p .check-box .ensures) ∙ c .before .e .given .1)
-
-enum-told : tie.Need-enum-told
-enum-told c = search needs
-
-in-range-requires : tie.Need-in-range-requires
-in-range-requires c κs = search needs
 
 returns-2 : tie.Need-returns-2
 unfolding additionChecks
@@ -98,15 +86,5 @@ returns-6 c =
 pub check-addition-spec : {M : Type 1} → statement M
 check-addition-spec =
     tie.close
-    (tie.spec
-    check-box-requires
-    enum-known-e
-    returns
-    enum-told
-    in-range-requires
-    returns-2
-    power-of-two-requires
-    returns-3
-    returns-4
-    returns-5
-    returns-6)
+    (tie.spec (λ c κs. search needs) (λ c. search needs) returns (λ c. search needs) (λ c κs. search needs) returns-2
+    power-of-two-requires returns-3 returns-4 returns-5 returns-6)

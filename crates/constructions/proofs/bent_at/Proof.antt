@@ -7,9 +7,6 @@ use Rattle.constructions.proofs.BentValues.{Halves, halves, bent-is}
 use Rattle.constructions.proofs.bent_at.Statement.{statement}
 use Rattle.constructions.proofs.bent_at.Tie as tie
 
-power-of-two-requires : tie.Need-power-of-two-requires
-power-of-two-requires c κs = search needs
-
 -- the two halves of the input
 parts : (c : tie.After-power-of-two) → let a = c .before .before .before .args in Halves (a .z) (c .power-of-two .result)
 parts c =
@@ -32,12 +29,6 @@ cast-dot c = record { fits = lt-of-lt-of-le (c .shared-slice-known3 .given _ .fi
 cast-dot-2 : tie.Need-cast-dot-2
 cast-dot-2 c = omega (arith, parts (c .before))
 
-dot-requires : tie.Need-dot-requires
-dot-requires c κs = search needs
-
-cast-result : tie.Need-cast-result
-cast-result c = search needs
-
 shared-slice-read-result : tie.Need-shared-slice-read-result
 shared-slice-read-result c = omega (arith, parts (c .before .before .before))
 
@@ -50,14 +41,5 @@ returns c =
 pub bent-at-spec : {M : Type 1} → statement M
 bent-at-spec =
     tie.close
-    (tie.spec
-    power-of-two-requires
-    div-x
-    rem-y
-    shared-slice-read-dot
-    cast-dot
-    cast-dot-2
-    dot-requires
-    cast-result
-    shared-slice-read-result
-    returns)
+    (tie.spec (λ c κs. search needs) div-x rem-y shared-slice-read-dot cast-dot cast-dot-2 (λ c κs. search needs) (λ c. search needs)
+    shared-slice-read-result returns)

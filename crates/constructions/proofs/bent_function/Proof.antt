@@ -10,17 +10,8 @@ use Rattle.constructions.proofs.Accepted.{bent-accepts}
 use Rattle.constructions.proofs.bent_function.Statement.{statement}
 use Rattle.constructions.proofs.bent_function.Tie as tie
 
-check-bent-requires : tie.Need-check-bent-requires
-check-bent-requires c κs = search needs
-
-enum-known-e : tie.Need-enum-known-e
-enum-known-e c = search needs
-
 returns : tie.Need-returns
 returns c = wrote-refused (sym (c .before .before .before .check-bent .ensures) ∙ c .before .e .given .1)
-
-enum-told : tie.Need-enum-told
-enum-told c = search needs
 
 -- past the `if` the checks found nothing
 accepted : (c : tie.After-enum-told) →
@@ -33,20 +24,10 @@ write-bent-requires c κs =
     let a = c .before .before .before .before .before .before .before .args in
     bent-accepts (a .n) (a .permutation .now) (a .table .now) (length (a .out .now)) (accepted (c .before))
 
-same-length : tie.Need-same-length
-same-length c = search needs
-
 returns-2 : tie.Need-returns-2
 returns-2 c = wrote-accepted (accepted (c .before .before .before .before)) (c .before .before .write-bent .ensures)
 
 pub bent-function-spec : {M : Type 1} → statement M
 bent-function-spec =
     tie.close
-    (tie.spec
-    check-bent-requires
-    enum-known-e
-    returns
-    enum-told
-    write-bent-requires
-    same-length
-    returns-2)
+    (tie.spec (λ c κs. search needs) (λ c. search needs) returns (λ c. search needs) write-bent-requires (λ c. search needs) returns-2)

@@ -9,18 +9,6 @@ use Rattle.constructions.proofs.Enlarging.{enlarged-lt, shifted, row-fi
 use Rattle.constructions.proofs.box_row.Statement.{statement}
 use Rattle.constructions.proofs.box_row.Tie as tie
 
-row-at-requires : tie.Need-row-at-requires
-row-at-requires c κs = search needs
-
-column-at-requires : tie.Need-column-at-requires
-column-at-requires c κs = search needs
-
-cast-result : tie.Need-cast-result
-cast-result c = search needs
-
-shl-result : tie.Need-shl-result
-shl-result c = search needs
-
 -- the two parts of the row are as small as those that they are made of
 row-small : (c : tie.After-column-at) → c .before .row-at .result < 2 ^ c .before .before .before .before .args .n
 row-small c =
@@ -48,10 +36,4 @@ returns c =
 pub box-row-spec : {M : Type 1} → statement M
 box-row-spec =
     tie.close
-    (tie.spec
-    row-at-requires
-    column-at-requires
-    cast-result
-    shl-result
-    add-result
-    returns)
+    (tie.spec (λ c κs. search needs) (λ c κs. search needs) (λ c. search needs) (λ c. search needs) add-result returns)

@@ -3,11 +3,8 @@ use borrow.Author.Needs.{needs}
 use Rattle.constructions.proofs.can_grow.Statement.{statement}
 use Rattle.constructions.proofs.can_grow.Tie as tie
 
-in-range-requires : tie.Need-in-range-requires
-in-range-requires c κs = search needs
-
 returns : tie.Need-returns
 returns c = c .in-range .ensures
 
 pub can-grow-spec : {M : Type 1} → statement M
-can-grow-spec = tie.close (tie.spec in-range-requires returns)
+can-grow-spec = tie.close (tie.spec (λ c κs. search needs) returns)

@@ -49,9 +49,6 @@ permuted c = holds (permuted-answer (c .before)) (c .if5 .left)
 narrow : (c : tie.Else1) → c .before .before .before .before .args .n ≤ 8
 narrow c = let a = c .before .before .before .before .args in range-high 2 8 _ (both (inRange 2 8 (a .n)) (eqb (a .n % 2) 0) (width c) .0)
 
-even-width-requires : tie.Need-even-width-requires
-even-width-requires c κs = search needs
-
 returns : tie.Need-returns
 unfolding bentChecks
 returns c = found (stop (fails (c .before .even-width .ensures) (c .if1 .taken)))
@@ -75,9 +72,6 @@ returns-3 c =
     let p1 = p2 .before .before in
     found (skip (width p1) (skip (permutation-read p2) (stop (fails (c .before .has-inputs2 .ensures) (c .if3 .taken)))))
 
-values-below-requires : tie.Need-values-below-requires
-values-below-requires c κs = search needs
-
 returns-4 : tie.Need-returns-4
 unfolding bentChecks
 returns-4 c =
@@ -89,9 +83,6 @@ returns-4 c =
 
 power-of-two-requires : tie.Need-power-of-two-requires
 power-of-two-requires c κs = omega (arith, narrow (c .before .before .before .before .before .before))
-
-is-permutation-requires : tie.Need-is-permutation-requires
-is-permutation-requires c κs = search needs
 
 returns-5 : tie.Need-returns-5
 unfolding bentChecks
@@ -131,18 +122,5 @@ returns-7 c =
 pub check-bent-spec : {M : Type 1} → statement M
 check-bent-spec =
     tie.close
-    (tie.spec
-    even-width-requires
-    returns
-    has-inputs-requires
-    returns-2
-    has-inputs-requires-2
-    returns-3
-    values-below-requires
-    returns-4
-    power-of-two-requires
-    is-permutation-requires
-    returns-5
-    has-inputs-requires-3
-    returns-6
-    returns-7)
+    (tie.spec (λ c κs. search needs) returns has-inputs-requires returns-2 has-inputs-requires-2 returns-3 (λ c κs. search needs)
+    returns-4 power-of-two-requires (λ c κs. search needs) returns-5 has-inputs-requires-3 returns-6 returns-7)

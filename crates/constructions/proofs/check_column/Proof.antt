@@ -42,9 +42,6 @@ constant c = let a = c .before .before .before .before .before .before .before .
 narrow : (c : tie.Else1) → c .before .before .before .args .n ≤ 7
 narrow c = range-high 1 7 _ (width c)
 
-can-grow-requires : tie.Need-can-grow-requires
-can-grow-requires c κs = search needs
-
 returns : tie.Need-returns
 unfolding columnChecks
 returns c = found (stop (fails (c .before .can-grow .ensures) (c .if1 .taken)))
@@ -58,18 +55,12 @@ returns-2 c =
     let p1 = c .before .before in
     found (skip (width p1) (stop (fails (c .before .has-inputs .ensures) (c .if2 .taken))))
 
-values-below-requires : tie.Need-values-below-requires
-values-below-requires c κs = search needs
-
 returns-3 : tie.Need-returns-3
 unfolding columnChecks
 returns-3 c =
     let p2 = c .before .before in
     let p1 = p2 .before .before in
     found (skip (width p1) (skip (length-read p2) (stop (fails (c .before .values-below .ensures) (c .if3 .taken)))))
-
-in-range-requires : tie.Need-in-range-requires
-in-range-requires c κs = search needs
 
 returns-4 : tie.Need-returns-4
 unfolding columnChecks
@@ -119,17 +110,5 @@ returns-7 c =
 pub check-column-spec : {M : Type 1} → statement M
 check-column-spec =
     tie.close
-    (tie.spec
-    can-grow-requires
-    returns
-    has-inputs-requires
-    returns-2
-    values-below-requires
-    returns-3
-    in-range-requires
-    returns-4
-    returns-5
-    add-has-inputs
-    has-inputs-requires-2
-    returns-6
-    returns-7)
+    (tie.spec (λ c κs. search needs) returns has-inputs-requires returns-2 (λ c κs. search needs) returns-3 (λ c κs. search needs)
+    returns-4 returns-5 add-has-inputs has-inputs-requires-2 returns-6 returns-7)

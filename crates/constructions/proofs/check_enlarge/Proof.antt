@@ -53,9 +53,6 @@ flipped-bit c = holds (c .before .in-range .ensures) (c .if6 .left)
 narrow : (c : tie.Else1) → c .before .before .before .before .args .n ≤ 7
 narrow c = range-high 1 7 _ (width c)
 
-can-grow-requires : tie.Need-can-grow-requires
-can-grow-requires c κs = search needs
-
 returns : tie.Need-returns
 unfolding enlargeChecks
 returns c = found (stop (fails (c .before .can-grow .ensures) (c .if1 .taken)))
@@ -82,9 +79,6 @@ returns-3 c =
 power-of-two-requires : tie.Need-power-of-two-requires
 power-of-two-requires c κs = omega (arith, narrow (c .before .before .before .before))
 
-rows-below-requires : tie.Need-rows-below-requires
-rows-below-requires c κs = search needs
-
 returns-4 : tie.Need-returns-4
 unfolding enlargeChecks
 returns-4 c =
@@ -92,9 +86,6 @@ returns-4 c =
     let p2 = p3 .before .before in
     let p1 = p2 .before .before in
     found (skip (width p1) (skip (rows-read p2) (skip (table-read p3) (stop (fails (rows-answer (c .before)) (c .if4 .taken))))))
-
-values-below-requires : tie.Need-values-below-requires
-values-below-requires c κs = search needs
 
 returns-5 : tie.Need-returns-5
 unfolding enlargeChecks
@@ -105,9 +96,6 @@ returns-5 c =
     let p1 = p2 .before .before in
     found (skip (width p1) (skip (rows-read p2) (skip (table-read p3) (skip (rows-small p4)
     (stop (fails (c .before .values-below .ensures) (c .if5 .taken)))))))
-
-in-range-requires : tie.Need-in-range-requires
-in-range-requires c κs = search needs
 
 returns-6 : tie.Need-returns-6
 unfolding enlargeChecks
@@ -153,21 +141,6 @@ returns-8 c =
 pub check-enlarge-spec : {M : Type 1} → statement M
 check-enlarge-spec =
     tie.close
-    (tie.spec
-    can-grow-requires
-    returns
-    has-inputs-requires
-    returns-2
-    has-inputs-requires-2
-    returns-3
-    power-of-two-requires
-    rows-below-requires
-    returns-4
-    values-below-requires
-    returns-5
-    in-range-requires
-    returns-6
-    add-has-inputs
-    has-inputs-requires-3
-    returns-7
-    returns-8)
+    (tie.spec (λ c κs. search needs) returns has-inputs-requires returns-2 has-inputs-requires-2 returns-3 power-of-two-requires
+    (λ c κs. search needs) returns-4 (λ c κs. search needs) returns-5 (λ c κs. search needs) returns-6 add-has-inputs
+    has-inputs-requires-3 returns-7 returns-8)

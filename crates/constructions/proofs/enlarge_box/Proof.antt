@@ -10,17 +10,8 @@ use Rattle.constructions.proofs.Accepted.{box-accepts}
 use Rattle.constructions.proofs.enlarge_box.Statement.{statement}
 use Rattle.constructions.proofs.enlarge_box.Tie as tie
 
-check-enlarge-requires : tie.Need-check-enlarge-requires
-check-enlarge-requires c κs = search needs
-
-enum-known-e : tie.Need-enum-known-e
-enum-known-e c = search needs
-
 returns : tie.Need-returns
 returns c = wrote-refused (sym (c .before .before .before .check-enlarge .ensures) ∙ c .before .e .given .1)
-
-enum-told : tie.Need-enum-told
-enum-told c = search needs
 
 -- past the `if` the checks found nothing
 accepted : (c : tie.After-enum-told) →
@@ -33,20 +24,10 @@ write-box-requires c κs =
     let a = c .before .before .before .before .before .before .before .args in
     box-accepts (a .n) (a .rows .now) (a .table .now) (a .k) (length (a .out .now)) (accepted (c .before))
 
-same-length : tie.Need-same-length
-same-length c = search needs
-
 returns-2 : tie.Need-returns-2
 returns-2 c = wrote-accepted (accepted (c .before .before .before .before)) (c .before .before .write-box .ensures)
 
 pub enlarge-box-spec : {M : Type 1} → statement M
 enlarge-box-spec =
     tie.close
-    (tie.spec
-    check-enlarge-requires
-    enum-known-e
-    returns
-    enum-told
-    write-box-requires
-    same-length
-    returns-2)
+    (tie.spec (λ c κs. search needs) (λ c. search needs) returns (λ c. search needs) write-box-requires (λ c. search needs) returns-2)

@@ -10,17 +10,8 @@ use Rattle.constructions.proofs.Accepted.{column-accepts}
 use Rattle.constructions.proofs.enlarge_column.Statement.{statement}
 use Rattle.constructions.proofs.enlarge_column.Tie as tie
 
-check-column-requires : tie.Need-check-column-requires
-check-column-requires c κs = search needs
-
-enum-known-e : tie.Need-enum-known-e
-enum-known-e c = search needs
-
 returns : tie.Need-returns
 returns c = wrote-refused (sym (c .before .before .before .check-column .ensures) ∙ c .before .e .given .1)
-
-enum-told : tie.Need-enum-told
-enum-told c = search needs
 
 -- past the `if` the checks found nothing
 accepted : (c : tie.After-enum-told) →
@@ -33,20 +24,11 @@ write-column-requires c κs =
     let a = c .before .before .before .before .before .before .args in
     column-accepts (a .n) (a .table .now) (a .k) (a .a) (length (a .out .now)) (accepted (c .before))
 
-same-length : tie.Need-same-length
-same-length c = search needs
-
 returns-2 : tie.Need-returns-2
 returns-2 c = wrote-accepted (accepted (c .before .before .before .before)) (c .before .before .write-column .ensures)
 
 pub enlarge-column-spec : {M : Type 1} → statement M
 enlarge-column-spec =
     tie.close
-    (tie.spec
-    check-column-requires
-    enum-known-e
-    returns
-    enum-told
-    write-column-requires
-    same-length
+    (tie.spec (λ c κs. search needs) (λ c. search needs) returns (λ c. search needs) write-column-requires (λ c. search needs)
     returns-2)

@@ -7,9 +7,6 @@ use Rattle.constructions.proofs.BentValues.{and-fails, and-holds}
 use Rattle.constructions.proofs.even_width.Statement.{statement}
 use Rattle.constructions.proofs.even_width.Tie as tie
 
-in-range-requires : tie.Need-in-range-requires
-in-range-requires c κs = search needs
-
 returns : tie.Need-returns
 returns c = and-fails (eqb (c .before .before .args .n % 2) 0) (fails (c .before .in-range .ensures) (c .if1 .taken))
 
@@ -19,7 +16,4 @@ returns-2 c = and-holds (eqb (c .before .before .args .n % 2) 0) (holds (c .befo
 pub even-width-spec : {M : Type 1} → statement M
 even-width-spec =
     tie.close
-    (tie.spec
-    in-range-requires
-    returns
-    returns-2)
+    (tie.spec (λ c κs. search needs) returns returns-2)

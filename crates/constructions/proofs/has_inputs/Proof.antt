@@ -5,15 +5,10 @@ use lib.Dec.{eqb}
 use Rattle.constructions.proofs.has_inputs.Statement.{statement}
 use Rattle.constructions.proofs.has_inputs.Tie as tie
 
-power-of-two-requires : tie.Need-power-of-two-requires
-power-of-two-requires c κs = search needs
-
 returns : tie.Need-returns
 returns c = ap (eqb (c .before .args .count)) (c .power-of-two .ensures .0)
 
 pub has-inputs-spec : {M : Type 1} → statement M
 has-inputs-spec =
     tie.close
-    (tie.spec
-    power-of-two-requires
-    returns)
+    (tie.spec (λ c κs. search needs) returns)

@@ -8,15 +8,9 @@ use Rattle.constructions.proofs.BentValues.{and-fails, and-holds}
 use Rattle.constructions.proofs.is_permutation.Statement.{statement}
 use Rattle.constructions.proofs.is_permutation.Tie as tie
 
-values-below-requires : tie.Need-values-below-requires
-values-below-requires c κs = search needs
-
 returns : tie.Need-returns
 unfolding isPermutation
 returns c = and-fails (distinct (c .before .before .before .args .entries .now)) (fails (c .before .values-below .ensures) (c .if1 .taken))
-
-all-distinct-requires : tie.Need-all-distinct-requires
-all-distinct-requires c κs = search needs
 
 returns-2 : tie.Need-returns-2
 unfolding isPermutation
@@ -27,8 +21,4 @@ returns-2 c =
 pub is-permutation-spec : {M : Type 1} → statement M
 is-permutation-spec =
     tie.close
-    (tie.spec
-    values-below-requires
-    returns
-    all-distinct-requires
-    returns-2)
+    (tie.spec (λ c κs. search needs) returns (λ c κs. search needs) returns-2)

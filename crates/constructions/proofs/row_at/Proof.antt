@@ -6,15 +6,6 @@ use Rattle.constructions.proofs.Enlarging.{enlarged-zero}
 use Rattle.constructions.proofs.row_at.Statement.{statement}
 use Rattle.constructions.proofs.row_at.Tie as tie
 
-source-requires : tie.Need-source-requires
-source-requires c κs = search needs
-
-mul-result : tie.Need-mul-result
-mul-result c = search needs
-
-shared-slice-read-result : tie.Need-shared-slice-read-result
-shared-slice-read-result c = search needs
-
 returns : tie.Need-returns
 returns c =
     let a = c .before .before .before .args in
@@ -23,8 +14,4 @@ returns c =
 pub row-at-spec : {M : Type 1} → statement M
 row-at-spec =
     tie.close
-    (tie.spec
-    source-requires
-    mul-result
-    shared-slice-read-result
-    returns)
+    (tie.spec (λ c κs. search needs) (λ c. search needs) (λ c. search needs) returns)

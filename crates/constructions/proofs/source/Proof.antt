@@ -8,19 +8,10 @@ use Rattle.constructions.proofs.Enlarging.{source-lower, source-upper, 
 use Rattle.constructions.proofs.source.Statement.{statement}
 use Rattle.constructions.proofs.source.Tie as tie
 
-power-of-two-requires : tie.Need-power-of-two-requires
-power-of-two-requires c κs = search needs
-
 returns : tie.Need-returns
 returns c =
     let a = c .before .before .args in
     (source-lower (a .n) (a .k) (a .x) (omega arith), omega arith)
-
-sub-power-of-two : tie.Need-sub-power-of-two
-sub-power-of-two c = search needs
-
-power-of-two-requires-2 : tie.Need-power-of-two-requires-2
-power-of-two-requires-2 c κs = search needs
 
 -- what is returned in the upper half, with both powers as the definitions have them
 flipped : (c : tie.After-power-of-two2) →
@@ -40,9 +31,4 @@ returns-2 c =
 pub source-spec : {M : Type 1} → statement M
 source-spec =
     tie.close
-    (tie.spec
-    power-of-two-requires
-    returns
-    sub-power-of-two
-    power-of-two-requires-2
-    returns-2)
+    (tie.spec (λ c κs. search needs) returns (λ c. search needs) (λ c κs. search needs) returns-2)

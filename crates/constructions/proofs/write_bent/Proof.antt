@@ -27,9 +27,6 @@ bent-at-requires c κs =
 slice-write-out : tie.Need-slice-write-out Inv-loop μ-loop
 slice-write-out c = omega (arith, c .before .before .loop .inv .long)
 
-add-z : tie.Need-add-z Inv-loop μ-loop
-add-z c = search needs
-
 loop-less : tie.Need-loop-less Inv-loop μ-loop
 loop-less c = omega (arith, c .before .before .loop .inv .long)
 
@@ -46,14 +43,4 @@ returns c = filled-whole _ _ _ _ _ (c .before .loop .inv) (omega (arith, c .befo
 pub write-bent-spec : {M : Type 1} → statement M
 write-bent-spec =
     tie.close
-    (tie.spec
-    Inv-loop
-    μ-loop
-    loop-holds
-    bent-at-requires
-    slice-write-out
-    add-z
-    loop-less
-    loop-again
-    same-length
-    returns)
+    (tie.spec Inv-loop μ-loop loop-holds bent-at-requires slice-write-out (λ c. search needs) loop-less loop-again same-length returns)

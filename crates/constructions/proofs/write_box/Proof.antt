@@ -20,14 +20,8 @@ loop-holds c = filled-none _ _ _ _ (omega arith)
 box-row-requires : tie.Need-box-row-requires Inv-loop μ-loop
 box-row-requires c κs = (c .before .before .before .before .before .pre .0, omega (arith, c .before .loop .inv .long))
 
-mul-out : tie.Need-mul-out Inv-loop μ-loop
-mul-out c = search needs
-
 slice-write-out : tie.Need-slice-write-out Inv-loop μ-loop
 slice-write-out c = omega (arith, c .before .before .loop .inv .long)
-
-add-x : tie.Need-add-x Inv-loop μ-loop
-add-x c = search needs
 
 loop-less : tie.Need-loop-less Inv-loop μ-loop
 loop-less c = omega (arith, c .before .before .loop .inv .long)
@@ -45,15 +39,5 @@ returns c = filled-whole _ _ _ _ _ (c .before .loop .inv) (omega (arith, c .befo
 pub write-box-spec : {M : Type 1} → statement M
 write-box-spec =
     tie.close
-    (tie.spec
-    Inv-loop
-    μ-loop
-    loop-holds
-    box-row-requires
-    mul-out
-    slice-write-out
-    add-x
-    loop-less
-    loop-again
-    same-length
-    returns)
+    (tie.spec Inv-loop μ-loop loop-holds box-row-requires (λ c. search needs) slice-write-out (λ c. search needs) loop-less loop-again
+    same-length returns)

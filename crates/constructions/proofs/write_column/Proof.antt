@@ -23,9 +23,6 @@ column-at-requires c κs = (c .before .before .before .before .pre .0, omega (ar
 slice-write-out : tie.Need-slice-write-out Inv-loop μ-loop
 slice-write-out c = omega (arith, c .before .before .loop .inv .long)
 
-add-x : tie.Need-add-x Inv-loop μ-loop
-add-x c = search needs
-
 loop-less : tie.Need-loop-less Inv-loop μ-loop
 loop-less c = omega (arith, c .before .before .loop .inv .long)
 
@@ -42,14 +39,5 @@ returns c = filled-whole _ _ _ _ _ (c .before .loop .inv) (omega (arith, c .befo
 pub write-column-spec : {M : Type 1} → statement M
 write-column-spec =
     tie.close
-    (tie.spec
-    Inv-loop
-    μ-loop
-    loop-holds
-    column-at-requires
-    slice-write-out
-    add-x
-    loop-less
-    loop-again
-    same-length
+    (tie.spec Inv-loop μ-loop loop-holds column-at-requires slice-write-out (λ c. search needs) loop-less loop-again same-length
     returns)

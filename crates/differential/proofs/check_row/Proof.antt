@@ -36,21 +36,12 @@ difference-test c =
     let a = p .before .before .before .before .before .args in
     c .in-range .ensures ∙ ap (λ (k : ℕ). inRange 1 (k - 1) (a .a)) (p .power-of-two .ensures .0)
 
-check-box-up-to-requires : tie.Need-check-box-up-to-requires
-check-box-up-to-requires c κs = search needs
-
-enum-known-e : tie.Need-enum-known-e
-enum-known-e c = search needs
-
 returns : tie.Need-returns
 unfolding rowChecks
 returns c =
     let p = c .before .before .before in
     let a = p .before .before .args in
     found-before (boxChecksUpTo 16 (a .n) (a .m) (a .rows .now)) _ (sym (p .check-box-up-to .ensures) ∙ c .before .e .given .1)
-
-enum-told : tie.Need-enum-told
-enum-told c = search needs
 
 power-of-two-requires : tie.Need-power-of-two-requires
 power-of-two-requires c κs = omega (arith, the-box c .n-high)
@@ -60,9 +51,6 @@ cast-inputs c = let b = the-box (c .before) in omega (arith, c .power-of-two .en
 
 sub-in-range : tie.Need-sub-in-range
 sub-in-range c = omega (arith, c .power-of-two .ensures .0, pow-pos (c .before .before .before .before .before .args .n))
-
-in-range-requires : tie.Need-in-range-requires
-in-range-requires c κs = search needs
 
 returns-2 : tie.Need-returns-2
 unfolding rowChecks
@@ -88,16 +76,5 @@ returns-4 c =
 pub check-row-spec : {M : Type 1} → statement M
 check-row-spec =
     tie.close
-    (tie.spec
-    check-box-up-to-requires
-    enum-known-e
-    returns
-    enum-told
-    power-of-two-requires
-    cast-inputs
-    sub-in-range
-    in-range-requires
-    returns-2
-    power-of-two-requires-2
-    returns-3
-    returns-4)
+    (tie.spec (λ c κs. search needs) (λ c. search needs) returns (λ c. search needs) power-of-two-requires cast-inputs sub-in-range
+    (λ c κs. search needs) returns-2 power-of-two-requires-2 returns-3 returns-4)

@@ -28,10 +28,5 @@ sweep-cells-requires c κs =
 pub find-wide-spec : {M : Type 1} → statement M
 find-wide-spec =
     tie.close
-    (tie.spec
-    (λ c. search needs)
-    slice-aggregate-sweep-cells
-    (λ c. search needs)
-    sweep-cells-requires
-    (λ c. search needs)
+    (tie.spec (λ c. search needs) slice-aggregate-sweep-cells (λ c. search needs) sweep-cells-requires (λ c. search needs)
     (λ c. search needs))

@@ -10,17 +10,8 @@ use Rattle.refusals.proofs.Checks.{box, reply-refused, reply-accepted}
 use Rattle.differential.proofs.largest_cell.Statement.{statement}
 use Rattle.differential.proofs.largest_cell.Tie as tie
 
-check-box-requires : tie.Need-check-box-requires
-check-box-requires c κs = search needs
-
-enum-known-e : tie.Need-enum-known-e
-enum-known-e c = search needs
-
 returns : tie.Need-returns
 returns c = reply-refused (sym (c .before .before .before .check-box .ensures) ∙ c .before .e .given .1) _
-
-enum-told : tie.Need-enum-told
-enum-told c = search needs
 
 -- accepted: the rows are a box
 accepted : (c : tie.After-enum-told) → let a = c .before .before .before .before .args in first (boxChecks (a .n) (a .m) (a .rows .now)) ≡ Accepted
@@ -35,4 +26,4 @@ returns-2 c = ap (λ (k : Candidate). figures (shown k)) (c .before .find-larges
 pub largest-cell-spec : {M : Type 1} → statement M
 largest-cell-spec =
     tie.close
-    (tie.spec check-box-requires enum-known-e returns enum-told (λ c. search needs) find-largest-requires returns-2)
+    (tie.spec (λ c κs. search needs) (λ c. search needs) returns (λ c. search needs) (λ c. search needs) find-largest-requires returns-2)

@@ -60,16 +60,5 @@ returns c =
 pub largest-risen-spec : {M : Type 1} → statement M
 largest-risen-spec =
     tie.close
-    (tie.spec
-    Inv-loop
-    μ-loop
-    (λ c. search needs)
-    (λ c. search needs)
-    loop-holds
-    rise-requires
-    (λ c. search needs)
-    (λ c. search needs)
-    loop-again
-    sub-result
-    same-length
-    returns)
+    (tie.spec Inv-loop μ-loop (λ c. search needs) (λ c. search needs) loop-holds rise-requires (λ c. search needs) (λ c. search needs)
+    loop-again sub-result same-length returns)

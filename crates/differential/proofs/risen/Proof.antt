@@ -39,35 +39,11 @@ other-few c =
     let differences = start .args .differences .now in
     omega (arith, other-risen c, occurs-le differences (start .args .y + 1) (at differences (start .args .y)), start .pre .1, start .pre .2)
 
-mul-beta : tie.Need-mul-beta
-mul-beta c = search needs
-
-shared-slice-read-beta : tie.Need-shared-slice-read-beta
-shared-slice-read-beta c = search needs
-
-mul-none : tie.Need-mul-none
-mul-none c = search needs
-
-add-none : tie.Need-add-none
-add-none c = search needs
-
 cast-none : tie.Need-cast-none
 cast-none c = omega (arith, small c)
 
 sub-none : tie.Need-sub-none
 sub-none c = omega (arith, small c)
-
-cast-slot : tie.Need-cast-slot
-cast-slot c = search needs
-
-mul-larger : tie.Need-mul-larger
-mul-larger c = search needs
-
-slice-read-larger : tie.Need-slice-read-larger
-slice-read-larger c = search needs
-
-larger-requires : tie.Need-larger-requires
-larger-requires c κs = search needs
 
 sub-if1 : tie.Need-sub-if1
 sub-if1 c = held-least (c .before .before .before .before .before .pre .3) (small (c .before .before)) (c .larger .ensures)
@@ -77,15 +53,6 @@ add-standing c =
     let larger = c .before in
     let start = larger .before .before .before .before .before in
     omega (arith, held-fits (start .pre .3) (small (larger .before .before)) (larger .larger .ensures), start .pre .0, start .pre .1, start .pre .2)
-
-mul-slots : tie.Need-mul-slots
-mul-slots c = search needs
-
-slice-write-slots : tie.Need-slice-write-slots
-slice-write-slots c = search needs
-
-same-length : tie.Need-same-length
-same-length c = search needs
 
 returns : tie.Need-returns
 returns c =
@@ -99,12 +66,6 @@ slice-aggregate-count-equal c = sym (part-length (c .before))
 
 count-equal-requires : tie.Need-count-equal-requires
 count-equal-requires c κs = let start = c .before .before .before .before .before .before .before in omega (arith, part-length (c .before), start .pre .1, start .pre .2)
-
-cast-before : tie.Need-cast-before
-cast-before c = search needs
-
-add-result : tie.Need-add-result
-add-result c = search needs
 
 mul-result : tie.Need-mul-result
 mul-result c = omega (arith, other-few c)
@@ -122,27 +83,7 @@ returns-2 c =
 pub risen-spec : {M : Type 1} → statement M
 risen-spec =
     tie.close
-    (tie.spec
-    mul-beta
-    shared-slice-read-beta
-    mul-none
-    add-none
-    cast-none
-    sub-none
-    cast-slot
-    mul-larger
-    slice-read-larger
-    larger-requires
-    sub-if1
-    add-standing
-    mul-slots
-    slice-write-slots
-    same-length
-    returns
-    slice-aggregate-count-equal
-    count-equal-requires
-    cast-before
-    add-result
-    mul-result
-    add-result-2
-    returns-2)
+    (tie.spec (λ c. search needs) (λ c. search needs) (λ c. search needs) (λ c. search needs) cast-none sub-none (λ c. search needs)
+    (λ c. search needs) (λ c. search needs) (λ c κs. search needs) sub-if1 add-standing (λ c. search needs) (λ c. search needs)
+    (λ c. search needs) returns slice-aggregate-count-equal count-equal-requires (λ c. search needs) (λ c. search needs) mul-result
+    add-result-2 returns-2)

@@ -19,12 +19,6 @@ abbrev μ-loop : tie.MeasureT-loop
 loop-holds : tie.Need-loop-holds Inv-loop μ-loop
 loop-holds c = filled-none 0 _ _ (c .args .differences .now) (c .pre .1)
 
-mul-differences : tie.Need-mul-differences Inv-loop μ-loop
-mul-differences c = search needs
-
-shared-slice-read-differences : tie.Need-shared-slice-read-differences Inv-loop μ-loop
-shared-slice-read-differences c = search needs
-
 mul-differences-2 : tie.Need-mul-differences-2 Inv-loop μ-loop
 mul-differences-2 c =
     let at-loop = c .before .before in
@@ -34,18 +28,6 @@ shared-slice-read-differences-2 : tie.Need-shared-slice-read-differences-2 Inv-l
 shared-slice-read-differences-2 c =
     let at-loop = c .before .before .before in
     omega (arith, at-loop .before .pre .0 (at-loop .loop .x) (c .before .before .loop-test .taken))
-
-mul-differences-3 : tie.Need-mul-differences-3 Inv-loop μ-loop
-mul-differences-3 c = search needs
-
-slice-write-differences : tie.Need-slice-write-differences Inv-loop μ-loop
-slice-write-differences c = search needs
-
-add-x : tie.Need-add-x Inv-loop μ-loop
-add-x c = search needs
-
-loop-less : tie.Need-loop-less Inv-loop μ-loop
-loop-less c = search needs
 
 loop-again : tie.Need-loop-again Inv-loop μ-loop
 unfolding difference
@@ -67,18 +49,5 @@ returns c =
 pub write-differences-spec : {M : Type 1} → statement M
 write-differences-spec =
     tie.close
-    (tie.spec
-    Inv-loop
-    μ-loop
-    loop-holds
-    mul-differences
-    shared-slice-read-differences
-    mul-differences-2
-    shared-slice-read-differences-2
-    mul-differences-3
-    slice-write-differences
-    add-x
-    loop-less
-    loop-again
-    same-length
-    returns)
+    (tie.spec Inv-loop μ-loop loop-holds (λ c. search needs) (λ c. search needs) mul-differences-2 shared-slice-read-differences-2
+    (λ c. search needs) (λ c. search needs) (λ c. search needs) (λ c. search needs) loop-again same-length returns)

@@ -19,12 +19,6 @@ Inv-loop rows a pairs₀ top y₀ pairs y = Filled 0 (λ y. difference rows a (l
 abbrev μ-loop : tie.MeasureT-loop
 μ-loop rows a pairs₀ top y₀ pairs y = length pairs₀ - y
 
-highest-bit-requires : tie.Need-highest-bit-requires Inv-loop μ-loop
-highest-bit-requires c κs = search needs
-
-cast-top : tie.Need-cast-top Inv-loop μ-loop
-cast-top c = search needs
-
 loop-holds : tie.Need-loop-holds Inv-loop μ-loop
 loop-holds c = filled-none 0 _ _ _ refl
 
@@ -63,9 +57,6 @@ mul-pairs-3 c = omega (arith, in-pairs (c .before .before))
 slice-write-pairs : tie.Need-slice-write-pairs Inv-loop μ-loop
 slice-write-pairs c = c .before .before .loop-test .taken
 
-add-y : tie.Need-add-y Inv-loop μ-loop
-add-y c = search needs
-
 loop-less : tie.Need-loop-less Inv-loop μ-loop
 loop-less c = omega (arith, in-pairs (c .before .before))
 
@@ -100,23 +91,6 @@ returns c =
 pub write-pairs-spec : {M : Type 1} → statement M
 write-pairs-spec =
     tie.close
-    (tie.spec
-    Inv-loop
-    μ-loop
-    highest-bit-requires
-    cast-top
-    loop-holds
-    mul-x
-    sub-x
-    sub-x-2
-    mul-pairs
-    shared-slice-read-pairs
-    mul-pairs-2
-    shared-slice-read-pairs-2
-    mul-pairs-3
-    slice-write-pairs
-    add-y
-    loop-less
-    loop-again
-    same-length
-    returns)
+    (tie.spec Inv-loop μ-loop (λ c κs. search needs) (λ c. search needs) loop-holds mul-x sub-x sub-x-2 mul-pairs
+    shared-slice-read-pairs mul-pairs-2 shared-slice-read-pairs-2 mul-pairs-3 slice-write-pairs (λ c. search needs) loop-less
+    loop-again same-length returns)

@@ -12,9 +12,6 @@ write-differences-requires c κs =
     let pre = c .before .before .before .before .pre in
     (box-inside (pre .0 .box) (pre .1), pre .0 .size ∙ sym (pre .0 .box .size))
 
-clear-requires : tie.Need-clear-requires
-clear-requires c κs = search needs
-
 count-values-requires : tie.Need-count-values-requires
 count-values-requires c κs =
     let cleared = c .before .before .before .before in
@@ -23,12 +20,6 @@ count-values-requires c κs =
     let box = start .pre .0 .box in
     let values = differences-ready box (start .args .a) (written .write-differences .ensures) in
     tally-ready _ (start .pre .2) (cleared .clear .ensures) (values .0) (values .1)
-
-same-length : tie.Need-same-length
-same-length c = search needs
-
-same-length-2 : tie.Need-same-length-2
-same-length-2 c = search needs
 
 returns : tie.Need-returns
 returns c =
@@ -45,10 +36,4 @@ returns c =
 pub write-row-spec : {M : Type 1} → statement M
 write-row-spec =
     tie.close
-    (tie.spec
-    write-differences-requires
-    clear-requires
-    count-values-requires
-    same-length
-    same-length-2
-    returns)
+    (tie.spec write-differences-requires (λ c κs. search needs) count-values-requires (λ c. search needs) (λ c. search needs) returns)

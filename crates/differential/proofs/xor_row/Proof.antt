@@ -18,17 +18,8 @@ use Rattle.differential.specs.Calls.{rowChecks}
 use Rattle.differential.proofs.xor_row.Statement.{statement}
 use Rattle.differential.proofs.xor_row.Tie as tie
 
-check-row-requires : tie.Need-check-row-requires
-check-row-requires c κs = search needs
-
-enum-known-e : tie.Need-enum-known-e
-enum-known-e c = search needs
-
 returns : tie.Need-returns
 returns c = wrote-refused (sym (c .before .before .before .check-row .ensures) ∙ c .before .e .given .1)
-
-enum-told : tie.Need-enum-told
-enum-told c = search needs
 
 -- accepted: a box, an input difference, and an array that is as long as a row
 module _ (n m : ℕ) (rows : List ℕ) (a room : ℕ) (h : first (rowChecks n m rows a room) ≡ Accepted) where
@@ -71,9 +62,6 @@ write-row-requires c κs =
       the-room _ _ _ _ _ (accepted told),
     )
 
-same-length : tie.Need-same-length
-same-length c = search needs
-
 returns-2 : tie.Need-returns-2
 returns-2 c =
     let p = c .before .before .before in
@@ -82,13 +70,5 @@ returns-2 c =
 pub xor-row-spec : {M : Type 1} → statement M
 xor-row-spec =
     tie.close
-    (tie.spec
-    check-row-requires
-    enum-known-e
-    returns
-    enum-told
-    array-borrow-prefix-differences
-    slice-aggregate-write-row
-    write-row-requires
-    same-length
-    returns-2)
+    (tie.spec (λ c κs. search needs) (λ c. search needs) returns (λ c. search needs) array-borrow-prefix-differences
+    slice-aggregate-write-row write-row-requires (λ c. search needs) returns-2)

@@ -7,20 +7,8 @@ use borrow.Author.Needs.{needs}
 use Rattle.fetched.proofs.show_file.Statement.{statement}
 use Rattle.fetched.proofs.show_file.Tie as tie
 
-room-of-requires : tie.Need-room-of-requires
-room-of-requires c κs = search needs
-
-array-borrow-prefix-rows : tie.Need-array-borrow-prefix-rows
-array-borrow-prefix-rows c = search needs
-
 slice-aggregate-read-box : tie.Need-slice-aggregate-read-box
 slice-aggregate-read-box c = sym (length-take-le _ _ (c .before .room-of .ensures .1))
-
-read-box-requires : tie.Need-read-box-requires
-read-box-requires c κs = search needs
-
-enum-known-n : tie.Need-enum-known-n
-enum-known-n c = search needs
 
 -- what came back is as long as what was lent
 long : (c : tie.After-read-box) → length (c .read-box .last .1 .0) ≡ c .before .before .room-of .result
@@ -36,34 +24,9 @@ slice-aggregate-show-box c =
     let p = c .before .before .before .before .before in
     sym (ap length (part-is (p .read-box .last .1 .0) _ _ (long p)) ∙ long p)
 
-show-box-requires : tie.Need-show-box-requires
-show-box-requires c κs = search needs
-
-enum-known-e : tie.Need-enum-known-e
-enum-known-e c = search needs
-
-write-refused-requires : tie.Need-write-refused-requires
-write-refused-requires c κs = search needs
-
-returns : tie.Need-returns
-returns c = search needs
-
-returns-2 : tie.Need-returns-2
-returns-2 c = search needs
-
 pub show-file-spec : {M : Type 1} → statement M
 show-file-spec =
     tie.close
-    (tie.spec
-    room-of-requires
-    array-borrow-prefix-rows
-    slice-aggregate-read-box
-    read-box-requires
-    enum-known-n
-    array-share-prefix-rows
-    slice-aggregate-show-box
-    show-box-requires
-    enum-known-e
-    write-refused-requires
-    returns
-    returns-2)
+    (tie.spec (λ c κs. search needs) (λ c. search needs) slice-aggregate-read-box (λ c κs. search needs) (λ c. search needs)
+    array-share-prefix-rows slice-aggregate-show-box (λ c κs. search needs) (λ c. search needs) (λ c κs. search needs)
+    (λ c. search needs) (λ c. search needs))

@@ -37,12 +37,6 @@ mask-test c =
     let a = p .before .before .before .before .before .args in
     c .in-range .ensures ∙ ap (λ (k : ℕ). inRange 1 (k - 1) (a .c)) (p .power-of-two .ensures .0)
 
-check-box-requires : tie.Need-check-box-requires
-check-box-requires c κs = search needs
-
-enum-known-e : tie.Need-enum-known-e
-enum-known-e c = search needs
-
 returns : tie.Need-returns
 unfolding componentChecks
 returns c =
@@ -50,20 +44,11 @@ returns c =
     let a = p .before .before .args in
     found-before (boxChecks (a .n) (a .m) (a .rows .now)) _ (sym (p .check-box .ensures) ∙ c .before .e .given .1)
 
-enum-told : tie.Need-enum-told
-enum-told c = search needs
-
 power-of-two-requires : tie.Need-power-of-two-requires
 power-of-two-requires c κs = the-box c .m-high
 
 sub-masks : tie.Need-sub-masks
 sub-masks c = omega (arith, c .power-of-two .ensures .0, pow-pos (c .before .before .before .before .before .args .m))
-
-cast-in-range : tie.Need-cast-in-range
-cast-in-range c = search needs
-
-in-range-requires : tie.Need-in-range-requires
-in-range-requires c κs = search needs
 
 returns-2 : tie.Need-returns-2
 unfolding componentChecks
@@ -89,16 +74,5 @@ returns-4 c =
 pub check-component-spec : {M : Type 1} → statement M
 check-component-spec =
     tie.close
-    (tie.spec
-    check-box-requires
-    enum-known-e
-    returns
-    enum-told
-    power-of-two-requires
-    sub-masks
-    cast-in-range
-    in-range-requires
-    returns-2
-    power-of-two-requires-2
-    returns-3
-    returns-4)
+    (tie.spec (λ c κs. search needs) (λ c. search needs) returns (λ c. search needs) power-of-two-requires sub-masks
+    (λ c. search needs) (λ c κs. search needs) returns-2 power-of-two-requires-2 returns-3 returns-4)

@@ -8,17 +8,11 @@ use Rattle.linear.proofs.Nearest.{values-nonempty, largest-le, least-fi
 use Rattle.linear.proofs.component_count.Statement.{statement}
 use Rattle.linear.proofs.component_count.Tie as tie
 
-component-spectrum-requires : tie.Need-component-spectrum-requires
-component-spectrum-requires c κs = search needs
-
 largest-magnitude-requires : tie.Need-largest-magnitude-requires
 largest-magnitude-requires c κs =
     let made = c .before .before .before .before in
     let a = made .before .before .before .before .before .args in
     values-nonempty (a .n) (a .rows .now) (a .c) (made .component-spectrum .ensures .0)
-
-cast-result : tie.Need-cast-result
-cast-result c = search needs
 
 sub-result : tie.Need-sub-result
 sub-result c =
@@ -26,12 +20,6 @@ sub-result c =
     let start = made .before .before .before .before .before in
     let a = start .args in
     omega (arith, start .pre .0 .box .size, largest-le (a .n) (a .rows .now) (a .c) (made .component-spectrum .ensures .0) (start .pre .0 .box .n-low) (c .largest-magnitude .ensures))
-
-same-length : tie.Need-same-length
-same-length c = search needs
-
-same-length-2 : tie.Need-same-length-2
-same-length-2 c = search needs
 
 returns : tie.Need-returns
 returns c =
@@ -47,11 +35,5 @@ returns c =
 pub component-count-spec : {M : Type 1} → statement M
 component-count-spec =
     tie.close
-    (tie.spec
-    component-spectrum-requires
-    largest-magnitude-requires
-    cast-result
-    sub-result
-    same-length
-    same-length-2
+    (tie.spec (λ c κs. search needs) largest-magnitude-requires (λ c. search needs) sub-result (λ c. search needs) (λ c. search needs)
     returns)

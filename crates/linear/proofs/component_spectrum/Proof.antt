@@ -5,9 +5,6 @@ use Rattle.linear.proofs.Components.{written-is, written-ready, written
 use Rattle.linear.proofs.component_spectrum.Statement.{statement}
 use Rattle.linear.proofs.component_spectrum.Tie as tie
 
-write-component-requires : tie.Need-write-component-requires
-write-component-requires c κs = search needs
-
 descend-requires : tie.Need-descend-requires
 descend-requires c κs =
     let w = c .before .before .before .before in
@@ -16,12 +13,6 @@ descend-requires c κs =
       written-ready (a .n) (a .rows .now) (a .c) (a .m) (start .pre .0 .box) _ (w .write-component .ensures) _ (start .pre .0 .out-size),
       start .pre .1,
     )
-
-same-length : tie.Need-same-length
-same-length c = search needs
-
-same-length-2 : tie.Need-same-length-2
-same-length-2 c = search needs
 
 returns : tie.Need-returns
 returns c =
@@ -36,4 +27,4 @@ returns c =
 pub component-spectrum-spec : {M : Type 1} → statement M
 component-spectrum-spec =
     tie.close
-    (tie.spec write-component-requires descend-requires same-length same-length-2 returns)
+    (tie.spec (λ c κs. search needs) descend-requires (λ c. search needs) (λ c. search needs) returns)

@@ -26,9 +26,6 @@ mul-magnitude c = let h = ahead-inside (c .loop .inv) in omega arith
 shared-slice-copy-out-magnitude : tie.Need-shared-slice-copy-out-magnitude Inv-loop μ-loop
 shared-slice-copy-out-magnitude c = ahead-inside (c .loop .inv)
 
-magnitude-requires : tie.Need-magnitude-requires Inv-loop μ-loop
-magnitude-requires c κs = search needs
-
 -- the value that is read, and its magnitude
 abbrev value : tie.After-magnitude Inv-loop μ-loop → ℤ
 value c = let at-loop = c .before .before in valueAt (at-loop .before .args .values .now) (at-loop .loop .w)
@@ -51,14 +48,5 @@ returns c = ahead-found (c .before .before .before .loop .inv) (sym (read (c .be
 pub first-place-spec : {M : Type 1} → statement M
 first-place-spec =
     tie.close
-    (tie.spec
-    Inv-loop
-    μ-loop
-    loop-holds
-    mul-magnitude
-    shared-slice-copy-out-magnitude
-    magnitude-requires
-    add-w
-    loop-less
-    loop-again
-    returns)
+    (tie.spec Inv-loop μ-loop loop-holds mul-magnitude shared-slice-copy-out-magnitude (λ c κs. search needs) add-w loop-less
+    loop-again returns)

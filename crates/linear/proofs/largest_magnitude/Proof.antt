@@ -18,31 +18,10 @@ Inv-loop values largest₀ w₀ largest w = Leading values w largest
 abbrev μ-loop : tie.MeasureT-loop
 μ-loop values largest₀ w₀ largest w = length values - w
 
-shared-slice-copy-out-magnitude : tie.Need-shared-slice-copy-out-magnitude Inv-loop μ-loop
-shared-slice-copy-out-magnitude c = search needs
-
-magnitude-requires : tie.Need-magnitude-requires Inv-loop μ-loop
-magnitude-requires c κs = search needs
-
 loop-holds : tie.Need-loop-holds Inv-loop μ-loop
 loop-holds c =
     leading-one _ _ (c .before .before .pre)
     (c .magnitude .ensures ∙ ap natAbs (word-told (valueAt (c .before .before .args .values .now) 0) (c .before .magnitude-arg .given)))
-
-mul-magnitude : tie.Need-mul-magnitude Inv-loop μ-loop
-mul-magnitude c = search needs
-
-shared-slice-copy-out-magnitude-2 : tie.Need-shared-slice-copy-out-magnitude-2 Inv-loop μ-loop
-shared-slice-copy-out-magnitude-2 c = search needs
-
-magnitude-requires-2 : tie.Need-magnitude-requires-2 Inv-loop μ-loop
-magnitude-requires-2 c κs = search needs
-
-add-w : tie.Need-add-w Inv-loop μ-loop
-add-w c = search needs
-
-loop-less : tie.Need-loop-less Inv-loop μ-loop
-loop-less c = search needs
 
 -- the value that is read, and its magnitude
 abbrev value : tie.After-magnitude2 Inv-loop μ-loop → ℤ
@@ -64,16 +43,5 @@ returns c = leading-all (c .before .loop .inv) (c .loop-test .left)
 pub largest-magnitude-spec : {M : Type 1} → statement M
 largest-magnitude-spec =
     tie.close
-    (tie.spec
-    Inv-loop
-    μ-loop
-    shared-slice-copy-out-magnitude
-    magnitude-requires
-    loop-holds
-    mul-magnitude
-    shared-slice-copy-out-magnitude-2
-    magnitude-requires-2
-    add-w
-    loop-less
-    loop-again
-    returns)
+    (tie.spec Inv-loop μ-loop (λ c. search needs) (λ c κs. search needs) loop-holds (λ c. search needs) (λ c. search needs)
+    (λ c κs. search needs) (λ c. search needs) (λ c. search needs) loop-again returns)

@@ -5,9 +5,6 @@ use borrow.Author.Needs.{needs}
 use Rattle.linear.proofs.next_spectrum.Statement.{statement}
 use Rattle.linear.proofs.next_spectrum.Tie as tie
 
-next-component-requires : tie.Need-next-component-requires
-next-component-requires c κs = search needs
-
 descend-requires : tie.Need-descend-requires
 descend-requires c κs =
     let next = c .before .before .before .before in
@@ -16,12 +13,6 @@ descend-requires c κs =
       written-ready (a .n) (a .rows .now) (a .c) (a .m) (start .pre .0 .box) _ (next .next-component .ensures) _ (start .pre .0 .out-size),
       start .pre .1,
     )
-
-same-length : tie.Need-same-length
-same-length c = search needs
-
-same-length-2 : tie.Need-same-length-2
-same-length-2 c = search needs
 
 returns : tie.Need-returns
 returns c =
@@ -35,4 +26,4 @@ returns c =
 
 pub next-spectrum-spec : {M : Type 1} → statement M
 next-spectrum-spec =
-    tie.close (tie.spec next-component-requires descend-requires same-length same-length-2 returns)
+    tie.close (tie.spec (λ c κs. search needs) descend-requires (λ c. search needs) (λ c. search needs) returns)

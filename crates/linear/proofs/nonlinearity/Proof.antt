@@ -11,17 +11,8 @@ use Rattle.masks.proofs.Boxes.{steps-few}
 use Rattle.linear.proofs.nonlinearity.Statement.{statement}
 use Rattle.linear.proofs.nonlinearity.Tie as tie
 
-check-limited-requires : tie.Need-check-limited-requires
-check-limited-requires c κs = search needs
-
-enum-known-e : tie.Need-enum-known-e
-enum-known-e c = search needs
-
 returns : tie.Need-returns
 returns c = reply-refused (sym (c .before .before .before .check-limited .ensures) ∙ c .before .e .given .1) _
-
-enum-told : tie.Need-enum-told
-enum-told c = search needs
 
 -- accepted: the rows are a box, and the limit is one of it
 accepted : (c : tie.After-enum-told) → let a = c .before .before .before .before .args in first (limitChecks (a .n) (a .m) (a .rows .now) (a .i)) ≡ Accepted
@@ -32,9 +23,6 @@ within c = let a = c .before .before .before .before .args in limited (a .n) (a 
 
 boxed : (c : tie.After-enum-told) → let a = c .before .before .before .before .args in Box (a .n) (a .m) (a .rows .now)
 boxed c = within c .box
-
-spectra-requires : tie.Need-spectra-requires
-spectra-requires c κs = search needs
 
 mul-total : tie.Need-mul-total
 mul-total c = omega (arith, steps-few (boxed (c .before)))
@@ -74,18 +62,6 @@ returns-2 c =
 pub nonlinearity-spec : {M : Type 1} → statement M
 nonlinearity-spec =
     tie.close
-    (tie.spec
-    check-limited-requires
-    enum-known-e
-    returns
-    enum-told
-    spectra-requires
-    mul-total
-    array-borrow-prefix-steps
-    slice-aggregate-sweep
-    array-borrow-prefix-table
-    slice-aggregate-sweep-2
-    array-borrow-prefix-values
-    slice-aggregate-sweep-3
-    sweep-requires
-    returns-2)
+    (tie.spec (λ c κs. search needs) (λ c. search needs) returns (λ c. search needs) (λ c κs. search needs) mul-total
+    array-borrow-prefix-steps slice-aggregate-sweep array-borrow-prefix-table slice-aggregate-sweep-2 array-borrow-prefix-values
+    slice-aggregate-sweep-3 sweep-requires returns-2)

@@ -15,18 +15,9 @@ use Rattle.linear.specs.Calls.{componentChecks}
 use Rattle.linear.proofs.spectrum_of_component.Statement.{statement}
 use Rattle.linear.proofs.spectrum_of_component.Tie as tie
 
-check-component-requires : tie.Need-check-component-requires
-check-component-requires c κs = search needs
-
-enum-known-e : tie.Need-enum-known-e
-enum-known-e c = search needs
-
 returns : tie.Need-returns
 returns c =
     wrote-refused (sym (c .before .before .before .check-component .ensures) ∙ c .before .e .given .1)
-
-enum-told : tie.Need-enum-told
-enum-told c = search needs
 
 -- accepted: a box, and an array that is as long
 module _ (n m : ℕ) (rows : List ℕ) (k room : ℕ) (h : first (componentChecks n m rows k room) ≡ Accepted) where
@@ -48,9 +39,6 @@ box-of : (c : tie.After-enum-told) →
     Box (a .n) (a .m) (a .rows .now)
 box-of c = the-box _ _ _ _ _ (accepted c)
 
-spectra-requires : tie.Need-spectra-requires
-spectra-requires c κs = search needs
-
 array-borrow-prefix-table : tie.Need-array-borrow-prefix-table
 array-borrow-prefix-table c = box-of (c .before .before) .small
 
@@ -65,9 +53,6 @@ component-spectrum-requires c κs =
       s .spectra .ensures,
     )
 
-same-length : tie.Need-same-length
-same-length c = search needs
-
 returns-2 : tie.Need-returns-2
 returns-2 c =
     let p = c .before .before in
@@ -76,14 +61,5 @@ returns-2 c =
 pub spectrum-of-component-spec : {M : Type 1} → statement M
 spectrum-of-component-spec =
     tie.close
-    (tie.spec
-    check-component-requires
-    enum-known-e
-    returns
-    enum-told
-    spectra-requires
-    array-borrow-prefix-table
-    slice-aggregate-component-spectrum
-    component-spectrum-requires
-    same-length
-    returns-2)
+    (tie.spec (λ c κs. search needs) (λ c. search needs) returns (λ c. search needs) (λ c κs. search needs) array-borrow-prefix-table
+    slice-aggregate-component-spectrum component-spectrum-requires (λ c. search needs) returns-2)

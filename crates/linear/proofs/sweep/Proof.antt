@@ -5,7 +5,7 @@ use mathlib.Core.Path.{sym, _∙_}
 use native.Mathlib.Omega.{arith}
 use borrow.Author.Needs.{needs}
 use Rattle.masks.proofs.Boxes.{box-some, masks-fit, stepping}
-use Rattle.linear.specs.Work.{candidate}
+use Rattle.linear.specs.Calls.{candidate}
 use Rattle.linear.proofs.Nearest.{Sweeping, sweep-starts, sweep-next, sweep-ends}
 use Rattle.linear.proofs.sweep.Statement.{statement}
 use Rattle.linear.proofs.sweep.Tie as tie
@@ -27,15 +27,6 @@ write-component-requires : tie.Need-write-component-requires Inv-loop μ-loop
 write-component-requires c κs =
     let start = c .before .before .before .before .before .before .before .before in
     start .pre .0 .table-size ∙ sym (start .pre .0 .box .size)
-
-power-of-two-requires : tie.Need-power-of-two-requires Inv-loop μ-loop
-power-of-two-requires c κs = search needs
-
-cast-t19 : tie.Need-cast-t19 Inv-loop μ-loop
-cast-t19 c = search needs
-
-add-t20 : tie.Need-add-t20 Inv-loop μ-loop
-add-t20 c = search needs
 
 loop-holds : tie.Need-loop-holds Inv-loop μ-loop
 loop-holds c =
@@ -85,9 +76,6 @@ loop-again c =
     sweep-next (in-loop .before .loop .inv) (below in-loop) (c .next-mask .ensures .0) (c .next-mask .ensures .1)
     (done .next-spectrum .ensures .1) (done .next-spectrum .ensures .0) (swept .with-spectrum .ensures)
 
-same-length : tie.Need-same-length Inv-loop μ-loop
-same-length c = search needs
-
 same-length-2 : tie.Need-same-length-2 Inv-loop μ-loop
 same-length-2 c = c .before .loop .inv .arrays .table-size ∙ sym (c .before .before .before .before .before .before .before .before .before .before .before .before .before .before .pre .0 .table-size)
 
@@ -108,22 +96,6 @@ returns c =
 pub sweep-spec : {M : Type 1} → statement M
 sweep-spec =
     tie.close
-    (tie.spec
-    Inv-loop
-    μ-loop
-    write-steps-requires
-    write-component-requires
-    power-of-two-requires
-    cast-t19
-    add-t20
-    loop-holds
-    next-spectrum-requires
-    cast-with-spectrum
-    with-spectrum-requires
-    next-mask-requires
-    loop-less
-    loop-again
-    same-length
-    same-length-2
-    same-length-3
-    returns)
+    (tie.spec Inv-loop μ-loop write-steps-requires write-component-requires (λ c κs. search needs) (λ c. search needs)
+    (λ c. search needs) loop-holds next-spectrum-requires cast-with-spectrum with-spectrum-requires next-mask-requires loop-less
+    loop-again (λ c. search needs) same-length-2 same-length-3 returns)

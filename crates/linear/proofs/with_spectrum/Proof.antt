@@ -6,7 +6,7 @@ use native.Mathlib.Omega.{arith}
 use borrow.Author.Needs.{needs}
 use Rattle.boolean.specs.Functions.{valueAt, signBit}
 use Rattle.boolean.proofs.Words.{word-told}
-use Rattle.linear.specs.Work.{candidate}
+use Rattle.linear.specs.Calls.{candidate}
 use Rattle.linear.proofs.Nearest.{values-length, values-nonempty, largest-le, taken, kept}
 use Rattle.linear.proofs.with_spectrum.Statement.{statement}
 use Rattle.linear.proofs.with_spectrum.Tie as tie
@@ -14,29 +14,11 @@ use Rattle.linear.proofs.with_spectrum.Tie as tie
 largest-magnitude-requires : tie.Need-largest-magnitude-requires
 largest-magnitude-requires c κs = let a = c .before .args in values-nonempty (a .n) (a .rows .now) (a .c) (c .before .pre .1)
 
-cast-count : tie.Need-cast-count
-cast-count c = search needs
-
 sub-count : tie.Need-sub-count
 sub-count c =
     let a = c .before .before .args in
     let h = largest-le (a .n) (a .rows .now) (a .c) (c .before .before .pre .1) (c .before .before .pre .0 .n-low) (c .largest-magnitude .ensures) in
     omega (arith, c .before .before .pre .0 .size)
-
-is-preferred-requires : tie.Need-is-preferred-requires
-is-preferred-requires c κs = search needs
-
-first-place-requires : tie.Need-first-place-requires
-first-place-requires c κs = search needs
-
-mul-sign-bit : tie.Need-mul-sign-bit
-mul-sign-bit c = search needs
-
-shared-slice-copy-out-sign-bit : tie.Need-shared-slice-copy-out-sign-bit
-shared-slice-copy-out-sign-bit c = search needs
-
-sign-bit-requires : tie.Need-sign-bit-requires
-sign-bit-requires c κs = search needs
 
 cast-t19 : tie.Need-cast-t19
 cast-t19 c =
@@ -44,9 +26,6 @@ cast-t19 c =
     let start = placed .before .before .before .before .before in
     let a = start .args in
     omega (arith, placed .first-place .ensures .inside, values-length (a .n) (a .rows .now) (a .c) (start .pre .1), start .pre .0 .size, start .pre .0 .small)
-
-cast-t20 : tie.Need-cast-t20
-cast-t20 c = search needs
 
 returns : tie.Need-returns
 returns c =
@@ -70,16 +49,5 @@ returns-2 c =
 pub with-spectrum-spec : {M : Type 1} → statement M
 with-spectrum-spec =
     tie.close
-    (tie.spec
-    largest-magnitude-requires
-    cast-count
-    sub-count
-    is-preferred-requires
-    first-place-requires
-    mul-sign-bit
-    shared-slice-copy-out-sign-bit
-    sign-bit-requires
-    cast-t19
-    cast-t20
-    returns
-    returns-2)
+    (tie.spec largest-magnitude-requires (λ c. search needs) sub-count (λ c κs. search needs) (λ c κs. search needs)
+    (λ c. search needs) (λ c. search needs) (λ c κs. search needs) cast-t19 (λ c. search needs) returns returns-2)

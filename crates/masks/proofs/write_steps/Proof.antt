@@ -10,7 +10,7 @@ use lib.ListN.{length}
 use Rattle.boolean.specs.Functions.{component}
 use Rattle.boolean.proofs.Digits.{component-dot}
 use Rattle.boolean.proofs.Filled.{Filled, filled-none, filled-more, filled-whole}
-use Rattle.masks.specs.Steps.{run, stepTables}
+use Rattle.masks.specs.Work.{run, stepTables}
 use Rattle.masks.proofs.write_steps.Statement.{statement}
 use Rattle.masks.proofs.write_steps.Tie as tie
 
@@ -50,14 +50,8 @@ cast-power-of-two c = omega (arith, table-number c, c .before .before .before .b
 power-of-two-requires : tie.Need-power-of-two-requires Inv-loop μ-loop
 power-of-two-requires c κs = omega (arith, table-number c, c .before .before .before .before .pre .0)
 
-mul-run : tie.Need-mul-run Inv-loop μ-loop
-mul-run c = search needs
-
 sub-run : tie.Need-sub-run Inv-loop μ-loop
 sub-run c = omega (arith, c .power-of-two .ensures .0, pow-pos (c .before .before .loop .i / length (c .before .before .before .before .before .args .rows .now)))
-
-rem-component-at : tie.Need-rem-component-at Inv-loop μ-loop
-rem-component-at c = search needs
 
 mul-component-at : tie.Need-mul-component-at Inv-loop μ-loop
 mul-component-at c = omega (arith, row-number (c .before), c .before .before .before .before .before .pre .2)
@@ -71,18 +65,6 @@ cast-component-at c =
     let k = c .before .before .before .loop .i / length (start .args .rows .now) in
     omega (arith, c .before .power-of-two .ensures .0, pow-mono {i = k} {j = 31} (omega (arith, table-number (c .before .before), start .pre .0)))
 
-component-at-requires : tie.Need-component-at-requires Inv-loop μ-loop
-component-at-requires c κs = search needs
-
-slice-write-steps : tie.Need-slice-write-steps Inv-loop μ-loop
-slice-write-steps c = search needs
-
-add-i : tie.Need-add-i Inv-loop μ-loop
-add-i c = search needs
-
-loop-less : tie.Need-loop-less Inv-loop μ-loop
-loop-less c = search needs
-
 loop-again : tie.Need-loop-again Inv-loop μ-loop
 loop-again c =
     let powered = c .before .before in
@@ -92,9 +74,6 @@ loop-again c =
     let i = at-loop .loop .i in
     filled-more 0 (stepped rows) _ i (at-loop .loop .steps) (at-loop .loop .inv) (omega (arith, powered .before .loop-test .taken, at-loop .loop .inv .long)) _
     (c .component-at .ensures ∙ sym (component-dot rows _ (i % length rows)) ∙ ap (λ (k : ℕ). component rows (2 * k - 1) (i % length rows)) (powered .power-of-two .ensures .0))
-
-same-length : tie.Need-same-length Inv-loop μ-loop
-same-length c = search needs
 
 returns : tie.Need-returns Inv-loop μ-loop
 unfolding stepTables
@@ -110,23 +89,6 @@ returns c =
 pub write-steps-spec : {M : Type 1} → statement M
 write-steps-spec =
     tie.close
-    (tie.spec
-    Inv-loop
-    μ-loop
-    loop-holds
-    div-power-of-two
-    cast-power-of-two
-    power-of-two-requires
-    mul-run
-    sub-run
-    rem-component-at
-    mul-component-at
-    shared-slice-read-component-at
-    cast-component-at
-    component-at-requires
-    slice-write-steps
-    add-i
-    loop-less
-    loop-again
-    same-length
-    returns)
+    (tie.spec Inv-loop μ-loop loop-holds div-power-of-two cast-power-of-two power-of-two-requires (λ c. search needs) sub-run
+    (λ c. search needs) mul-component-at shared-slice-read-component-at cast-component-at (λ c κs. search needs) (λ c. search needs)
+    (λ c. search needs) (λ c. search needs) loop-again (λ c. search needs) returns)

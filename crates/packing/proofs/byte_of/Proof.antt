@@ -7,17 +7,8 @@ use Rattle.packing.proofs.Places.{byte-power}
 use Rattle.packing.proofs.byte_of.Statement.{statement}
 use Rattle.packing.proofs.byte_of.Tie as tie
 
-mul-result : tie.Need-mul-result
-mul-result c = search needs
-
-shr-result : tie.Need-shr-result
-shr-result c = search needs
-
-cast-result : tie.Need-cast-result
-cast-result c = search needs
-
 returns : tie.Need-returns
 returns c = ap (λ (z : ℕ). c .args .word / z % 256) (byte-power (c .args .group))
 
 pub byte-of-spec : {M : Type 1} → statement M
-byte-of-spec = tie.close (tie.spec mul-result shr-result cast-result returns)
+byte-of-spec = tie.close (tie.spec (λ c. search needs) (λ c. search needs) (λ c. search needs) returns)

@@ -20,21 +20,12 @@ ok-box c = sym (c .before .before .check-box .ensures) ∙ c .enum-told .given .
 boxed : (c : tie.After-enum-told) → let a = c .before .before .before .before .args in Box (a .n) (a .m) (a .rows .now)
 boxed c = let a = c .before .before .before .before .args in box (a .n) (a .m) (a .rows .now) [] (ok-box c)
 
-check-box-requires : tie.Need-check-box-requires
-check-box-requires c κs = search needs
-
-enum-known-e : tie.Need-enum-known-e
-enum-known-e c = search needs
-
 returns : tie.Need-returns
 unfolding packChecks
 returns c =
     let p = c .before .before .before in
     let a = p .before .before .args in
     found-before (boxChecks (a .n) (a .m) (a .rows .now)) _ (sym (p .check-box .ensures) ∙ c .before .e .given .1)
-
-enum-told : tie.Need-enum-told
-enum-told c = search needs
 
 column-bytes-requires : tie.Need-column-bytes-requires
 column-bytes-requires c κs = boxed c .n-high
@@ -59,12 +50,4 @@ returns-3 c =
 pub check-pack-spec : {M : Type 1} → statement M
 check-pack-spec =
     tie.close
-    (tie.spec
-    check-box-requires
-    enum-known-e
-    returns
-    enum-told
-    column-bytes-requires
-    mul-if1
-    returns-2
-    returns-3)
+    (tie.spec (λ c κs. search needs) (λ c. search needs) returns (λ c. search needs) column-bytes-requires mul-if1 returns-2 returns-3)

@@ -36,15 +36,9 @@ answer c =
     c .values-below .ensures
     ∙ ap (λ (k : ℕ). allBelow k (a .bytes .now)) (c .before .power-of-two .ensures .0 ∙ ap (λ (k : ℕ). 2 ^ k) (c .before .before .used-bits .ensures .0))
 
-in-range-requires : tie.Need-in-range-requires
-in-range-requires c κs = search needs
-
 returns : tie.Need-returns
 unfolding unpackChecks
 returns c = found (stop (fails (c .before .in-range .ensures) (c .if1 .taken)))
-
-in-range-requires-2 : tie.Need-in-range-requires-2
-in-range-requires-2 c κs = search needs
 
 returns-2 : tie.Need-returns-2
 unfolding unpackChecks
@@ -67,12 +61,6 @@ returns-3 c =
 
 used-bits-requires : tie.Need-used-bits-requires
 used-bits-requires c κs = range-high 1 8 _ (inputs (c .before .before .before .before))
-
-power-of-two-requires : tie.Need-power-of-two-requires
-power-of-two-requires c κs = search needs
-
-values-below-requires : tie.Need-values-below-requires
-values-below-requires c κs = search needs
 
 returns-4 : tie.Need-returns-4
 unfolding unpackChecks
@@ -105,18 +93,5 @@ returns-6 c =
 pub check-unpack-spec : {M : Type 1} → statement M
 check-unpack-spec =
     tie.close
-    (tie.spec
-    in-range-requires
-    returns
-    in-range-requires-2
-    returns-2
-    column-bytes-requires
-    mul-if3
-    returns-3
-    used-bits-requires
-    power-of-two-requires
-    values-below-requires
-    returns-4
-    power-of-two-requires-2
-    returns-5
-    returns-6)
+    (tie.spec (λ c κs. search needs) returns (λ c κs. search needs) returns-2 column-bytes-requires mul-if3 returns-3
+    used-bits-requires (λ c κs. search needs) (λ c κs. search needs) returns-4 power-of-two-requires-2 returns-5 returns-6)

@@ -7,12 +7,6 @@ use Rattle.packing.proofs.Widths.{bytes-low, bytes-high}
 use Rattle.packing.proofs.column_bytes.Statement.{statement}
 use Rattle.packing.proofs.column_bytes.Tie as tie
 
-doublings-requires : tie.Need-doublings-requires
-doublings-requires c κs = search needs
-
-power-of-two-requires : tie.Need-power-of-two-requires
-power-of-two-requires c κs = search needs
-
 returns : tie.Need-returns
 returns c =
     let start = c .before .before in
@@ -20,4 +14,4 @@ returns c =
     (e, omega (arith, e, bytes-low (start .args .n)), omega (arith, e, bytes-high (start .args .n) (start .pre)))
 
 pub column-bytes-spec : {M : Type 1} → statement M
-column-bytes-spec = tie.close (tie.spec doublings-requires power-of-two-requires returns)
+column-bytes-spec = tie.close (tie.spec (λ c κs. search needs) (λ c κs. search needs) returns)

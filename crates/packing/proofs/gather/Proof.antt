@@ -26,9 +26,6 @@ mul-word c =
     let s = l .before .before in
     omega (arith, gathered-fits (eight (s .args .values .now) (s .args .start) (s .args .step)) (s .args .i) (l .loop .k) (l .loop .inv .1) refl (s .pre .0) (c .loop-test .taken))
 
-sub-kept : tie.Need-sub-kept Inv-loop μ-loop
-sub-kept c = search needs
-
 mul-kept : tie.Need-mul-kept Inv-loop μ-loop
 mul-kept c = omega (arith, entry-near (c .before .loop .k) (c .before .before .before .args .step))
 
@@ -41,9 +38,6 @@ mul-kept-2 c = omega (arith, entry-near (c .before .loop .k) (c .before .before 
 shared-slice-read-kept : tie.Need-shared-slice-read-kept Inv-loop μ-loop
 shared-slice-read-kept c = omega (arith, entry-near (c .before .before .loop .k) (c .before .before .before .before .args .step))
 
-kept-requires : tie.Need-kept-requires Inv-loop μ-loop
-kept-requires c κs = search needs
-
 add-word : tie.Need-add-word Inv-loop μ-loop
 add-word c =
     let l = c .before .before .before in
@@ -53,12 +47,6 @@ add-word c =
       gathered-fits (eight (s .args .values .now) (s .args .start) (s .args .step)) (s .args .i) (l .loop .k) (l .loop .inv .1) (c .kept .ensures) (s .pre .0)
           (c .before .before .loop-test .taken),
     )
-
-add-k : tie.Need-add-k Inv-loop μ-loop
-add-k c = search needs
-
-loop-less : tie.Need-loop-less Inv-loop μ-loop
-loop-less c = search needs
 
 loop-again : tie.Need-loop-again Inv-loop μ-loop
 loop-again c =
@@ -79,9 +67,6 @@ all c =
     let k-is : l .loop .k ≡ 8 = omega (arith, l .loop .inv .0) in
     l .loop .inv .1 ∙ ap (λ (k : ℕ). 2 ^ a .i * wordOf (λ j. upper (eight (a .values .now) (a .start) (a .step)) j k) (a .i)) k-is
 
-shr-result : tie.Need-shr-result Inv-loop μ-loop
-shr-result c = search needs
-
 cast-result : tie.Need-cast-result Inv-loop μ-loop
 cast-result c = let a = c .before .before .before .args in omega (arith, gathered-lt (a .values .now) (a .start) (a .step) (a .i) (all c))
 
@@ -91,21 +76,5 @@ returns c = let a = c .before .before .before .args in gathered-all (a .values .
 pub gather-spec : {M : Type 1} → statement M
 gather-spec =
     tie.close
-    (tie.spec
-    Inv-loop
-    μ-loop
-    loop-holds
-    mul-word
-    sub-kept
-    mul-kept
-    add-kept
-    mul-kept-2
-    shared-slice-read-kept
-    kept-requires
-    add-word
-    add-k
-    loop-less
-    loop-again
-    shr-result
-    cast-result
-    returns)
+    (tie.spec Inv-loop μ-loop loop-holds mul-word (λ c. search needs) mul-kept add-kept mul-kept-2 shared-slice-read-kept
+    (λ c κs. search needs) add-word (λ c. search needs) (λ c. search needs) loop-again (λ c. search needs) cast-result returns)

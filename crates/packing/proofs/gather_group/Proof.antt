@@ -30,12 +30,6 @@ loop-holds c =
     let s = c .before .before in
     (omega arith, record { within = omega (arith, columns-before (s .args .i) 7 (s .args .size) (omega arith)); long = s .pre .4; done = λ q h. s .pre .5 q (omega arith) })
 
-mul-gather : tie.Need-mul-gather Inv-loop μ-loop
-mul-gather c = search needs
-
-gather-requires : tie.Need-gather-requires Inv-loop μ-loop
-gather-requires c κs = search needs
-
 add-words : tie.Need-add-words Inv-loop μ-loop
 add-words c = let s = c .before .before .before .before .before in omega (arith, columns-before (s .args .i) 7 (s .args .size) (omega arith))
 
@@ -44,12 +38,6 @@ mul-words c = let s = c .before .before .before .before .before in omega (arith,
 
 slice-write-words : tie.Need-slice-write-words Inv-loop μ-loop
 slice-write-words c = let s = c .before .before .before .before .before in omega (arith, c .before .before .loop .inv .1 .long, columns-before (s .args .i) 7 (s .args .size) (omega arith))
-
-add-y : tie.Need-add-y Inv-loop μ-loop
-add-y c = search needs
-
-loop-less : tie.Need-loop-less Inv-loop μ-loop
-loop-less c = search needs
 
 loop-again : tie.Need-loop-again Inv-loop μ-loop
 loop-again c =
@@ -75,18 +63,5 @@ returns c = λ q h. c .before .loop .inv .1 .done q (omega arith)
 pub gather-group-spec : {M : Type 1} → statement M
 gather-group-spec =
     tie.close
-    (tie.spec
-    Inv-loop
-    μ-loop
-    mul-start
-    loop-holds
-    mul-gather
-    gather-requires
-    add-words
-    mul-words
-    slice-write-words
-    add-y
-    loop-less
-    loop-again
-    same-length
-    returns)
+    (tie.spec Inv-loop μ-loop mul-start loop-holds (λ c. search needs) (λ c κs. search needs) add-words mul-words slice-write-words
+    (λ c. search needs) (λ c. search needs) loop-again same-length returns)

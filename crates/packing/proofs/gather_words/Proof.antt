@@ -51,13 +51,4 @@ returns c =
 pub gather-words-spec : {M : Type 1} → statement M
 gather-words-spec =
     tie.close
-    (tie.spec
-    Inv-loop
-    μ-loop
-    loop-holds
-    gather-group-requires
-    add-i
-    loop-less
-    loop-again
-    same-length
-    returns)
+    (tie.spec Inv-loop μ-loop loop-holds gather-group-requires add-i loop-less loop-again same-length returns)

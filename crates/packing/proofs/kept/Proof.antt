@@ -11,12 +11,9 @@ use Rattle.packing.proofs.Gathering.{kept-is}
 use Rattle.packing.proofs.kept.Statement.{statement}
 use Rattle.packing.proofs.kept.Tie as tie
 
-shl-result : tie.Need-shl-result
-shl-result c = search needs
-
 returns : tie.Need-returns
 returns c =
     ap (λ (z : ℕ). bitAnd (c .args .v) z) (shl-exact 25 (c .args .i) 64 (lit< tt) (omega arith)) ∙ kept-is (c .args .v) (c .args .i)
 
 pub kept-spec : {M : Type 1} → statement M
-kept-spec = tie.close (tie.spec shl-result returns)
+kept-spec = tie.close (tie.spec (λ c. search needs) returns)

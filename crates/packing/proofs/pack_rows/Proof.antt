@@ -10,29 +10,11 @@ use Rattle.packing.proofs.Laws.{packed-from-words}
 use Rattle.packing.proofs.pack_rows.Statement.{statement}
 use Rattle.packing.proofs.pack_rows.Tie as tie
 
-column-bytes-requires : tie.Need-column-bytes-requires
-column-bytes-requires c κs = search needs
-
-pad-rows-requires : tie.Need-pad-rows-requires
-pad-rows-requires c κs = search needs
-
-gather-words-requires : tie.Need-gather-words-requires
-gather-words-requires c κs = search needs
-
 write-columns-requires : tie.Need-write-columns-requires
 write-columns-requires c κs =
     let size = c .before .before .before .before .before .before .before .before .before .before .before .column-bytes in
     let s = c .before .before .before .before .before .before .before .before .before .before .before .before .before .before .before .before in
     (s .pre .0 .m-high, size .ensures .1, size .ensures .2, search needs, s .pre .3 ∙ ap (λ (k : ℕ). s .args .m * k) (sym (size .ensures .0)))
-
-same-length : tie.Need-same-length
-same-length c = search needs
-
-same-length-2 : tie.Need-same-length-2
-same-length-2 c = search needs
-
-same-length-3 : tie.Need-same-length-3
-same-length-3 c = search needs
 
 returns : tie.Need-returns
 returns c =
@@ -51,12 +33,5 @@ returns c =
 pub pack-rows-spec : {M : Type 1} → statement M
 pack-rows-spec =
     tie.close
-    (tie.spec
-    column-bytes-requires
-    pad-rows-requires
-    gather-words-requires
-    write-columns-requires
-    same-length
-    same-length-2
-    same-length-3
-    returns)
+    (tie.spec (λ c κs. search needs) (λ c κs. search needs) (λ c κs. search needs) write-columns-requires (λ c. search needs)
+    (λ c. search needs) (λ c. search needs) returns)

@@ -17,23 +17,8 @@ accepted : (c : tie.After-enum-told) →
     first (unpackChecks (a .n) (a .m) (a .packed .now) (length (a .out .now))) ≡ Accepted
 accepted c = sym (c .before .before .check-unpack .ensures) ∙ c .enum-told .given .1
 
-check-unpack-requires : tie.Need-check-unpack-requires
-check-unpack-requires c κs = search needs
-
-enum-known-e : tie.Need-enum-known-e
-enum-known-e c = search needs
-
 returns : tie.Need-returns
 returns c = wrote-refused (sym (c .before .before .before .check-unpack .ensures) ∙ c .before .e .given .1)
-
-enum-told : tie.Need-enum-told
-enum-told c = search needs
-
-slice-aggregate-unpack-bytes : tie.Need-slice-aggregate-unpack-bytes
-slice-aggregate-unpack-bytes c = search needs
-
-slice-aggregate-unpack-bytes-2 : tie.Need-slice-aggregate-unpack-bytes-2
-slice-aggregate-unpack-bytes-2 c = search needs
 
 unpack-bytes-requires : tie.Need-unpack-bytes-requires
 unpack-bytes-requires c κs =
@@ -41,9 +26,6 @@ unpack-bytes-requires c κs =
     let a = told .before .before .before .before .before .args in
     let h = accepted told in
     (unpack-columns (a .n) (a .m) (a .packed .now) _ h, cleared 1024, refl, unpack-room (a .n) (a .m) (a .packed .now) _ h)
-
-same-length : tie.Need-same-length
-same-length c = search needs
 
 returns-2 : tie.Need-returns-2
 returns-2 c =
@@ -53,13 +35,5 @@ returns-2 c =
 pub unpack-spec : {M : Type 1} → statement M
 unpack-spec =
     tie.close
-    (tie.spec
-    check-unpack-requires
-    enum-known-e
-    returns
-    enum-told
-    slice-aggregate-unpack-bytes
-    slice-aggregate-unpack-bytes-2
-    unpack-bytes-requires
-    same-length
-    returns-2)
+    (tie.spec (λ c κs. search needs) (λ c. search needs) returns (λ c. search needs) (λ c. search needs) (λ c. search needs)
+    unpack-bytes-requires (λ c. search needs) returns-2)

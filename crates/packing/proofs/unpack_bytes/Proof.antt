@@ -13,32 +13,17 @@ use Rattle.packing.proofs.Laws.{unpacked-from-words}
 use Rattle.packing.proofs.unpack_bytes.Statement.{statement}
 use Rattle.packing.proofs.unpack_bytes.Tie as tie
 
-column-bytes-requires : tie.Need-column-bytes-requires
-column-bytes-requires c κs = search needs
-
 pad-bytes-requires : tie.Need-pad-bytes-requires
 pad-bytes-requires c κs =
     let s = c .before .before .before .before .before .before in
     let k = s .pre .0 in
     (omega (arith, k .size, s .pre .1 .long, bytes-most (s .args .n) (s .args .m) (columnBytes (s .args .n)) (bytes-high (s .args .n) (k .n-high)) (k .m-high)), s .pre .1 .none)
 
-join-words-requires : tie.Need-join-words-requires
-join-words-requires c κs = search needs
-
 write-rows-requires : tie.Need-write-rows-requires
 write-rows-requires c κs =
     let size = c .before .before .before .before .before .before .before .before .before .before .before .column-bytes in
     let s = c .before .before .before .before .before .before .before .before .before .before .before .before .before .before .before .before in
     (size .ensures .2, search needs, omega (arith, s .pre .3, size .ensures .0, bytes-hold (s .args .n) (s .pre .0 .n-high)))
-
-same-length : tie.Need-same-length
-same-length c = search needs
-
-same-length-2 : tie.Need-same-length-2
-same-length-2 c = search needs
-
-same-length-3 : tie.Need-same-length-3
-same-length-3 c = search needs
 
 returns : tie.Need-returns
 returns c =
@@ -58,12 +43,5 @@ returns c =
 pub unpack-bytes-spec : {M : Type 1} → statement M
 unpack-bytes-spec =
     tie.close
-    (tie.spec
-    column-bytes-requires
-    pad-bytes-requires
-    join-words-requires
-    write-rows-requires
-    same-length
-    same-length-2
-    same-length-3
-    returns)
+    (tie.spec (λ c κs. search needs) pad-bytes-requires (λ c κs. search needs) write-rows-requires (λ c. search needs)
+    (λ c. search needs) (λ c. search needs) returns)

@@ -23,9 +23,6 @@ mul-start c = omega arith
 mul-from : tie.Need-mul-from Inv-loop μ-loop
 mul-from c = let s = c .before .before in omega (arith, word-near (s .args .j) (s .args .size))
 
-cast-group : tie.Need-cast-group Inv-loop μ-loop
-cast-group c = search needs
-
 loop-holds : tie.Need-loop-holds Inv-loop μ-loop
 loop-holds c =
     let s = c .before .before in
@@ -49,12 +46,6 @@ add-out c = omega arith
 slice-write-out : tie.Need-slice-write-out Inv-loop μ-loop
 slice-write-out c = omega (arith, c .before .before .before .loop .inv .1 .long)
 
-add-y : tie.Need-add-y Inv-loop μ-loop
-add-y c = search needs
-
-loop-less : tie.Need-loop-less Inv-loop μ-loop
-loop-less c = search needs
-
 loop-again : tie.Need-loop-again Inv-loop μ-loop
 loop-again c =
     let l = c .before .before .before in
@@ -76,21 +67,5 @@ returns c = λ p h. c .before .loop .inv .1 .done p (omega arith)
 pub write-column-spec : {M : Type 1} → statement M
 write-column-spec =
     tie.close
-    (tie.spec
-    Inv-loop
-    μ-loop
-    mul-start
-    mul-from
-    cast-group
-    loop-holds
-    add-byte-of
-    mul-byte-of
-    shared-slice-read-byte-of
-    byte-of-requires
-    add-out
-    slice-write-out
-    add-y
-    loop-less
-    loop-again
-    same-length
-    returns)
+    (tie.spec Inv-loop μ-loop mul-start mul-from (λ c. search needs) loop-holds add-byte-of mul-byte-of shared-slice-read-byte-of
+    byte-of-requires add-out slice-write-out (λ c. search needs) (λ c. search needs) loop-again same-length returns)

@@ -33,14 +33,8 @@ answer c =
     let a = c .before .before .before .before .before .before .before .before .before .args in
     c .rows-below .ensures ∙ ap (λ (k : ℕ). allBelow k (a .rows .now)) (c .before .power-of-two2 .ensures .0)
 
-in-range-requires : tie.Need-in-range-requires
-in-range-requires c κs = search needs
-
 returns : tie.Need-returns
 returns c = found (stop (fails (c .before .in-range .ensures) (c .if1 .taken)))
-
-in-range-requires-2 : tie.Need-in-range-requires-2
-in-range-requires-2 c κs = search needs
 
 returns-2 : tie.Need-returns-2
 returns-2 c =
@@ -58,9 +52,6 @@ returns-3 c =
 power-of-two-requires-2 : tie.Need-power-of-two-requires-2
 power-of-two-requires-2 c κs = le-trans (range-high 1 _ _ (outputs (c .before .before))) (c .before .before .before .before .before .before .before .pre)
 
-rows-below-requires : tie.Need-rows-below-requires
-rows-below-requires c κs = search needs
-
 returns-4 : tie.Need-returns-4
 returns-4 c =
     let p = c .before .before .before in
@@ -76,14 +67,5 @@ returns-5 c =
 pub check-box-up-to-spec : {M : Type 1} → statement M
 check-box-up-to-spec =
     tie.close
-    (tie.spec
-    in-range-requires
-    returns
-    in-range-requires-2
-    returns-2
-    power-of-two-requires
-    returns-3
-    power-of-two-requires-2
-    rows-below-requires
-    returns-4
-    returns-5)
+    (tie.spec (λ c κs. search needs) returns (λ c κs. search needs) returns-2 power-of-two-requires returns-3 power-of-two-requires-2
+    (λ c κs. search needs) returns-4 returns-5)

@@ -13,24 +13,12 @@ ok-box : (c : tie.After-enum-told) →
     first (boxChecks (a .n) (a .m) (a .rows .now)) ≡ Accepted
 ok-box c = sym (c .before .before .check-box .ensures) ∙ c .enum-told .given .1
 
-check-box-requires : tie.Need-check-box-requires
-check-box-requires c κs = search needs
-
-enum-known-e : tie.Need-enum-known-e
-enum-known-e c = search needs
-
 returns : tie.Need-returns
 unfolding limitChecks
 returns c =
     let p = c .before .before .before in
     let a = p .before .before .args in
     found-before (boxChecks (a .n) (a .m) (a .rows .now)) _ (sym (p .check-box .ensures) ∙ c .before .e .given .1)
-
-enum-told : tie.Need-enum-told
-enum-told c = search needs
-
-in-range-requires : tie.Need-in-range-requires
-in-range-requires c κs = search needs
 
 returns-2 : tie.Need-returns-2
 unfolding limitChecks
@@ -43,11 +31,4 @@ returns-3 c = found-after _ (ok-box (c .before .before)) (skip (holds (c .before
 pub check-limited-spec : {M : Type 1} → statement M
 check-limited-spec =
     tie.close
-    (tie.spec
-    check-box-requires
-    enum-known-e
-    returns
-    enum-told
-    in-range-requires
-    returns-2
-    returns-3)
+    (tie.spec (λ c κs. search needs) (λ c. search needs) returns (λ c. search needs) (λ c κs. search needs) returns-2 returns-3)

@@ -25,9 +25,6 @@ size c = equals (c .before .power-of-two .ensures .0) (c .if2 .left)
 bits : (c : tie.Else3) → allBelow 2 (c .before .before .before .before .before .before .before .args .table .now) ≡ true
 bits c = holds (c .before .values-below .ensures) (c .if3 .left)
 
-in-range-requires : tie.Need-in-range-requires
-in-range-requires c κs = search needs
-
 returns : tie.Need-returns
 returns c = found (stop (fails (c .before .in-range .ensures) (c .if1 .taken)))
 
@@ -37,9 +34,6 @@ power-of-two-requires c κs = le-trans (range-high 1 8 _ (inputs c)) (lit≤ tt)
 returns-2 : tie.Need-returns-2
 returns-2 c =
     found (skip (inputs (c .before .before)) (stop (differs (c .before .power-of-two .ensures .0) (c .if2 .taken))))
-
-values-below-requires : tie.Need-values-below-requires
-values-below-requires c κs = search needs
 
 returns-3 : tie.Need-returns-3
 returns-3 c =
@@ -56,11 +50,4 @@ returns-4 c =
 pub check-table-spec : {M : Type 1} → statement M
 check-table-spec =
     tie.close
-    (tie.spec
-    in-range-requires
-    returns
-    power-of-two-requires
-    returns-2
-    values-below-requires
-    returns-3
-    returns-4)
+    (tie.spec (λ c κs. search needs) returns power-of-two-requires returns-2 (λ c κs. search needs) returns-3 returns-4)

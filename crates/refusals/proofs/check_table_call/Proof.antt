@@ -22,21 +22,12 @@ ok-table c = sym (c .before .before .check-table .ensures) ∙ c .enum-told .giv
 size : (c : tie.Else1) → let a = c .before .before .before .before .before .before .args in eqb (a .room) (2 ^ a .n) ≡ true
 size c = equals (c .before .power-of-two .ensures .0) (c .if1 .left)
 
-check-table-requires : tie.Need-check-table-requires
-check-table-requires c κs = search needs
-
-enum-known-e : tie.Need-enum-known-e
-enum-known-e c = search needs
-
 returns : tie.Need-returns
 unfolding tableCallChecks
 returns c =
     let p = c .before .before .before in
     let a = p .before .before .args in
     found-before (tableChecks (a .n) (a .table .now)) _ (sym (p .check-table .ensures) ∙ c .before .e .given .1)
-
-enum-told : tie.Need-enum-told
-enum-told c = search needs
 
 power-of-two-requires : tie.Need-power-of-two-requires
 power-of-two-requires c κs =
@@ -54,11 +45,4 @@ returns-3 c = found-after _ (ok-table (c .before .before)) (skip (size c) end)
 pub check-table-call-spec : {M : Type 1} → statement M
 check-table-call-spec =
     tie.close
-    (tie.spec
-    check-table-requires
-    enum-known-e
-    returns
-    enum-told
-    power-of-two-requires
-    returns-2
-    returns-3)
+    (tie.spec (λ c κs. search needs) (λ c. search needs) returns (λ c. search needs) power-of-two-requires returns-2 returns-3)

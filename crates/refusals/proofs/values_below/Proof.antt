@@ -24,9 +24,6 @@ abbrev μ-loop : tie.MeasureT-loop
 loop-holds : tie.Need-loop-holds Inv-loop μ-loop
 loop-holds c = rest-all _ _ _
 
-shared-slice-read-if1 : tie.Need-shared-slice-read-if1 Inv-loop μ-loop
-shared-slice-read-if1 c = search needs
-
 cast-if1 : tie.Need-cast-if1 Inv-loop μ-loop
 cast-if1 c = omega (arith, c .shared-slice-known .given (c .before .before .loop .i))
 
@@ -35,12 +32,6 @@ returns c =
     let at-loop = c .before .before .before in
     let a = at-loop .before .args in
     rest-fails _ _ (at-loop .loop .inv) (omega arith) (le-ltb (at (a .table .now) (at-loop .loop .i)) (a .limit) (omega arith))
-
-add-i : tie.Need-add-i Inv-loop μ-loop
-add-i c = search needs
-
-loop-less : tie.Need-loop-less Inv-loop μ-loop
-loop-less c = search needs
 
 loop-again : tie.Need-loop-again Inv-loop μ-loop
 loop-again c = rest-next _ _ (c .before .before .before .loop .inv) (omega arith) (lt-ltb _ _ (c .if1 .left))
@@ -51,14 +42,5 @@ returns-2 c = rest-none _ _ (c .before .loop .inv) (omega arith)
 pub values-below-spec : {M : Type 1} → statement M
 values-below-spec =
     tie.close
-    (tie.spec
-    Inv-loop
-    μ-loop
-    loop-holds
-    shared-slice-read-if1
-    cast-if1
-    returns
-    add-i
-    loop-less
-    loop-again
+    (tie.spec Inv-loop μ-loop loop-holds (λ c. search needs) cast-if1 returns (λ c. search needs) (λ c. search needs) loop-again
     returns-2)

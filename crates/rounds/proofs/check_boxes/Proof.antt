@@ -51,26 +51,11 @@ passed2 c = sym (c .before .before .check-if .ensures) ∙ c .enum-told2 .given 
 passed3 : (c : tie.After-enum-told3) → first (checks3 (c .before .before .before .before .before .before .before .before .before .before .before .before .before)) ≡ Accepted
 passed3 c = sym (c .before .before .check-if2 .ensures) ∙ c .enum-told3 .given .1
 
-check-box-requires : tie.Need-check-box-requires
-check-box-requires c κs = search needs
-
-enum-known-e : tie.Need-enum-known-e
-enum-known-e c = search needs
-
 returns : tie.Need-returns
 returns c =
     let found = c .before .before .before in
     let s = found .before .before .before .before .before in
     refused-1 (checks1 s) (checks2 s) (checks3 s) (checks4 s) (sym (found .check-box .ensures) ∙ c .before .e .given .1) ∙ all s
-
-enum-told : tie.Need-enum-told
-enum-told c = search needs
-
-check-if-requires : tie.Need-check-if-requires
-check-if-requires c κs = search needs
-
-enum-known-e-2 : tie.Need-enum-known-e-2
-enum-known-e-2 c = search needs
 
 returns-2 : tie.Need-returns-2
 returns-2 c =
@@ -78,26 +63,11 @@ returns-2 c =
     let s = found .before .before .before .before .before .before .before .before in
     refused-2 (checks1 s) (checks2 s) (checks3 s) (checks4 s) (passed1 (found .before)) (sym (found .check-if .ensures) ∙ c .before .e2 .given .1) ∙ all s
 
-enum-told-2 : tie.Need-enum-told-2
-enum-told-2 c = search needs
-
-check-if-requires-2 : tie.Need-check-if-requires-2
-check-if-requires-2 c κs = search needs
-
-enum-known-e-3 : tie.Need-enum-known-e-3
-enum-known-e-3 c = search needs
-
 returns-3 : tie.Need-returns-3
 returns-3 c =
     let found = c .before .before .before in
     let s = found .before .before .before .before .before .before .before .before .before .before .before in
     refused-3 (checks1 s) (checks2 s) (checks3 s) (checks4 s) (passed1 (found .before .before .before .before)) (passed2 (found .before)) (sym (found .check-if2 .ensures) ∙ c .before .e3 .given .1) ∙ all s
-
-enum-told-3 : tie.Need-enum-told-3
-enum-told-3 c = search needs
-
-check-if-requires-3 : tie.Need-check-if-requires-3
-check-if-requires-3 c κs = search needs
 
 returns-4 : tie.Need-returns-4
 returns-4 c =
@@ -108,18 +78,6 @@ returns-4 c =
 pub check-boxes-spec : {M : Type 1} → statement M
 check-boxes-spec =
     tie.close
-    (tie.spec
-    check-box-requires
-    enum-known-e
-    returns
-    enum-told
-    check-if-requires
-    enum-known-e-2
-    returns-2
-    enum-told-2
-    check-if-requires-2
-    enum-known-e-3
-    returns-3
-    enum-told-3
-    check-if-requires-3
+    (tie.spec (λ c κs. search needs) (λ c. search needs) returns (λ c. search needs) (λ c κs. search needs) (λ c. search needs)
+    returns-2 (λ c. search needs) (λ c κs. search needs) (λ c. search needs) returns-3 (λ c. search needs) (λ c κs. search needs)
     returns-4)

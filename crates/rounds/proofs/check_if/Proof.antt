@@ -9,9 +9,6 @@ use borrow.Author.Needs.{needs}
 use Rattle.rounds.proofs.check_if.Statement.{statement}
 use Rattle.rounds.proofs.check_if.Tie as tie
 
-check-box-requires : tie.Need-check-box-requires
-check-box-requires c κs = search needs
-
 returns : tie.Need-returns
 returns c =
     let then = c .before in
@@ -25,4 +22,4 @@ returns-2 c =
     subst (λ (u : Bool). Accepted ≡ first (checksIf u (boxOf (a .n) (a .m) (a .rows .now)))) (sym (c .if1 .left)) refl
 
 pub check-if-spec : {M : Type 1} → statement M
-check-if-spec = tie.close (tie.spec check-box-requires returns returns-2)
+check-if-spec = tie.close (tie.spec (λ c κs. search needs) returns returns-2)

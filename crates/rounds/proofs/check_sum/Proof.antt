@@ -70,9 +70,6 @@ limit c =
     let s = start1 e in
     c .in-range2 .ensures ∙ ap (λ (m : ℕ). inRange 1 m (s .args .i)) (sym (outputs-are (box1 s) (box2 s) (box3 s) (box4 s) (s .args .count) (number-low e)))
 
-in-range-requires : tie.Need-in-range-requires
-in-range-requires c κs = search needs
-
 returns : tie.Need-returns
 returns c =
     let s = c .before .before .before .before .before .before in
@@ -81,29 +78,17 @@ returns c =
 check-boxes-requires : tie.Need-check-boxes-requires
 check-boxes-requires c κs = (number-low c, number-high c)
 
-enum-known-found : tie.Need-enum-known-found
-enum-known-found c = search needs
-
 returns-2 : tie.Need-returns-2
 returns-2 c =
     let checked = c .before .before .before in
     let s = start1 (checked .before) in
     box-refused (s .args .count) (four s) (s .args .i) (number-ok (checked .before)) (sym (checked .check-boxes .ensures) ∙ c .before .found .given .1)
 
-enum-told : tie.Need-enum-told
-enum-told c = search needs
-
-same-outputs-requires : tie.Need-same-outputs-requires
-same-outputs-requires c κs = search needs
-
 returns-3 : tie.Need-returns-3
 returns-3 c =
     let told = c .before .before in
     let s = start1 (else1 told) in
     boxes-passed (s .args .count) (four s) (s .args .i) (number-ok (else1 told)) (boxes-ok told) (stop (fails (widths (c .before)) (c .if2 .taken)))
-
-in-range-requires-2 : tie.Need-in-range-requires-2
-in-range-requires-2 c κs = search needs
 
 returns-4 : tie.Need-returns-4
 returns-4 c =
@@ -122,15 +107,5 @@ returns-5 c =
 pub check-sum-spec : {M : Type 1} → statement M
 check-sum-spec =
     tie.close
-    (tie.spec
-    in-range-requires
-    returns
-    check-boxes-requires
-    enum-known-found
-    returns-2
-    enum-told
-    same-outputs-requires
-    returns-3
-    in-range-requires-2
-    returns-4
-    returns-5)
+    (tie.spec (λ c κs. search needs) returns check-boxes-requires (λ c. search needs) returns-2 (λ c. search needs)
+    (λ c κs. search needs) returns-3 (λ c κs. search needs) returns-4 returns-5)

@@ -18,31 +18,10 @@ Inv-loop values most₀ place₀ w₀ most place w = Leading values w most place
 abbrev μ-loop : tie.MeasureT-loop
 μ-loop values most₀ place₀ w₀ most place w = length values - w
 
-shared-slice-copy-out-magnitude : tie.Need-shared-slice-copy-out-magnitude Inv-loop μ-loop
-shared-slice-copy-out-magnitude c = search needs
-
-magnitude-requires : tie.Need-magnitude-requires Inv-loop μ-loop
-magnitude-requires c κs = search needs
-
 loop-holds : tie.Need-loop-holds Inv-loop μ-loop
 loop-holds c =
     leading-one _ _ (c .before .before .pre .0)
     (c .magnitude .ensures ∙ ap natAbs (word-told (valueAt (c .before .before .args .values .now) 0) (c .before .magnitude-arg .given)))
-
-mul-magnitude : tie.Need-mul-magnitude Inv-loop μ-loop
-mul-magnitude c = search needs
-
-shared-slice-copy-out-magnitude-2 : tie.Need-shared-slice-copy-out-magnitude-2 Inv-loop μ-loop
-shared-slice-copy-out-magnitude-2 c = search needs
-
-magnitude-requires-2 : tie.Need-magnitude-requires-2 Inv-loop μ-loop
-magnitude-requires-2 c κs = search needs
-
-add-w : tie.Need-add-w Inv-loop μ-loop
-add-w c = search needs
-
-loop-less : tie.Need-loop-less Inv-loop μ-loop
-loop-less c = search needs
 
 -- the value that is read, and its magnitude
 abbrev value : tie.After-magnitude2 Inv-loop μ-loop → ℤ
@@ -58,21 +37,6 @@ loop-again c =
     ⊎-elim (λ t. rw (t .1, t .2) (leading-takes so-far _ inside (read (c .before)) (omega (arith, t .0 .taken))))
     (λ t. rw (t .1, t .2) (leading-keeps so-far inside (omega (arith, t .0 .left, read (c .before))))) (c .if1 .came)
 
-mul-sign-bit : tie.Need-mul-sign-bit Inv-loop μ-loop
-mul-sign-bit c = search needs
-
-shared-slice-copy-out-sign-bit : tie.Need-shared-slice-copy-out-sign-bit Inv-loop μ-loop
-shared-slice-copy-out-sign-bit c = search needs
-
-sign-bit-requires : tie.Need-sign-bit-requires Inv-loop μ-loop
-sign-bit-requires c κs = search needs
-
-cast-t15 : tie.Need-cast-t15 Inv-loop μ-loop
-cast-t15 c = search needs
-
-cast-t16 : tie.Need-cast-t16 Inv-loop μ-loop
-cast-t16 c = search needs
-
 returns : tie.Need-returns Inv-loop μ-loop
 returns c =
     let end = c .before .before .before in
@@ -84,21 +48,6 @@ returns c =
 pub highest-spec : {M : Type 1} → statement M
 highest-spec =
     tie.close
-    (tie.spec
-    Inv-loop
-    μ-loop
-    shared-slice-copy-out-magnitude
-    magnitude-requires
-    loop-holds
-    mul-magnitude
-    shared-slice-copy-out-magnitude-2
-    magnitude-requires-2
-    add-w
-    loop-less
-    loop-again
-    mul-sign-bit
-    shared-slice-copy-out-sign-bit
-    sign-bit-requires
-    cast-t15
-    cast-t16
-    returns)
+    (tie.spec Inv-loop μ-loop (λ c. search needs) (λ c κs. search needs) loop-holds (λ c. search needs) (λ c. search needs)
+    (λ c κs. search needs) (λ c. search needs) (λ c. search needs) loop-again (λ c. search needs) (λ c. search needs)
+    (λ c κs. search needs) (λ c. search needs) (λ c. search needs) returns)

@@ -73,23 +73,11 @@ last-small c = small-2 (third c .size-if3 .ensures .1) (fourth c .size-if4 .ensu
 others-small : (c : tie.After-out4) → second c .size-if2 .result * (third c .size-if3 .result * fourth c .size-if4 .result) ≤ 16777216
 others-small c = small-3 (second c .size-if2 .ensures .1) (last-small c)
 
-cast-last : tie.Need-cast-last
-cast-last c = search needs
-
-cast-last-2 : tie.Need-cast-last-2
-cast-last-2 c = search needs
-
 mul-last : tie.Need-mul-last
 mul-last c = omega (arith, last-small c)
 
-cast-others : tie.Need-cast-others
-cast-others c = search needs
-
 mul-others : tie.Need-mul-others
 mul-others c = omega (arith, others-small c)
-
-cast-result : tie.Need-cast-result
-cast-result c = search needs
 
 mul-result : tie.Need-mul-result
 mul-result c = omega (arith, small-4 (first c .size-if .ensures .1) (others-small c))
@@ -113,18 +101,5 @@ returns c =
 pub product-at-spec : {M : Type 1} → statement M
 product-at-spec =
     tie.close
-    (tie.spec
-    size-if-requires
-    size-if-requires-2
-    size-if-requires-3
-    size-if-requires-4
-    cast-last
-    cast-last-2
-    mul-last
-    cast-others
-    mul-others
-    cast-result
-    mul-result
-    same-length
-    same-length-2
-    returns)
+    (tie.spec size-if-requires size-if-requires-2 size-if-requires-3 size-if-requires-4 (λ c. search needs) (λ c. search needs)
+    mul-last (λ c. search needs) mul-others (λ c. search needs) mul-result same-length same-length-2 returns)

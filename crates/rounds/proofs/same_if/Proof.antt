@@ -12,8 +12,5 @@ returns c =
     let a = c .before .args in
     subst (λ (u : Bool). eqb (a .b) (a .a) ≡ sameIf u (a .a) (a .b)) (sym (c .if1 .taken)) refl
 
-returns-2 : tie.Need-returns-2
-returns-2 c = search needs
-
 pub same-if-spec : {M : Type 1} → statement M
-same-if-spec = tie.close (tie.spec returns returns-2)
+same-if-spec = tie.close (tie.spec returns (λ c. search needs))

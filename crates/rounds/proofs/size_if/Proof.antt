@@ -58,13 +58,5 @@ returns-2 c =
 pub size-if-spec : {M : Type 1} → statement M
 size-if-spec =
     tie.close
-    (tie.spec
-    slice-relend-prefix-size-in
-    slice-aggregate-size-in
-    slice-relend-prefix-size-in-2
-    slice-aggregate-size-in-2
-    size-in-requires
-    same-length
-    same-length-2
-    returns
-    returns-2)
+    (tie.spec slice-relend-prefix-size-in slice-aggregate-size-in slice-relend-prefix-size-in-2 slice-aggregate-size-in-2
+    size-in-requires same-length same-length-2 returns returns-2)

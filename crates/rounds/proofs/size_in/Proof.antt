@@ -10,12 +10,6 @@ use Rattle.rounds.proofs.Tops.{count-peak}
 use Rattle.rounds.proofs.size_in.Statement.{statement}
 use Rattle.rounds.proofs.size_in.Tie as tie
 
-component-count-requires : tie.Need-component-count-requires
-component-count-requires c κs = search needs
-
-cast-result : tie.Need-cast-result
-cast-result c = search needs
-
 -- twice the count and the peak make as many as the box has rows
 whole : (c : tie.After-out) →
     let a = c .before .before .before .before .before .before .before .before .args in
@@ -46,11 +40,4 @@ returns c = (omega (arith, whole c), omega (arith, small c), same-length c, same
 pub size-in-spec : {M : Type 1} → statement M
 size-in-spec =
     tie.close
-    (tie.spec
-    component-count-requires
-    cast-result
-    mul-result
-    sub-result
-    same-length
-    same-length-2
-    returns)
+    (tie.spec (λ c κs. search needs) (λ c. search needs) mul-result sub-result same-length same-length-2 returns)

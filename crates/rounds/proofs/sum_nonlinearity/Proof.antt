@@ -87,17 +87,8 @@ total-is c =
     ap₂ (λ (i j : ℕ). s .args .widths .n1 + (i + j)) (c .inputs-if3 .ensures .0) (ap₂ (λ (i j : ℕ). i + j) (c .before .before .inputs-if .ensures .0) (c .before .inputs-if2 .ensures .0))
     ∙ inputs-are (box1 s) (box2 s) (box3 s) (box4 s) (s .args .count) (r .count-low) (r .count-high)
 
-check-sum-requires : tie.Need-check-sum-requires
-check-sum-requires c κs = search needs
-
-enum-known-checked : tie.Need-enum-known-checked
-enum-known-checked c = search needs
-
 returns : tie.Need-returns
 returns c = record { says = reply-refused (sym (c .before .before .before .check-sum .ensures) ∙ c .before .checked .given .1) _; past = tt }
-
-enum-told : tie.Need-enum-told
-enum-told c = search needs
 
 largest-product-requires : tie.Need-largest-product-requires
 largest-product-requires c κs = (round c, limit c)
@@ -157,18 +148,5 @@ returns-2 c =
 pub sum-nonlinearity-spec : {M : Type 1} → statement M
 sum-nonlinearity-spec =
     tie.close
-    (tie.spec
-    check-sum-requires
-    enum-known-checked
-    returns
-    enum-told
-    largest-product-requires
-    witness-at-requires
-    inputs-if-requires
-    inputs-if-requires-2
-    add-last
-    inputs-if-requires-3
-    add-others
-    add-figure-of
-    figure-of-requires
-    returns-2)
+    (tie.spec (λ c κs. search needs) (λ c. search needs) returns (λ c. search needs) largest-product-requires witness-at-requires
+    inputs-if-requires inputs-if-requires-2 add-last inputs-if-requires-3 add-others add-figure-of figure-of-requires returns-2)

@@ -48,9 +48,6 @@ loop-holds c =
 cast-mask : tie.Need-cast-mask Inv-loop μ-loop
 cast-mask c = omega (arith, masks-fit (first-box (start c)) (inside c))
 
-is-preferred-requires : tie.Need-is-preferred-requires Inv-loop μ-loop
-is-preferred-requires c κs = search needs
-
 product-at-requires : tie.Need-product-at-requires Inv-loop μ-loop
 product-at-requires c κs = let in-loop = c .before .before in (start in-loop .pre .0, start in-loop .pre .2, in-loop .before .loop .inv .1)
 
@@ -93,17 +90,5 @@ returns c =
 pub sweep-spec : {M : Type 1} → statement M
 sweep-spec =
     tie.close
-    (tie.spec
-    Inv-loop
-    μ-loop
-    power-of-two-requires
-    loop-holds
-    cast-mask
-    product-at-requires
-    is-preferred-requires
-    next-mask-requires
-    loop-less
-    loop-again
-    same-length
-    same-length-2
-    returns)
+    (tie.spec Inv-loop μ-loop power-of-two-requires loop-holds cast-mask product-at-requires (λ c κs. search needs) next-mask-requires
+    loop-less loop-again same-length same-length-2 returns)

@@ -9,9 +9,6 @@ use borrow.Author.Needs.{needs}
 use Rattle.rounds.proofs.top_in.Statement.{statement}
 use Rattle.rounds.proofs.top_in.Tie as tie
 
-spectrum-of-component-requires : tie.Need-spectrum-of-component-requires
-spectrum-of-component-requires c κs = search needs
-
 -- what the call leaves
 written : (c : tie.After-spectrum-of-component) → let a = c .before .before .before .args in c .spectrum-of-component .last .1 .1 .1 .1 .0 ≡ spectrum (a .n) (component (a .rows .now) (a .c))
 written c =
@@ -27,9 +24,6 @@ highest-requires c κs =
     let size = values-length (a .n) (a .m) (a .rows .now) (a .c) (b .n-low) (written (c .before .before)) in
     (omega (arith, size, pow-pos (a .n)), omega (arith, size))
 
-same-length : tie.Need-same-length
-same-length c = search needs
-
 returns : tie.Need-returns
 returns c =
     let start = c .before .before .before .before .before .before in
@@ -39,4 +33,4 @@ returns c =
 
 pub top-in-spec : {M : Type 1} → statement M
 top-in-spec =
-    tie.close (tie.spec spectrum-of-component-requires highest-requires same-length returns)
+    tie.close (tie.spec (λ c κs. search needs) highest-requires (λ c. search needs) returns)

@@ -22,15 +22,6 @@ as-called c =
     let a = c .before .before .before .before .args in
     room-passed (offeredChecks (a .catalogue .now) (a .file .now)) _ (eq-eqb _ 1 (sym (c .if1 .left)))
 
-check-offered-requires : tie.Need-check-offered-requires
-check-offered-requires c κs = search needs
-
-number-for-room-requires : tie.Need-number-for-room-requires
-number-for-room-requires c κs = search needs
-
-same-length : tie.Need-same-length
-same-length c = search needs
-
 returns : tie.Need-returns
 unfolding addRecordChecks
 returns c =
@@ -41,30 +32,6 @@ returns c =
     let t = room-refused (offeredChecks b file) _ (ne-eqb _ 1 (λ e. else .if1 .taken (sym e))) in
     let n = c .number-for-room .ensures ∙ ap roomNumber (c .before .check-offered .ensures) ∙ t .number-is in
     (out-refused (t .is) n, out-refused (t .is) n)
-
-add-requires : tie.Need-add-requires
-add-requires c κs = search needs
-
-enum-known-index : tie.Need-enum-known-index
-enum-known-index c = search needs
-
-slice-aggregate-give : tie.Need-slice-aggregate-give
-slice-aggregate-give c = search needs
-
-give-requires : tie.Need-give-requires
-give-requires c κs = search needs
-
-enum-known-e : tie.Need-enum-known-e
-enum-known-e c = search needs
-
-number-of-requires : tie.Need-number-of-requires
-number-of-requires c κs = search needs
-
-same-length-2 : tie.Need-same-length-2
-same-length-2 c = search needs
-
-same-length-3 : tie.Need-same-length-3
-same-length-3 c = search needs
 
 returns-2 : tie.Need-returns-2
 returns-2 c =
@@ -81,9 +48,6 @@ returns-2 c =
     let records = called .add .ensures .content ∙ ap (λ (k : Checked). contentAfter k (added b file) b) as-here in
     let figured = out-figures index (sym (else .if1 .left)) (sym (ap told (is .index .given .1)) ∙ reply) (given .give .ensures) in
     (figured, record { number = figured .number; content = records })
-
-same-length-4 : tie.Need-same-length-4
-same-length-4 c = search needs
 
 returns-3 : tie.Need-returns-3
 returns-3 c =
@@ -103,19 +67,6 @@ returns-3 c =
 pub satmegwo-add-record-spec : {M : Type 1} → statement M
 satmegwo-add-record-spec =
     tie.close
-    (tie.spec
-    check-offered-requires
-    number-for-room-requires
-    same-length
-    returns
-    add-requires
-    enum-known-index
-    slice-aggregate-give
-    give-requires
-    enum-known-e
-    number-of-requires
-    same-length-2
-    same-length-3
-    returns-2
-    same-length-4
-    returns-3)
+    (tie.spec (λ c κs. search needs) (λ c κs. search needs) (λ c. search needs) returns (λ c κs. search needs) (λ c. search needs)
+    (λ c. search needs) (λ c κs. search needs) (λ c. search needs) (λ c κs. search needs) (λ c. search needs) (λ c. search needs)
+    returns-2 (λ c. search needs) returns-3)

@@ -4,18 +4,9 @@ use borrow.Author.Needs.{needs}
 use Rattle.satmegwo.proofs.satmegwo_bent_function.Statement.{statement}
 use Rattle.satmegwo.proofs.satmegwo_bent_function.Tie as tie
 
-bent-function-requires : tie.Need-bent-function-requires
-bent-function-requires c κs = search needs
-
-status-of-requires : tie.Need-status-of-requires
-status-of-requires c κs = search needs
-
-same-length : tie.Need-same-length
-same-length c = search needs
-
 returns : tie.Need-returns
 returns c = wrote-out (c .before .before .before .bent-function .ensures) (c .status-of .ensures)
 
 pub satmegwo-bent-function-spec : {M : Type 1} → statement M
 satmegwo-bent-function-spec =
-    tie.close (tie.spec bent-function-requires status-of-requires same-length returns)
+    tie.close (tie.spec (λ c κs. search needs) (λ c κs. search needs) (λ c. search needs) returns)

@@ -4,15 +4,6 @@ use borrow.Author.Needs.{needs}
 use Rattle.satmegwo.proofs.satmegwo_check_catalogue.Statement.{statement}
 use Rattle.satmegwo.proofs.satmegwo_check_catalogue.Tie as tie
 
-check-requires : tie.Need-check-requires
-check-requires c κs = search needs
-
-give-number-requires : tie.Need-give-number-requires
-give-number-requires c κs = search needs
-
-same-length : tie.Need-same-length
-same-length c = search needs
-
 returns : tie.Need-returns
 returns c =
     let given = c .before .before in
@@ -21,4 +12,4 @@ returns c =
 
 pub satmegwo-check-catalogue-spec : {M : Type 1} → statement M
 satmegwo-check-catalogue-spec =
-    tie.close (tie.spec check-requires give-number-requires same-length returns)
+    tie.close (tie.spec (λ c κs. search needs) (λ c κs. search needs) (λ c. search needs) returns)

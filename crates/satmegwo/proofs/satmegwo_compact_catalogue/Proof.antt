@@ -4,15 +4,6 @@ use borrow.Author.Needs.{needs}
 use Rattle.satmegwo.proofs.satmegwo_compact_catalogue.Statement.{statement}
 use Rattle.satmegwo.proofs.satmegwo_compact_catalogue.Tie as tie
 
-compact-requires : tie.Need-compact-requires
-compact-requires c κs = search needs
-
-status-of-requires : tie.Need-status-of-requires
-status-of-requires c κs = search needs
-
-same-length : tie.Need-same-length
-same-length c = search needs
-
 returns : tie.Need-returns
 returns c =
     let called = c .before .before .before .compact .ensures in
@@ -20,4 +11,4 @@ returns c =
 
 pub satmegwo-compact-catalogue-spec : {M : Type 1} → statement M
 satmegwo-compact-catalogue-spec =
-    tie.close (tie.spec compact-requires status-of-requires same-length returns)
+    tie.close (tie.spec (λ c κs. search needs) (λ c κs. search needs) (λ c. search needs) returns)

@@ -11,12 +11,6 @@ use borrow.Author.Needs.{needs}
 use Rattle.satmegwo.proofs.satmegwo_degree.Statement.{statement}
 use Rattle.satmegwo.proofs.satmegwo_degree.Tie as tie
 
-check-limited-requires : tie.Need-check-limited-requires
-check-limited-requires c κs = search needs
-
-number-for-room-requires : tie.Need-number-for-room-requires
-number-for-room-requires c κs = search needs
-
 returns : tie.Need-returns
 returns c =
     let else = c .before .before in
@@ -24,15 +18,6 @@ returns c =
     let found = first (limitChecks (a .n) (a .m) (a .rows .now) (a .i)) in
     room-first found (shown (boxDegree (a .n) (a .m) (a .rows .now) (a .i))) (c .number-for-room .ensures ∙ ap roomNumber (c .before .check-limited .ensures))
     (λ ok e. else .if1 .taken (e ∙ degree-size (a .n) (a .m) (a .rows .now) (a .i) ok))
-
-degree-requires : tie.Need-degree-requires
-degree-requires c κs = search needs
-
-give-degree-requires : tie.Need-give-degree-requires
-give-degree-requires c κs = search needs
-
-same-length : tie.Need-same-length
-same-length c = search needs
 
 returns-2 : tie.Need-returns-2
 returns-2 c =
@@ -43,11 +28,5 @@ returns-2 c =
 pub satmegwo-degree-spec : {M : Type 1} → statement M
 satmegwo-degree-spec =
     tie.close
-    (tie.spec
-    check-limited-requires
-    number-for-room-requires
-    returns
-    degree-requires
-    give-degree-requires
-    same-length
+    (tie.spec (λ c κs. search needs) (λ c κs. search needs) returns (λ c κs. search needs) (λ c κs. search needs) (λ c. search needs)
     returns-2)

@@ -12,12 +12,6 @@ use borrow.Author.Needs.{needs}
 use Rattle.satmegwo.proofs.satmegwo_dynamic_distance.Statement.{statement}
 use Rattle.satmegwo.proofs.satmegwo_dynamic_distance.Tie as tie
 
-check-distance-requires : tie.Need-check-distance-requires
-check-distance-requires c κs = search needs
-
-number-for-room-requires : tie.Need-number-for-room-requires
-number-for-room-requires c κs = search needs
-
 returns : tie.Need-returns
 returns c =
     let else = c .before .before in
@@ -25,15 +19,6 @@ returns c =
     let found = first (distanceChecks (a .n) (a .m) (a .rows .now) (a .i) (a .j)) in
     room-first found (shown (dynamicDistance (a .n) (a .m) (a .rows .now) (a .i) (a .j))) (c .number-for-room .ensures ∙ ap roomNumber (c .before .check-distance .ensures))
     (λ ok e. else .if1 .taken (e ∙ distance-size (a .n) (a .m) (a .rows .now) (a .i) (a .j) ok))
-
-dynamic-distance-requires : tie.Need-dynamic-distance-requires
-dynamic-distance-requires c κs = search needs
-
-give-change-requires : tie.Need-give-change-requires
-give-change-requires c κs = search needs
-
-same-length : tie.Need-same-length
-same-length c = search needs
 
 returns-2 : tie.Need-returns-2
 returns-2 c =
@@ -44,11 +29,5 @@ returns-2 c =
 pub satmegwo-dynamic-distance-spec : {M : Type 1} → statement M
 satmegwo-dynamic-distance-spec =
     tie.close
-    (tie.spec
-    check-distance-requires
-    number-for-room-requires
-    returns
-    dynamic-distance-requires
-    give-change-requires
-    same-length
+    (tie.spec (λ c κs. search needs) (λ c κs. search needs) returns (λ c κs. search needs) (λ c κs. search needs) (λ c. search needs)
     returns-2)

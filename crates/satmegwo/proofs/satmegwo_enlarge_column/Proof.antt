@@ -4,18 +4,9 @@ use borrow.Author.Needs.{needs}
 use Rattle.satmegwo.proofs.satmegwo_enlarge_column.Statement.{statement}
 use Rattle.satmegwo.proofs.satmegwo_enlarge_column.Tie as tie
 
-enlarge-column-requires : tie.Need-enlarge-column-requires
-enlarge-column-requires c κs = search needs
-
-status-of-requires : tie.Need-status-of-requires
-status-of-requires c κs = search needs
-
-same-length : tie.Need-same-length
-same-length c = search needs
-
 returns : tie.Need-returns
 returns c = wrote-out (c .before .before .before .enlarge-column .ensures) (c .status-of .ensures)
 
 pub satmegwo-enlarge-column-spec : {M : Type 1} → statement M
 satmegwo-enlarge-column-spec =
-    tie.close (tie.spec enlarge-column-requires status-of-requires same-length returns)
+    tie.close (tie.spec (λ c κs. search needs) (λ c κs. search needs) (λ c. search needs) returns)

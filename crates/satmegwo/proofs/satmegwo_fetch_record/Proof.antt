@@ -4,15 +4,6 @@ use borrow.Author.Needs.{needs}
 use Rattle.satmegwo.proofs.satmegwo_fetch_record.Statement.{statement}
 use Rattle.satmegwo.proofs.satmegwo_fetch_record.Tie as tie
 
-fetch-status-requires : tie.Need-fetch-status-requires
-fetch-status-requires c κs = search needs
-
-give-place-requires : tie.Need-give-place-requires
-give-place-requires c κs = search needs
-
-same-length : tie.Need-same-length
-same-length c = search needs
-
 returns : tie.Need-returns
 returns c =
     let given = c .before .before in
@@ -21,4 +12,4 @@ returns c =
 
 pub satmegwo-fetch-record-spec : {M : Type 1} → statement M
 satmegwo-fetch-record-spec =
-    tie.close (tie.spec fetch-status-requires give-place-requires same-length returns)
+    tie.close (tie.spec (λ c κs. search needs) (λ c κs. search needs) (λ c. search needs) returns)

@@ -4,15 +4,6 @@ use borrow.Author.Needs.{needs}
 use Rattle.satmegwo.proofs.satmegwo_largest_cell.Statement.{statement}
 use Rattle.satmegwo.proofs.satmegwo_largest_cell.Tie as tie
 
-largest-cell-requires : tie.Need-largest-cell-requires
-largest-cell-requires c κs = search needs
-
-give-cell-requires : tie.Need-give-cell-requires
-give-cell-requires c κs = search needs
-
-same-length : tie.Need-same-length
-same-length c = search needs
-
 returns : tie.Need-returns
 returns c =
     let given = c .before .before in
@@ -21,4 +12,4 @@ returns c =
 
 pub satmegwo-largest-cell-spec : {M : Type 1} → statement M
 satmegwo-largest-cell-spec =
-    tie.close (tie.spec largest-cell-requires give-cell-requires same-length returns)
+    tie.close (tie.spec (λ c κs. search needs) (λ c κs. search needs) (λ c. search needs) returns)

@@ -14,12 +14,6 @@ use borrow.Author.Needs.{needs}
 use Rattle.satmegwo.proofs.satmegwo_largest_cells.Statement.{statement}
 use Rattle.satmegwo.proofs.satmegwo_largest_cells.Tie as tie
 
-check-box-requires : tie.Need-check-box-requires
-check-box-requires c κs = search needs
-
-number-for-room-requires : tie.Need-number-for-room-requires
-number-for-room-requires c κs = search needs
-
 -- with one element lent for the figure, the checks are those of the call
 as-called : (c : tie.Else1) →
     let a = c .before .before .before .before .args in
@@ -36,30 +30,6 @@ returns c =
     let n = c .number-for-room .ensures ∙ ap roomNumber (c .before .check-box .ensures) ∙ t .number-is in
     (out-refused (t .is) n, out-refused (t .is) n)
 
-largest-cells-requires : tie.Need-largest-cells-requires
-largest-cells-requires c κs = search needs
-
-enum-known-count : tie.Need-enum-known-count
-enum-known-count c = search needs
-
-slice-aggregate-give : tie.Need-slice-aggregate-give
-slice-aggregate-give c = search needs
-
-give-requires : tie.Need-give-requires
-give-requires c κs = search needs
-
-enum-known-e : tie.Need-enum-known-e
-enum-known-e c = search needs
-
-number-of-requires : tie.Need-number-of-requires
-number-of-requires c κs = search needs
-
-same-length : tie.Need-same-length
-same-length c = search needs
-
-same-length-2 : tie.Need-same-length-2
-same-length-2 c = search needs
-
 returns-2 : tie.Need-returns-2
 returns-2 c =
     let given = c .before .before in
@@ -71,9 +41,6 @@ returns-2 c =
     let wrote = wrote-by (sym (as-called else)) (called .largest-cells .ensures) in
     let count = out-figures (length cells ∷ []) (else .if1 .left) (sym (ap listReply (is .count .given .1)) ∙ wrote .reply) (given .give .ensures) in
     (count, out-beside count wrote)
-
-same-length-3 : tie.Need-same-length-3
-same-length-3 c = search needs
 
 returns-3 : tie.Need-returns-3
 returns-3 c =
@@ -89,18 +56,6 @@ returns-3 c =
 pub satmegwo-largest-cells-spec : {M : Type 1} → statement M
 satmegwo-largest-cells-spec =
     tie.close
-    (tie.spec
-    check-box-requires
-    number-for-room-requires
-    returns
-    largest-cells-requires
-    enum-known-count
-    slice-aggregate-give
-    give-requires
-    enum-known-e
-    number-of-requires
-    same-length
-    same-length-2
-    returns-2
-    same-length-3
-    returns-3)
+    (tie.spec (λ c κs. search needs) (λ c κs. search needs) returns (λ c κs. search needs) (λ c. search needs) (λ c. search needs)
+    (λ c κs. search needs) (λ c. search needs) (λ c κs. search needs) (λ c. search needs) (λ c. search needs) returns-2
+    (λ c. search needs) returns-3)

@@ -4,18 +4,9 @@ use borrow.Author.Needs.{needs}
 use Rattle.satmegwo.proofs.satmegwo_normal_form.Statement.{statement}
 use Rattle.satmegwo.proofs.satmegwo_normal_form.Tie as tie
 
-normal-form-requires : tie.Need-normal-form-requires
-normal-form-requires c κs = search needs
-
-status-of-requires : tie.Need-status-of-requires
-status-of-requires c κs = search needs
-
-same-length : tie.Need-same-length
-same-length c = search needs
-
 returns : tie.Need-returns
 returns c = wrote-out (c .before .before .before .normal-form .ensures) (c .status-of .ensures)
 
 pub satmegwo-normal-form-spec : {M : Type 1} → statement M
 satmegwo-normal-form-spec =
-    tie.close (tie.spec normal-form-requires status-of-requires same-length returns)
+    tie.close (tie.spec (λ c κs. search needs) (λ c κs. search needs) (λ c. search needs) returns)

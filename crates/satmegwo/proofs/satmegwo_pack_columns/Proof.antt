@@ -4,17 +4,8 @@ use borrow.Author.Needs.{needs}
 use Rattle.satmegwo.proofs.satmegwo_pack_columns.Statement.{statement}
 use Rattle.satmegwo.proofs.satmegwo_pack_columns.Tie as tie
 
-pack-requires : tie.Need-pack-requires
-pack-requires c κs = search needs
-
-status-of-requires : tie.Need-status-of-requires
-status-of-requires c κs = search needs
-
-same-length : tie.Need-same-length
-same-length c = search needs
-
 returns : tie.Need-returns
 returns c = wrote-out (c .before .before .before .pack .ensures) (c .status-of .ensures)
 
 pub satmegwo-pack-columns-spec : {M : Type 1} → statement M
-satmegwo-pack-columns-spec = tie.close (tie.spec pack-requires status-of-requires same-length returns)
+satmegwo-pack-columns-spec = tie.close (tie.spec (λ c κs. search needs) (λ c κs. search needs) (λ c. search needs) returns)

@@ -10,12 +10,6 @@ use borrow.Author.Needs.{needs}
 use Rattle.satmegwo.proofs.satmegwo_raising_swap.Statement.{statement}
 use Rattle.satmegwo.proofs.satmegwo_raising_swap.Tie as tie
 
-check-box-up-to-requires : tie.Need-check-box-up-to-requires
-check-box-up-to-requires c κs = search needs
-
-number-for-room-requires : tie.Need-number-for-room-requires
-number-for-room-requires c κs = search needs
-
 returns : tie.Need-returns
 returns c =
     let else = c .before .before in
@@ -23,15 +17,6 @@ returns c =
     let found = first (boxChecksUpTo 8 (a .n) (a .m) (a .rows .now)) in
     room-first found (raised (a .n) (a .m) (a .rows .now)) (c .number-for-room .ensures ∙ ap roomNumber (c .before .check-box-up-to .ensures))
     (λ ok e. else .if1 .taken (e ∙ swap-size (a .n) (a .m) (a .rows .now)))
-
-raising-swap-requires : tie.Need-raising-swap-requires
-raising-swap-requires c κs = search needs
-
-give-swap-requires : tie.Need-give-swap-requires
-give-swap-requires c κs = search needs
-
-same-length : tie.Need-same-length
-same-length c = search needs
 
 returns-2 : tie.Need-returns-2
 returns-2 c =
@@ -42,11 +27,5 @@ returns-2 c =
 pub satmegwo-raising-swap-spec : {M : Type 1} → statement M
 satmegwo-raising-swap-spec =
     tie.close
-    (tie.spec
-    check-box-up-to-requires
-    number-for-room-requires
-    returns
-    raising-swap-requires
-    give-swap-requires
-    same-length
+    (tie.spec (λ c κs. search needs) (λ c κs. search needs) returns (λ c κs. search needs) (λ c κs. search needs) (λ c. search needs)
     returns-2)

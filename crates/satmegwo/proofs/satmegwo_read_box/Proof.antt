@@ -14,12 +14,6 @@ use borrow.Author.Needs.{needs}
 use Rattle.satmegwo.proofs.satmegwo_read_box.Statement.{statement}
 use Rattle.satmegwo.proofs.satmegwo_read_box.Tie as tie
 
-check-file-requires : tie.Need-check-file-requires
-check-file-requires c κs = search needs
-
-number-for-room-requires : tie.Need-number-for-room-requires
-number-for-room-requires c κs = search needs
-
 -- with two elements lent for the figures, the checks are those of the call
 as-called : (c : tie.Else1) →
     let a = c .before .before .before .before .args in
@@ -39,30 +33,6 @@ returns c =
     let n = c .number-for-room .ensures ∙ ap roomNumber (c .before .check-file .ensures) ∙ t .number-is in
     (out-refused (t .is) n, out-refused (t .is) n)
 
-read-box-requires : tie.Need-read-box-requires
-read-box-requires c κs = search needs
-
-enum-known-n : tie.Need-enum-known-n
-enum-known-n c = search needs
-
-slice-aggregate-give : tie.Need-slice-aggregate-give
-slice-aggregate-give c = search needs
-
-give-requires : tie.Need-give-requires
-give-requires c κs = search needs
-
-enum-known-e : tie.Need-enum-known-e
-enum-known-e c = search needs
-
-number-of-requires : tie.Need-number-of-requires
-number-of-requires c κs = search needs
-
-same-length : tie.Need-same-length
-same-length c = search needs
-
-same-length-2 : tie.Need-same-length-2
-same-length-2 c = search needs
-
 returns-2 : tie.Need-returns-2
 returns-2 c =
     let given = c .before .before in
@@ -77,9 +47,6 @@ returns-2 c =
     let rows = called .read-box .ensures .content ∙ ap (λ (k : Checked). contentAfter k (rowsOf file (at file 0)) (a .rows .now)) as-here in
     let figured = out-figures widths (else .if1 .left) (sym (ap boxFile (is .n .given .1)) ∙ reply) (given .give .ensures) in
     (figured, record { number = figured .number; content = rows })
-
-same-length-3 : tie.Need-same-length-3
-same-length-3 c = search needs
 
 returns-3 : tie.Need-returns-3
 returns-3 c =
@@ -98,18 +65,6 @@ returns-3 c =
 pub satmegwo-read-box-spec : {M : Type 1} → statement M
 satmegwo-read-box-spec =
     tie.close
-    (tie.spec
-    check-file-requires
-    number-for-room-requires
-    returns
-    read-box-requires
-    enum-known-n
-    slice-aggregate-give
-    give-requires
-    enum-known-e
-    number-of-requires
-    same-length
-    same-length-2
-    returns-2
-    same-length-3
-    returns-3)
+    (tie.spec (λ c κs. search needs) (λ c κs. search needs) returns (λ c κs. search needs) (λ c. search needs) (λ c. search needs)
+    (λ c κs. search needs) (λ c. search needs) (λ c κs. search needs) (λ c. search needs) (λ c. search needs) returns-2
+    (λ c. search needs) returns-3)

@@ -4,15 +4,6 @@ use borrow.Author.Needs.{needs}
 use Rattle.satmegwo.proofs.satmegwo_remove_record.Statement.{statement}
 use Rattle.satmegwo.proofs.satmegwo_remove_record.Tie as tie
 
-remove-requires : tie.Need-remove-requires
-remove-requires c κs = search needs
-
-status-of-requires : tie.Need-status-of-requires
-status-of-requires c κs = search needs
-
-same-length : tie.Need-same-length
-same-length c = search needs
-
 returns : tie.Need-returns
 returns c =
     let called = c .before .before .before .remove .ensures in
@@ -20,4 +11,4 @@ returns c =
 
 pub satmegwo-remove-record-spec : {M : Type 1} → statement M
 satmegwo-remove-record-spec =
-    tie.close (tie.spec remove-requires status-of-requires same-length returns)
+    tie.close (tie.spec (λ c κs. search needs) (λ c κs. search needs) (λ c. search needs) returns)

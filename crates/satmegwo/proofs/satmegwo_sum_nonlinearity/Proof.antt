@@ -32,15 +32,6 @@ four s = box1 s ∷ box2 s ∷ box3 s ∷ box4 s ∷ []
 abbrev summed : tie.Start → List Summand
 summed s = given (s .args .count) (four s)
 
-add-if1 : tie.Need-add-if1
-add-if1 c = search needs
-
-check-sum-requires : tie.Need-check-sum-requires
-check-sum-requires c κs = search needs
-
-number-for-room-requires : tie.Need-number-for-room-requires
-number-for-room-requires c κs = search needs
-
 returns : tie.Need-returns
 returns c =
     let checked = c .before in
@@ -51,15 +42,6 @@ returns c =
     (c .number-for-room .ensures ∙ ap roomNumber (checked .check-sum .ensures))
     (λ accepted e. then .if1 .taken (e ∙ figures-number (a .count) (box1 s) (box2 s) (box3 s) (box4 s) (a .i) accepted))
 
-sum-nonlinearity-requires : tie.Need-sum-nonlinearity-requires
-sum-nonlinearity-requires c κs = search needs
-
-give-sum-requires : tie.Need-give-sum-requires
-give-sum-requires c κs = search needs
-
-same-length : tie.Need-same-length
-same-length c = search needs
-
 returns-2 : tie.Need-returns-2
 returns-2 c =
     let given = c .before .before in
@@ -69,12 +51,5 @@ returns-2 c =
 pub satmegwo-sum-nonlinearity-spec : {M : Type 1} → statement M
 satmegwo-sum-nonlinearity-spec =
     tie.close
-    (tie.spec
-    add-if1
-    check-sum-requires
-    number-for-room-requires
-    returns
-    sum-nonlinearity-requires
-    give-sum-requires
-    same-length
-    returns-2)
+    (tie.spec (λ c. search needs) (λ c κs. search needs) (λ c κs. search needs) returns (λ c κs. search needs) (λ c κs. search needs)
+    (λ c. search needs) returns-2)

@@ -4,17 +4,8 @@ use borrow.Author.Needs.{needs}
 use Rattle.satmegwo.proofs.satmegwo_unpack_columns.Statement.{statement}
 use Rattle.satmegwo.proofs.satmegwo_unpack_columns.Tie as tie
 
-unpack-requires : tie.Need-unpack-requires
-unpack-requires c κs = search needs
-
-status-of-requires : tie.Need-status-of-requires
-status-of-requires c κs = search needs
-
-same-length : tie.Need-same-length
-same-length c = search needs
-
 returns : tie.Need-returns
 returns c = wrote-out (c .before .before .before .unpack .ensures) (c .status-of .ensures)
 
 pub satmegwo-unpack-columns-spec : {M : Type 1} → statement M
-satmegwo-unpack-columns-spec = tie.close (tie.spec unpack-requires status-of-requires same-length returns)
+satmegwo-unpack-columns-spec = tie.close (tie.spec (λ c κs. search needs) (λ c κs. search needs) (λ c. search needs) returns)

@@ -4,15 +4,6 @@ use Rattle.server.specs.Calls.{answered}
 use Rattle.satmegwo_server.proofs.satmegwo_server_ask.Statement.{statement}
 use Rattle.satmegwo_server.proofs.satmegwo_server_ask.Tie as tie
 
-ask-requires : tie.Need-ask-requires
-ask-requires c κs = search needs
-
-give-standing-requires : tie.Need-give-standing-requires
-give-standing-requires c κs = search needs
-
-same-length : tie.Need-same-length
-same-length c = search needs
-
 returns : tie.Need-returns
 returns c =
     let given = c .before .before in
@@ -21,4 +12,4 @@ returns c =
 
 pub satmegwo-server-ask-spec : {M : Type 1} → statement M
 satmegwo-server-ask-spec =
-    tie.close (tie.spec ask-requires give-standing-requires same-length returns)
+    tie.close (tie.spec (λ c κs. search needs) (λ c κs. search needs) (λ c. search needs) returns)

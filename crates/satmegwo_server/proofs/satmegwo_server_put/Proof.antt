@@ -4,16 +4,10 @@ use Rattle.refusals.specs.Table.{written}
 use Rattle.satmegwo_server.proofs.satmegwo_server_put.Statement.{statement}
 use Rattle.satmegwo_server.proofs.satmegwo_server_put.Tie as tie
 
-put-requires : tie.Need-put-requires
-put-requires c κs = search needs
-
-status-of-requires : tie.Need-status-of-requires
-status-of-requires c κs = search needs
-
 returns : tie.Need-returns
 returns c =
     let called = c .before .before .put in
     record { said = written (called .result .answer); outcome = called .ensures; number = c .status-of .ensures }
 
 pub satmegwo-server-put-spec : {M : Type 1} → statement M
-satmegwo-server-put-spec = tie.close (tie.spec put-requires status-of-requires returns)
+satmegwo-server-put-spec = tie.close (tie.spec (λ c κs. search needs) (λ c κs. search needs) returns)

@@ -4,16 +4,10 @@ use Rattle.refusals.specs.Table.{written}
 use Rattle.satmegwo_server.proofs.satmegwo_server_withdraw.Statement.{statement}
 use Rattle.satmegwo_server.proofs.satmegwo_server_withdraw.Tie as tie
 
-withdraw-requires : tie.Need-withdraw-requires
-withdraw-requires c κs = search needs
-
-status-of-requires : tie.Need-status-of-requires
-status-of-requires c κs = search needs
-
 returns : tie.Need-returns
 returns c =
     let called = c .before .before .withdraw in
     record { said = written (called .result .answer); outcome = called .ensures; number = c .status-of .ensures }
 
 pub satmegwo-server-withdraw-spec : {M : Type 1} → statement M
-satmegwo-server-withdraw-spec = tie.close (tie.spec withdraw-requires status-of-requires returns)
+satmegwo-server-withdraw-spec = tie.close (tie.spec (λ c κs. search needs) (λ c κs. search needs) returns)

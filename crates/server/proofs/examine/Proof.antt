@@ -6,7 +6,7 @@ use native.Mathlib.Omega.{arith}
 use borrow.Author.Needs.{needs}
 use lib.ListN.{length, take}
 use lib.Seq.{length-take-le}
-use Rattle.linear.specs.Work.{candidate}
+use Rattle.linear.specs.Calls.{candidate}
 use Rattle.server.proofs.Boxes.{left-few, rows-room, box-left}
 use Rattle.linear.specs.declared.Found.{Found}
 use Rattle.server.specs.Calls.{foundOf, better, oneMore}
@@ -24,9 +24,6 @@ returns-2 c u = absurd (omega (arith, left-few (c .before .before .args .p) u, c
 slice-aggregate-all : tie.Need-slice-aggregate-all
 slice-aggregate-all c = search needs
 
-power-of-two-requires : tie.Need-power-of-two-requires
-power-of-two-requires c κs = search needs
-
 returns-3 : tie.Need-returns-3
 returns-3 c u =
     let p = c .before .before .before .before .before .before .before .args .p in
@@ -34,14 +31,8 @@ returns-3 c u =
     let short : length (p .rows) < c .before .power-of-two .result = c .if3 .taken in
     absurd (omega (arith, rows-room p u, c .before .power-of-two .ensures .0))
 
-add-next : tie.Need-add-next
-add-next c = search needs
-
 slice-aggregate-with-component : tie.Need-slice-aggregate-with-component
 slice-aggregate-with-component c = sym (length-take-le _ _ (c .before .if3 .left))
-
-with-component-requires : tie.Need-with-component-requires
-with-component-requires c κs = search needs
 
 returns-4 : tie.Need-returns-4
 unfolding oneMore
@@ -56,13 +47,5 @@ returns-4 c u =
 pub examine-spec : {M : Type 1} → statement M
 examine-spec =
     tie.close
-    (tie.spec
-    returns
-    returns-2
-    slice-aggregate-all
-    power-of-two-requires
-    returns-3
-    add-next
-    slice-aggregate-with-component
-    with-component-requires
-    returns-4)
+    (tie.spec returns returns-2 slice-aggregate-all (λ c κs. search needs) returns-3 (λ c. search needs)
+    slice-aggregate-with-component (λ c κs. search needs) returns-4)

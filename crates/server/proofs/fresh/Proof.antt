@@ -4,19 +4,10 @@ use Rattle.server.proofs.Boxes.{fresh-place}
 use Rattle.server.proofs.fresh.Statement.{statement}
 use Rattle.server.proofs.fresh.Tie as tie
 
-cast-t7 : tie.Need-cast-t7
-cast-t7 c = search needs
-
-add-t8 : tie.Need-add-t8
-add-t8 c = search needs
-
-padded-requires : tie.Need-padded-requires
-padded-requires c κs = search needs
-
 returns : tie.Need-returns
 returns c =
     let a = c .before .before .args in
     fresh-place (a .n) (a .m) (a .rows .now) (c .padded .result) (c .before .before .pre .size) (c .padded .ensures)
 
 pub fresh-spec : {M : Type 1} → statement M
-fresh-spec = tie.close (tie.spec cast-t7 add-t8 padded-requires returns)
+fresh-spec = tie.close (tie.spec (λ c. search needs) (λ c. search needs) (λ c κs. search needs) returns)

@@ -55,16 +55,4 @@ returns-2 c =
 pub next-place-spec : {M : Type 1} → statement M
 next-place-spec =
     tie.close
-    (tie.spec
-    Inv-loop
-    μ-loop
-    loop-holds
-    add-i
-    cast-j
-    element-copy-out-if1
-    add-result
-    returns
-    add-k
-    loop-less
-    loop-again
-    returns-2)
+    (tie.spec Inv-loop μ-loop loop-holds add-i cast-j element-copy-out-if1 add-result returns add-k loop-less loop-again returns-2)

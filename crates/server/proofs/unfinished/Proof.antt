@@ -18,17 +18,11 @@ use Rattle.server.proofs.unfinished.Tie as tie
 returns : tie.Need-returns
 returns c = let p = c .before .before .args .p in sym (ap model.unfinished (spot-empty p (c .if1 .taken)))
 
-in-range-requires : tie.Need-in-range-requires
-in-range-requires c κs = search needs
-
 returns-2 : tie.Need-returns-2
 returns-2 c =
     let left = c .before .before in
     let p = left .before .before .args .p in
     sym (ap model.unfinished (spot-box p (left .if1 .left)) ∙ no-inputs (boxOf p) (fails (c .before .in-range .ensures) (c .if2 .taken)))
-
-in-range-requires-2 : tie.Need-in-range-requires-2
-in-range-requires-2 c κs = search needs
 
 returns-3 : tie.Need-returns-3
 returns-3 c =
@@ -65,13 +59,5 @@ returns-4 c =
 pub unfinished-spec : {M : Type 1} → statement M
 unfinished-spec =
     tie.close
-    (tie.spec
-    returns
-    in-range-requires
-    returns-2
-    in-range-requires-2
-    returns-3
-    power-of-two-requires
-    cast-masks
-    sub-result
+    (tie.spec returns (λ c κs. search needs) returns-2 (λ c κs. search needs) returns-3 power-of-two-requires cast-masks sub-result
     returns-4)

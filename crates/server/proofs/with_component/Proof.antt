@@ -6,26 +6,17 @@ use lib.Seq.{length-take-le}
 use Rattle.refusals.specs.Table.{Box, first, boxChecks}
 use Rattle.refusals.specs.declared.Checked.the-variants.{Accepted}
 use Rattle.refusals.proofs.Checks.{box}
-use Rattle.linear.specs.Work.{candidate}
+use Rattle.linear.specs.Calls.{candidate}
 use Rattle.server.specs.Calls.{foundOf}
 use Rattle.server.proofs.Boxes.{better-none, better-some}
 use Rattle.server.proofs.with_component.Statement.{statement}
 use Rattle.server.proofs.with_component.Tie as tie
-
-check-box-requires : tie.Need-check-box-requires
-check-box-requires c κs = search needs
-
-enum-told : tie.Need-enum-told
-enum-told c = search needs
 
 returns : tie.Need-returns
 returns c =
     let p = c .before .before in
     let a = p .before .before .args in
     sym (ap foundOf (better-none (a .n) (a .m) (a .rows .now) (candidate (a .found)) (a .c) (sym (p .check-box .ensures) ∙ c .enum-told .given .1)))
-
-enum-told-2 : tie.Need-enum-told-2
-enum-told-2 c = search needs
 
 accepted : (c : tie.After-enum-told2) → let a = c .before .before .before .before .args in first (boxChecks (a .n) (a .m) (a .rows .now)) ≡ Accepted
 accepted c = sym (c .before .before .check-box .ensures) ∙ c .enum-told2 .given .1
@@ -64,14 +55,5 @@ returns-2 c =
 pub with-component-spec : {M : Type 1} → statement M
 with-component-spec =
     tie.close
-    (tie.spec
-    check-box-requires
-    enum-told
-    returns
-    enum-told-2
-    array-borrow-prefix-table
-    slice-aggregate-with-arrays
-    array-borrow-prefix-values
-    slice-aggregate-with-arrays-2
-    with-arrays-requires
-    returns-2)
+    (tie.spec (λ c κs. search needs) (λ c. search needs) returns (λ c. search needs) array-borrow-prefix-table
+    slice-aggregate-with-arrays array-borrow-prefix-values slice-aggregate-with-arrays-2 with-arrays-requires returns-2)

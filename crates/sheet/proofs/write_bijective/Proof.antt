@@ -9,30 +9,12 @@ use borrow.Author.Needs.{needs}
 use Rattle.sheet.proofs.write_bijective.Statement.{statement}
 use Rattle.sheet.proofs.write_bijective.Tie as tie
 
-is-bijective-requires : tie.Need-is-bijective-requires
-is-bijective-requires c κs = search needs
-
-enum-told : tie.Need-enum-told
-enum-told c = search needs
-
-enum-told-2 : tie.Need-enum-told-2
-enum-told-2 c = search needs
-
 returns : tie.Need-returns
 unfolding sheetLines
 returns c =
     let call = c .before .before .is-bijective in
     let told = undecided (call .result) (c .before .match .keys2) (c .match2 .keys2) in
     printed-nothing (decided-refused "bijective" (sym (call .ensures) ∙ ap verdict (told .1)))
-
-slice-aggregate-put-bytes : tie.Need-slice-aggregate-put-bytes
-slice-aggregate-put-bytes c = search needs
-
-put-bytes-requires : tie.Need-put-bytes-requires
-put-bytes-requires c κs = search needs
-
-same-length : tie.Need-same-length
-same-length c = search needs
 
 returns-2 : tie.Need-returns-2
 unfolding sheetLines
@@ -41,15 +23,6 @@ returns-2 c =
     let told = put .before .before .before in
     let reply = sym (told .before .before .before .is-bijective .ensures) ∙ ap verdict (told .enum-told2 .given .1) in
     printed-line 14 (decided-no "bijective" reply) (search needs) (put .put-bytes .ensures .0) (put .put-bytes .ensures .1) (printed-none _ _)
-
-slice-aggregate-put-bytes-2 : tie.Need-slice-aggregate-put-bytes-2
-slice-aggregate-put-bytes-2 c = search needs
-
-put-bytes-requires-2 : tie.Need-put-bytes-requires-2
-put-bytes-requires-2 c κs = search needs
-
-same-length-2 : tie.Need-same-length-2
-same-length-2 c = search needs
 
 returns-3 : tie.Need-returns-3
 unfolding sheetLines
@@ -62,16 +35,5 @@ returns-3 c =
 pub write-bijective-spec : {M : Type 1} → statement M
 write-bijective-spec =
     tie.close
-    (tie.spec
-    is-bijective-requires
-    enum-told
-    enum-told-2
-    returns
-    slice-aggregate-put-bytes
-    put-bytes-requires
-    same-length
-    returns-2
-    slice-aggregate-put-bytes-2
-    put-bytes-requires-2
-    same-length-2
-    returns-3)
+    (tie.spec (λ c κs. search needs) (λ c. search needs) (λ c. search needs) returns (λ c. search needs) (λ c κs. search needs)
+    (λ c. search needs) returns-2 (λ c. search needs) (λ c κs. search needs) (λ c. search needs) returns-3)

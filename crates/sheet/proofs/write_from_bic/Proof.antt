@@ -11,18 +11,6 @@ use borrow.Author.Needs.{needs}
 use Rattle.sheet.proofs.write_from_bic.Statement.{statement}
 use Rattle.sheet.proofs.write_from_bic.Tie as tie
 
-slice-aggregate-put-bytes : tie.Need-slice-aggregate-put-bytes
-slice-aggregate-put-bytes c = search needs
-
-put-bytes-requires : tie.Need-put-bytes-requires
-put-bytes-requires c κs = search needs
-
-write-from-degree-requires : tie.Need-write-from-degree-requires
-write-from-degree-requires c κs = search needs
-
-same-length : tie.Need-same-length
-same-length c = search needs
-
 returns : tie.Need-returns
 unfolding sheetLines
 returns c =
@@ -32,15 +20,6 @@ returns c =
     let one : then .before .before .before .args .m ≡ 1 = omega (arith, then .if1 .taken) in
     printed-line 37 (bic-none _ _ _ one) (search needs) (put .put-bytes .ensures .0) (put .put-bytes .ensures .1) (done .write-from-degree .ensures)
 
-dynamic-distance-requires : tie.Need-dynamic-distance-requires
-dynamic-distance-requires c κs = search needs
-
-enum-known-answer : tie.Need-enum-known-answer
-enum-known-answer c = search needs
-
-enum-told : tie.Need-enum-told
-enum-told c = search needs
-
 returns-2 : tie.Need-returns-2
 unfolding sheetLines
 returns-2 c =
@@ -48,22 +27,10 @@ returns-2 c =
     let reply = sym (call .dynamic-distance .ensures) ∙ ap changeReply (c .enum-told .given .1) in
     printed-nothing (ap outcome (bic-shown _ _ _ (call .before .if1 .left)) ∙ numbers-refused "bic" reply)
 
-slice-aggregate-put-line : tie.Need-slice-aggregate-put-line
-slice-aggregate-put-line c = search needs
-
-slice-aggregate-put-line-2 : tie.Need-slice-aggregate-put-line-2
-slice-aggregate-put-line-2 c = search needs
-
-put-line-requires : tie.Need-put-line-requires
-put-line-requires c κs = search needs
-
 write-from-degree-requires-2 : tie.Need-write-from-degree-requires-2
 write-from-degree-requires-2 c κs =
     let put = c .before .before .before .put-line in
     room-after 37 67 _ (line-few _ _) (put .ensures .0) (put .kept .0) (search needs)
-
-same-length-2 : tie.Need-same-length-2
-same-length-2 c = search needs
 
 returns-3 : tie.Need-returns-3
 unfolding sheetLines
@@ -79,19 +46,6 @@ returns-3 c =
 pub write-from-bic-spec : {M : Type 1} → statement M
 write-from-bic-spec =
     tie.close
-    (tie.spec
-    slice-aggregate-put-bytes
-    put-bytes-requires
-    write-from-degree-requires
-    same-length
-    returns
-    dynamic-distance-requires
-    enum-known-answer
-    enum-told
-    returns-2
-    slice-aggregate-put-line
-    slice-aggregate-put-line-2
-    put-line-requires
-    write-from-degree-requires-2
-    same-length-2
-    returns-3)
+    (tie.spec (λ c. search needs) (λ c κs. search needs) (λ c κs. search needs) (λ c. search needs) returns (λ c κs. search needs)
+    (λ c. search needs) (λ c. search needs) returns-2 (λ c. search needs) (λ c. search needs) (λ c κs. search needs)
+    write-from-degree-requires-2 (λ c. search needs) returns-3)

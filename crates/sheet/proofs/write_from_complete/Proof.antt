@@ -10,33 +10,12 @@ use borrow.Author.Needs.{needs}
 use Rattle.sheet.proofs.write_from_complete.Statement.{statement}
 use Rattle.sheet.proofs.write_from_complete.Tie as tie
 
-is-complete-requires : tie.Need-is-complete-requires
-is-complete-requires c κs = search needs
-
-enum-told : tie.Need-enum-told
-enum-told c = search needs
-
-enum-told-2 : tie.Need-enum-told-2
-enum-told-2 c = search needs
-
 returns : tie.Need-returns
 unfolding sheetLines
 returns c =
     let call = c .before .before .is-complete in
     let told = undecided (call .result) (c .before .match .keys2) (c .match2 .keys2) in
     printed-nothing (decided-refused "complete" (sym (call .ensures) ∙ ap verdict (told .1)))
-
-slice-aggregate-put-bytes : tie.Need-slice-aggregate-put-bytes
-slice-aggregate-put-bytes c = search needs
-
-put-bytes-requires : tie.Need-put-bytes-requires
-put-bytes-requires c κs = search needs
-
-write-bijective-requires : tie.Need-write-bijective-requires
-write-bijective-requires c κs = search needs
-
-same-length : tie.Need-same-length
-same-length c = search needs
 
 returns-2 : tie.Need-returns-2
 unfolding sheetLines
@@ -46,18 +25,6 @@ returns-2 c =
     let told = put .before .before .before in
     let reply = sym (told .before .before .before .is-complete .ensures) ∙ ap verdict (told .enum-told2 .given .1) in
     printed-line 13 (decided-no "complete" reply) (search needs) (put .put-bytes .ensures .0) (put .put-bytes .ensures .1) (done .write-bijective .ensures)
-
-slice-aggregate-put-bytes-2 : tie.Need-slice-aggregate-put-bytes-2
-slice-aggregate-put-bytes-2 c = search needs
-
-put-bytes-requires-2 : tie.Need-put-bytes-requires-2
-put-bytes-requires-2 c κs = search needs
-
-write-bijective-requires-2 : tie.Need-write-bijective-requires-2
-write-bijective-requires-2 c κs = search needs
-
-same-length-2 : tie.Need-same-length-2
-same-length-2 c = search needs
 
 returns-3 : tie.Need-returns-3
 unfolding sheetLines
@@ -71,18 +38,6 @@ returns-3 c =
 pub write-from-complete-spec : {M : Type 1} → statement M
 write-from-complete-spec =
     tie.close
-    (tie.spec
-    is-complete-requires
-    enum-told
-    enum-told-2
-    returns
-    slice-aggregate-put-bytes
-    put-bytes-requires
-    write-bijective-requires
-    same-length
-    returns-2
-    slice-aggregate-put-bytes-2
-    put-bytes-requires-2
-    write-bijective-requires-2
-    same-length-2
-    returns-3)
+    (tie.spec (λ c κs. search needs) (λ c. search needs) (λ c. search needs) returns (λ c. search needs) (λ c κs. search needs)
+    (λ c κs. search needs) (λ c. search needs) returns-2 (λ c. search needs) (λ c κs. search needs) (λ c κs. search needs)
+    (λ c. search needs) returns-3)

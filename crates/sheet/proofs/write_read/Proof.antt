@@ -16,45 +16,6 @@ read c =
     let start = c .before .before .before .before .before in
     c .read-box .ensures .reply ∙ reply-with-room (start .args .file .now) (start .pre .0)
 
-read-box-requires : tie.Need-read-box-requires
-read-box-requires c κs = search needs
-
-enum-known-answer : tie.Need-enum-known-answer
-enum-known-answer c = search needs
-
-enum-known-answer-2 : tie.Need-enum-known-answer-2
-enum-known-answer-2 c = search needs
-
-enum-known-answer-3 : tie.Need-enum-known-answer-3
-enum-known-answer-3 c = search needs
-
-enum-told : tie.Need-enum-told
-enum-told c = search needs
-
-same-length : tie.Need-same-length
-same-length c = search needs
-
-returns : tie.Need-returns
-returns c = search needs
-
-slice-aggregate-put-line : tie.Need-slice-aggregate-put-line
-slice-aggregate-put-line c = search needs
-
-number-of-requires : tie.Need-number-of-requires
-number-of-requires c κs = search needs
-
-slice-aggregate-put-line-2 : tie.Need-slice-aggregate-put-line-2
-slice-aggregate-put-line-2 c = search needs
-
-put-line-requires : tie.Need-put-line-requires
-put-line-requires c κs = search needs
-
-same-length-2 : tie.Need-same-length-2
-same-length-2 c = search needs
-
-same-length-3 : tie.Need-same-length-3
-same-length-3 c = search needs
-
 returns-2 : tie.Need-returns-2
 returns-2 c =
     let put = c .before .before in
@@ -66,25 +27,10 @@ returns-2 c =
     let reply = sym (read reading) ∙ ap boxFile (told-before .answer2 .given .1 ∙ told .answer3 .given .1) ∙ ap refusal (sym (number .number-of .ensures)) in
     (wrote-refused (start .args .file .now) (start .args .text .now) reply (put .put-line .ensures .0) (put .put-line .ensures .1), reading .read-box .kept .1 .0)
 
-slice-aggregate-put-line-3 : tie.Need-slice-aggregate-put-line-3
-slice-aggregate-put-line-3 c = search needs
-
-slice-aggregate-put-line-4 : tie.Need-slice-aggregate-put-line-4
-slice-aggregate-put-line-4 c = search needs
-
-put-line-requires-2 : tie.Need-put-line-requires-2
-put-line-requires-2 c κs = search needs
-
 write-from-nonlinearity-requires : tie.Need-write-from-nonlinearity-requires
 write-from-nonlinearity-requires c κs =
     let put = c .before .before .before .before .put-line2 in
     room-after 26 306 0 (line-few _ _) (put .ensures .0) (put .kept .0) (search needs)
-
-same-length-4 : tie.Need-same-length-4
-same-length-4 c = search needs
-
-same-length-5 : tie.Need-same-length-5
-same-length-5 c = search needs
 
 returns-3 : tie.Need-returns-3
 returns-3 c =
@@ -102,25 +48,7 @@ returns-3 c =
 pub write-read-spec : {M : Type 1} → statement M
 write-read-spec =
     tie.close
-    (tie.spec
-    read-box-requires
-    enum-known-answer
-    enum-known-answer-2
-    enum-known-answer-3
-    enum-told
-    same-length
-    returns
-    slice-aggregate-put-line
-    number-of-requires
-    slice-aggregate-put-line-2
-    put-line-requires
-    same-length-2
-    same-length-3
-    returns-2
-    slice-aggregate-put-line-3
-    slice-aggregate-put-line-4
-    put-line-requires-2
-    write-from-nonlinearity-requires
-    same-length-4
-    same-length-5
-    returns-3)
+    (tie.spec (λ c κs. search needs) (λ c. search needs) (λ c. search needs) (λ c. search needs) (λ c. search needs)
+    (λ c. search needs) (λ c. search needs) (λ c. search needs) (λ c κs. search needs) (λ c. search needs) (λ c κs. search needs)
+    (λ c. search needs) (λ c. search needs) returns-2 (λ c. search needs) (λ c. search needs) (λ c κs. search needs)
+    write-from-nonlinearity-requires (λ c. search needs) (λ c. search needs) returns-3)

@@ -5,12 +5,6 @@ use borrow.Author.Needs.{needs}
 use Rattle.sheet.proofs.write_sheet.Statement.{statement}
 use Rattle.sheet.proofs.write_sheet.Tie as tie
 
-room-of-requires : tie.Need-room-of-requires
-room-of-requires c κs = search needs
-
-array-borrow-prefix-rows : tie.Need-array-borrow-prefix-rows
-array-borrow-prefix-rows c = search needs
-
 slice-aggregate-write-read : tie.Need-slice-aggregate-write-read
 slice-aggregate-write-read c = sym (length-take-le _ _ (c .before .room-of .ensures .1))
 
@@ -25,9 +19,4 @@ returns c = c .before .write-read .ensures .0
 pub write-sheet-spec : {M : Type 1} → statement M
 write-sheet-spec =
     tie.close
-    (tie.spec
-    room-of-requires
-    array-borrow-prefix-rows
-    slice-aggregate-write-read
-    write-read-requires
-    returns)
+    (tie.spec (λ c κs. search needs) (λ c. search needs) slice-aggregate-write-read write-read-requires returns)

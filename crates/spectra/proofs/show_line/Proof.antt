@@ -8,12 +8,6 @@ use borrow.Author.Needs.{needs}
 use Rattle.spectra.proofs.show_line.Statement.{statement}
 use Rattle.spectra.proofs.show_line.Tie as tie
 
-smaller-requires : tie.Need-smaller-requires
-smaller-requires c κs = search needs
-
-array-borrow-prefix-table : tie.Need-array-borrow-prefix-table
-array-borrow-prefix-table c = search needs
-
 slice-aggregate-read-digits : tie.Need-slice-aggregate-read-digits
 slice-aggregate-read-digits c = sym (length-take-le _ _ (c .before .smaller .ensures .2))
 
@@ -32,21 +26,8 @@ slice-aggregate-show-table c =
     let p = c .before .before in
     sym (ap length (part-is (p .read-digits .last .1 .0) _ _ (long p)) ∙ long p)
 
-show-table-requires : tie.Need-show-table-requires
-show-table-requires c κs = search needs
-
-returns : tie.Need-returns
-returns c = search needs
-
 pub show-line-spec : {M : Type 1} → statement M
 show-line-spec =
     tie.close
-    (tie.spec
-    smaller-requires
-    array-borrow-prefix-table
-    slice-aggregate-read-digits
-    read-digits-requires
-    array-share-prefix-table
-    slice-aggregate-show-table
-    show-table-requires
-    returns)
+    (tie.spec (λ c κs. search needs) (λ c. search needs) slice-aggregate-read-digits read-digits-requires array-share-prefix-table
+    slice-aggregate-show-table (λ c κs. search needs) (λ c. search needs))

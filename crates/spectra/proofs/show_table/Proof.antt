@@ -7,41 +7,8 @@ use borrow.Author.Needs.{needs}
 use Rattle.spectra.proofs.show_table.Statement.{statement}
 use Rattle.spectra.proofs.show_table.Tie as tie
 
-smaller-requires : tie.Need-smaller-requires
-smaller-requires c κs = search needs
-
-width-of-requires : tie.Need-width-of-requires
-width-of-requires c κs = search needs
-
-array-borrow-prefix-values : tie.Need-array-borrow-prefix-values
-array-borrow-prefix-values c = search needs
-
 slice-aggregate-spectrum : tie.Need-slice-aggregate-spectrum
 slice-aggregate-spectrum c = sym (length-take-le _ _ (c .before .before .smaller .ensures .2))
-
-spectrum-requires : tie.Need-spectrum-requires
-spectrum-requires c κs = search needs
-
-enum-told : tie.Need-enum-told
-enum-told c = search needs
-
-enum-known-answer : tie.Need-enum-known-answer
-enum-known-answer c = search needs
-
-enum-known-answer-2 : tie.Need-enum-known-answer-2
-enum-known-answer-2 c = search needs
-
-write-refused-requires : tie.Need-write-refused-requires
-write-refused-requires c κs = search needs
-
-enum-told-2 : tie.Need-enum-told-2
-enum-told-2 c = search needs
-
-returns : tie.Need-returns
-returns c = search needs
-
-returns-2 : tie.Need-returns-2
-returns-2 c = search needs
 
 -- what came back is as long as what was lent
 long : (c : tie.After-spectrum) → length (c .spectrum .last .1 .1 .0) ≡ c .before .before .before .smaller .result
@@ -55,29 +22,9 @@ slice-aggregate-show-spectrum c =
     let p = c .before .before .before .before in
     sym (ap length (part-is (p .spectrum .last .1 .1 .0) _ _ (long p)) ∙ long p)
 
-show-spectrum-requires : tie.Need-show-spectrum-requires
-show-spectrum-requires c κs = search needs
-
-returns-3 : tie.Need-returns-3
-returns-3 c = search needs
-
 pub show-table-spec : {M : Type 1} → statement M
 show-table-spec =
     tie.close
-    (tie.spec
-    smaller-requires
-    width-of-requires
-    array-borrow-prefix-values
-    slice-aggregate-spectrum
-    spectrum-requires
-    enum-told
-    enum-known-answer
-    enum-known-answer-2
-    write-refused-requires
-    enum-told-2
-    returns
-    returns-2
-    array-share-prefix-values
-    slice-aggregate-show-spectrum
-    show-spectrum-requires
-    returns-3)
+    (tie.spec (λ c κs. search needs) (λ c κs. search needs) (λ c. search needs) slice-aggregate-spectrum (λ c κs. search needs)
+    (λ c. search needs) (λ c. search needs) (λ c. search needs) (λ c κs. search needs) (λ c. search needs) (λ c. search needs)
+    (λ c. search needs) array-share-prefix-values slice-aggregate-show-spectrum (λ c κs. search needs) (λ c. search needs))

@@ -13,25 +13,10 @@ Inv-loop length n₀ n = (n ≤ 8) × (n ≤ widthOf length)
 abbrev μ-loop : tie.MeasureT-loop
 μ-loop length n₀ n = 8 - n
 
-loop-holds : tie.Need-loop-holds Inv-loop μ-loop
-loop-holds c = search needs
-
-add-power-of-two : tie.Need-add-power-of-two Inv-loop μ-loop
-add-power-of-two c = search needs
-
-power-of-two-requires : tie.Need-power-of-two-requires Inv-loop μ-loop
-power-of-two-requires c κs = search needs
-
 returns : tie.Need-returns Inv-loop μ-loop
 returns c =
     let l = c .before .before .before in
     omega (arith, width-below (l .before .args .length) (l .loop .n) (omega (arith, c .before .power-of-two .ensures .0)))
-
-add-n : tie.Need-add-n Inv-loop μ-loop
-add-n c = search needs
-
-loop-less : tie.Need-loop-less Inv-loop μ-loop
-loop-less c = search needs
 
 loop-again : tie.Need-loop-again Inv-loop μ-loop
 loop-again c =
@@ -44,14 +29,5 @@ returns-2 c = omega (arith, width-most (c .before .before .args .length))
 pub width-of-spec : {M : Type 1} → statement M
 width-of-spec =
     tie.close
-    (tie.spec
-    Inv-loop
-    μ-loop
-    loop-holds
-    add-power-of-two
-    power-of-two-requires
-    returns
-    add-n
-    loop-less
-    loop-again
-    returns-2)
+    (tie.spec Inv-loop μ-loop (λ c. search needs) (λ c. search needs) (λ c κs. search needs) returns (λ c. search needs)
+    (λ c. search needs) loop-again returns-2)

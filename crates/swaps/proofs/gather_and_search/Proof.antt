@@ -29,29 +29,11 @@ search-requires c κs =
       witness-nearest (a .n) (a .m) (a .rows .now) (start .pre .0 .box) (start .pre .3) .mask,
     )
 
-same-length : tie.Need-same-length
-same-length c = search needs
-
-same-length-2 : tie.Need-same-length-2
-same-length-2 c = search needs
-
-same-length-3 : tie.Need-same-length-3
-same-length-3 c = search needs
-
-same-length-4 : tie.Need-same-length-4
-same-length-4 c = search needs
-
 returns : tie.Need-returns
 returns c = (c .before .before .before .before .before .search .ensures .0, search needs, search needs, search needs, search needs)
 
 pub gather-and-search-spec : {M : Type 1} → statement M
 gather-and-search-spec =
     tie.close
-    (tie.spec
-    gather-pairs-requires
-    search-requires
-    same-length
-    same-length-2
-    same-length-3
-    same-length-4
+    (tie.spec gather-pairs-requires search-requires (λ c. search needs) (λ c. search needs) (λ c. search needs) (λ c. search needs)
     returns)

@@ -6,7 +6,7 @@ use native.Mathlib.Nat.{le-refl}
 use native.Mathlib.Omega.{arith}
 use borrow.Author.Needs.{needs}
 use lib.Pow.{pow-mono}
-use Rattle.swaps.specs.Calls.{Gathered}
+use Rattle.swaps.specs.Work.{Gathered}
 use Rattle.swaps.proofs.Gathering.{Gathering, differs-le, preferred-nearest, gathered-one, gathered-more, gathering-next}
 use Rattle.swaps.proofs.gather_pairs.Statement.{statement}
 use Rattle.swaps.proofs.gather_pairs.Tie as tie
@@ -23,9 +23,6 @@ first c = let start = c .before .before .before .before .before .before .before 
 
 write-table-requires : tie.Need-write-table-requires Inv-loop μ-loop
 write-table-requires c κs = let start = c .before .before .before .before in (start .pre .0 .box .small, omega (arith, start .pre .0 .box .small), start .pre .4)
-
-same-length : tie.Need-same-length Inv-loop μ-loop
-same-length c = search needs
 
 returns : tie.Need-returns Inv-loop μ-loop
 returns c = (first (c .before), search needs, search needs)
@@ -77,9 +74,6 @@ add-mask c =
     let most = pow-mono {j = 8} (c .before .before .before .before .before .before .before .before .before .before .before .before .before .before .before .before .before .before .before .before .before .before .pre .2) in
     omega (arith, c .before .before .before .before .before .before .before .before .before .before .before .loop-test .taken, c .before .before .before .before .before .before .before .before .before .before .before .before .before .power-of-two .ensures .0)
 
-loop-less : tie.Need-loop-less Inv-loop μ-loop
-loop-less c = search needs
-
 loop-again : tie.Need-loop-again Inv-loop μ-loop
 loop-again c =
     let turn = c .before in
@@ -111,29 +105,6 @@ returns-3 c = (c .before .loop .inv .gathered, search needs, search needs)
 pub gather-pairs-spec : {M : Type 1} → statement M
 gather-pairs-spec =
     tie.close
-    (tie.spec
-    Inv-loop
-    μ-loop
-    write-table-requires
-    same-length
-    returns
-    add-farther
-    power-of-two-requires
-    cast-masks
-    loop-holds
-    same-length-2
-    same-length-3
-    same-length-4
-    returns-2
-    component-spectrum-requires
-    with-spectrum-requires
-    mul-write-table
-    write-table-requires-2
-    add-count
-    add-mask
-    loop-less
-    loop-again
-    same-length-5
-    same-length-6
-    same-length-7
-    returns-3)
+    (tie.spec Inv-loop μ-loop write-table-requires (λ c. search needs) returns add-farther power-of-two-requires cast-masks loop-holds
+    same-length-2 same-length-3 same-length-4 returns-2 component-spectrum-requires with-spectrum-requires mul-write-table
+    write-table-requires-2 add-count add-mask (λ c. search needs) loop-again same-length-5 same-length-6 same-length-7 returns-3)

@@ -12,17 +12,8 @@ use borrow.Author.Needs.{needs}
 use Rattle.swaps.proofs.raising_swap.Statement.{statement}
 use Rattle.swaps.proofs.raising_swap.Tie as tie
 
-check-box-up-to-requires : tie.Need-check-box-up-to-requires
-check-box-up-to-requires c κs = search needs
-
-enum-known-e : tie.Need-enum-known-e
-enum-known-e c = search needs
-
 returns : tie.Need-returns
 returns c = reply-refused (sym (c .before .before .before .check-box-up-to .ensures) ∙ c .before .e .given .1) _
-
-enum-told : tie.Need-enum-told
-enum-told c = search needs
 
 -- accepted: the rows are a box
 accepted : (c : tie.After-enum-told) → let a = c .before .before .before .before .args in first (boxChecksUpTo 8 (a .n) (a .m) (a .rows .now)) ≡ Accepted
@@ -30,15 +21,6 @@ accepted c = sym (c .before .before .check-box-up-to .ensures) ∙ c .enum-told 
 
 boxed : (c : tie.After-enum-told) → let a = c .before .before .before .before .args in Box (a .n) (a .m) (a .rows .now)
 boxed c = let a = c .before .before .before .before .args in box-up-to 8 (a .n) (a .m) (a .rows .now) [] (lit≤ tt) (accepted c)
-
-nonlinearity-requires : tie.Need-nonlinearity-requires
-nonlinearity-requires c κs = search needs
-
-enum-known-present : tie.Need-enum-known-present
-enum-known-present c = search needs
-
-enum-told-2 : tie.Need-enum-told-2
-enum-told-2 c = search needs
 
 returns-2 : tie.Need-returns-2
 returns-2 c = never-declined (boxed (c .before .before .before)) (sym (ap leastPair (c .enum-told2 .given .1)) ∙ c .before .before .nonlinearity .ensures)
@@ -58,14 +40,5 @@ returns-3 c = c .search-box .ensures ∙ reply-accepted (accepted (c .before .be
 pub raising-swap-spec : {M : Type 1} → statement M
 raising-swap-spec =
     tie.close
-    (tie.spec
-    check-box-up-to-requires
-    enum-known-e
-    returns
-    enum-told
-    nonlinearity-requires
-    enum-known-present
-    enum-told-2
-    returns-2
-    search-box-requires
-    returns-3)
+    (tie.spec (λ c κs. search needs) (λ c. search needs) returns (λ c. search needs) (λ c κs. search needs) (λ c. search needs)
+    (λ c. search needs) returns-2 search-box-requires returns-3)

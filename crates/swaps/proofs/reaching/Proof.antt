@@ -19,9 +19,6 @@ abbrev μ-loop : tie.MeasureT-loop
 component-count-requires : tie.Need-component-count-requires Inv-loop μ-loop
 component-count-requires c κs = (c .before .before .before .before .pre .0, c .before .before .before .before .pre .1)
 
-turned-down-requires : tie.Need-turned-down-requires Inv-loop μ-loop
-turned-down-requires c κs = search needs
-
 same-length : tie.Need-same-length Inv-loop μ-loop
 same-length c = c .before .before .before .before .bits .given
 
@@ -54,9 +51,6 @@ inside c = omega (arith, c .loop-test .taken, c .before .before .power-of-two .e
 component-count-requires-2 : tie.Need-component-count-requires-2 Inv-loop μ-loop
 component-count-requires-2 c κs = (c .before .before .before .loop .inv .arrays, c .before .before .before .before .before .before .before .before .before .before .before .before .before .before .pre .1)
 
-turned-down-requires-2 : tie.Need-turned-down-requires-2 Inv-loop μ-loop
-turned-down-requires-2 c κs = search needs
-
 same-length-3 : tie.Need-same-length-3 Inv-loop μ-loop
 same-length-3 c = c .before .before .before .before .bits2 .given ∙ c .before .before .before .before .before .before .before .before .before .loop .inv .arrays .table-size ∙ sym (c .before .before .before .before .before .before .before .before .before .before .before .before .before .before .before .before .before .before .before .before .pre .0 .table-size)
 
@@ -75,9 +69,6 @@ add-c : tie.Need-add-c Inv-loop μ-loop
 add-c c =
     let most = pow-mono {j = 8} (c .before .before .before .before .before .before .before .before .before .before .before .before .before .before .before .before .before .before .before .before .pre .3) in
     omega (arith, inside (c .before .before .before .before .before .before .before .before))
-
-loop-less : tie.Need-loop-less Inv-loop μ-loop
-loop-less c = search needs
 
 loop-again : tie.Need-loop-again Inv-loop μ-loop
 loop-again c =
@@ -100,26 +91,6 @@ returns-3 c = (reaching-ends (c .before .loop .inv) (omega (arith, c .loop-test 
 pub reaching-spec : {M : Type 1} → statement M
 reaching-spec =
     tie.close
-    (tie.spec
-    Inv-loop
-    μ-loop
-    component-count-requires
-    turned-down-requires
-    same-length
-    same-length-2
-    returns
-    power-of-two-requires
-    cast-masks
-    cast-least
-    loop-holds
-    component-count-requires-2
-    turned-down-requires-2
-    same-length-3
-    same-length-4
-    returns-2
-    add-c
-    loop-less
-    loop-again
-    same-length-5
-    same-length-6
-    returns-3)
+    (tie.spec Inv-loop μ-loop component-count-requires (λ c κs. search needs) same-length same-length-2 returns power-of-two-requires
+    cast-masks cast-least loop-holds component-count-requires-2 (λ c κs. search needs) same-length-3 same-length-4 returns-2 add-c
+    (λ c. search needs) loop-again same-length-5 same-length-6 returns-3)

@@ -39,9 +39,6 @@ returns c = (part-found (c .before .before .before .before .before .before .befo
 add-d : tie.Need-add-d Inv-loop μ-loop
 add-d c = omega (arith, c .before .before .before .before .before .before .before .before .before .before .loop-test .taken, c .before .before .before .before .before .before .before .before .before .before .before .before .before .before .before .before .pre .0 .few)
 
-loop-less : tie.Need-loop-less Inv-loop μ-loop
-loop-less c = search needs
-
 loop-again : tie.Need-loop-again Inv-loop μ-loop
 loop-again c =
     let i = c .before .before .before .before .before .before .before .before .before .before .before .loop .inv in
@@ -63,19 +60,5 @@ returns-2 c = (none-found (c .before .loop .inv) (omega (arith, c .loop-test .le
 pub search-spec : {M : Type 1} → statement M
 search-spec =
     tie.close
-    (tie.spec
-    Inv-loop
-    μ-loop
-    loop-holds
-    search-by-requires
-    same-length
-    same-length-2
-    same-length-3
-    returns
-    add-d
-    loop-less
-    loop-again
-    same-length-4
-    same-length-5
-    same-length-6
-    returns-2)
+    (tie.spec Inv-loop μ-loop loop-holds search-by-requires same-length same-length-2 same-length-3 returns add-d (λ c. search needs)
+    loop-again same-length-4 same-length-5 same-length-6 returns-2)

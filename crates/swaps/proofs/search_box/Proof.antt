@@ -12,12 +12,6 @@ use borrow.Author.Needs.{needs}
 use Rattle.swaps.proofs.search_box.Statement.{statement}
 use Rattle.swaps.proofs.search_box.Tie as tie
 
-spectra-requires : tie.Need-spectra-requires
-spectra-requires c κs = search needs
-
-slice-aggregate-gather-and-search : tie.Need-slice-aggregate-gather-and-search
-slice-aggregate-gather-and-search c = search needs
-
 array-borrow-prefix-work : tie.Need-array-borrow-prefix-work
 array-borrow-prefix-work c = c .before .before .before .before .pre .0 .small
 
@@ -67,17 +61,6 @@ returns-2 c = ap figures (raised-found (c .before .before .before .before .befor
 pub search-box-spec : {M : Type 1} → statement M
 search-box-spec =
     tie.close
-    (tie.spec
-    spectra-requires
-    slice-aggregate-gather-and-search
-    array-borrow-prefix-work
-    slice-aggregate-gather-and-search-2
-    array-borrow-prefix-bits
-    slice-aggregate-gather-and-search-3
-    array-borrow-prefix-out
-    slice-aggregate-gather-and-search-4
-    gather-and-search-requires
-    returns
-    cast-t25
-    cast-t26
-    returns-2)
+    (tie.spec (λ c κs. search needs) (λ c. search needs) array-borrow-prefix-work slice-aggregate-gather-and-search-2
+    array-borrow-prefix-bits slice-aggregate-gather-and-search-3 array-borrow-prefix-out slice-aggregate-gather-and-search-4
+    gather-and-search-requires returns cast-t25 cast-t26 returns-2)

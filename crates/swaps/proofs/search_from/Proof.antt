@@ -43,9 +43,6 @@ returns c = (passed-found (c .before .before .before .before .before .before .be
 add-high-2 : tie.Need-add-high-2 Inv-loop μ-loop
 add-high-2 c = omega (arith, c .before .before .before .before .before .before .before .before .before .before .before .loop-test .taken, c .before .before .before .before .before .before .before .before .before .before .before .before .before .before .before .before .before .pre .0 .box .small)
 
-loop-less : tie.Need-loop-less Inv-loop μ-loop
-loop-less c = search needs
-
 loop-again : tie.Need-loop-again Inv-loop μ-loop
 loop-again c =
     let i = c .before .before .before .before .before .before .before .before .before .before .before .before .loop .inv in
@@ -67,20 +64,5 @@ returns-2 c = (none-found (c .before .loop .inv) (omega (arith, c .loop-test .le
 pub search-from-spec : {M : Type 1} → statement M
 search-from-spec =
     tie.close
-    (tie.spec
-    Inv-loop
-    μ-loop
-    add-high
-    loop-holds
-    try-swap-requires
-    same-length
-    same-length-2
-    same-length-3
-    returns
-    add-high-2
-    loop-less
-    loop-again
-    same-length-4
-    same-length-5
-    same-length-6
-    returns-2)
+    (tie.spec Inv-loop μ-loop add-high loop-holds try-swap-requires same-length same-length-2 same-length-3 returns add-high-2
+    (λ c. search needs) loop-again same-length-4 same-length-5 same-length-6 returns-2)

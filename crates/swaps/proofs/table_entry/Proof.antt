@@ -8,12 +8,6 @@ use borrow.Author.Needs.{needs}
 use Rattle.swaps.proofs.table_entry.Statement.{statement}
 use Rattle.swaps.proofs.table_entry.Tie as tie
 
-dot-requires : tie.Need-dot-requires
-dot-requires c κs = search needs
-
-dot-requires-2 : tie.Need-dot-requires-2
-dot-requires-2 c κs = search needs
-
 -- the affine function's value
 near-is : (c : tie.After-dot2) → let a = c .before .before .args in bitXor (c .dot2 .result) (a .pair .b) ≡ affine (a .pair .w) (a .pair .b) (a .x)
 unfolding affine
@@ -22,15 +16,9 @@ near-is c = ap (λ (z : ℕ). bitXor z (c .before .before .args .pair .b)) (c .d
 returns : tie.Need-returns
 returns c = let bits = c .before .before in entry-differs (bits .before .dot .ensures .0) (near-is bits) (c .if1 .taken)
 
-cast-result : tie.Need-cast-result
-cast-result c = search needs
-
-add-result : tie.Need-add-result
-add-result c = search needs
-
 returns-2 : tie.Need-returns-2
 returns-2 c = let bits = c .before .before in entry-agrees (bits .before .dot .ensures .0) (near-is bits) (c .if1 .left)
 
 pub table-entry-spec : {M : Type 1} → statement M
 table-entry-spec =
-    tie.close (tie.spec dot-requires dot-requires-2 returns cast-result add-result returns-2)
+    tie.close (tie.spec (λ c κs. search needs) (λ c κs. search needs) returns (λ c. search needs) (λ c. search needs) returns-2)

@@ -9,7 +9,7 @@ use Rattle.boolean.specs.Bits.{affine}
 use Rattle.boolean.specs.Sums.{listBelow}
 use Rattle.boolean.proofs.Digits.{component-dot}
 use Rattle.boolean.proofs.Stored.{Stored, stored-length}
-use Rattle.swaps.specs.Calls.{entryOf, tableOf}
+use Rattle.swaps.specs.Work.{entryOf, tableOf}
 use Rattle.swaps.proofs.Gathering.{entryAt, none-stored, entry-stored}
 use Rattle.swaps.proofs.write_table.Statement.{statement}
 use Rattle.swaps.proofs.write_table.Tie as tie
@@ -23,31 +23,10 @@ abbrev μ-loop : tie.MeasureT-loop
 loop-holds : tie.Need-loop-holds Inv-loop μ-loop
 loop-holds c = let a = c .before .before .args in (none-stored (a .rows .now) (a .pair) (a .start) (a .tables .now), search needs)
 
-mul-table-entry : tie.Need-mul-table-entry Inv-loop μ-loop
-mul-table-entry c = search needs
-
-shared-slice-read-table-entry : tie.Need-shared-slice-read-table-entry Inv-loop μ-loop
-shared-slice-read-table-entry c = search needs
-
-cast-table-entry : tie.Need-cast-table-entry Inv-loop μ-loop
-cast-table-entry c = search needs
-
-table-entry-requires : tie.Need-table-entry-requires Inv-loop μ-loop
-table-entry-requires c κs = search needs
-
-add-tables : tie.Need-add-tables Inv-loop μ-loop
-add-tables c = search needs
-
 slice-write-tables : tie.Need-slice-write-tables Inv-loop μ-loop
 slice-write-tables c =
     let l = c .before .before .before .loop in
     omega (arith, stored-length (l .inv .0), c .before .before .loop-test .taken, c .before .before .before .before .before .before .pre)
-
-add-x : tie.Need-add-x Inv-loop μ-loop
-add-x c = search needs
-
-loop-less : tie.Need-loop-less Inv-loop μ-loop
-loop-less c = search needs
 
 loop-again : tie.Need-loop-again Inv-loop μ-loop
 loop-again c =
@@ -69,18 +48,5 @@ returns c =
 pub write-table-spec : {M : Type 1} → statement M
 write-table-spec =
     tie.close
-    (tie.spec
-    Inv-loop
-    μ-loop
-    loop-holds
-    mul-table-entry
-    shared-slice-read-table-entry
-    cast-table-entry
-    table-entry-requires
-    add-tables
-    slice-write-tables
-    add-x
-    loop-less
-    loop-again
-    same-length
-    returns)
+    (tie.spec Inv-loop μ-loop loop-holds (λ c. search needs) (λ c. search needs) (λ c. search needs) (λ c κs. search needs)
+    (λ c. search needs) slice-write-tables (λ c. search needs) (λ c. search needs) loop-again same-length returns)

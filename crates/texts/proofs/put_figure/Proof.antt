@@ -10,12 +10,6 @@ use borrow.Author.Needs.{needs}
 use Rattle.texts.proofs.put_figure.Statement.{statement}
 use Rattle.texts.proofs.put_figure.Tie as tie
 
-slice-write-out : tie.Need-slice-write-out
-slice-write-out c = search needs
-
-add-put-number : tie.Need-add-put-number
-add-put-number c = search needs
-
 put-number-requires : tie.Need-put-number-requires
 put-number-requires c κs = simp length-set (omega arith)
 
@@ -32,9 +26,4 @@ returns c =
 pub put-figure-spec : {M : Type 1} → statement M
 put-figure-spec =
     tie.close
-    (tie.spec
-    slice-write-out
-    add-put-number
-    put-number-requires
-    same-length
-    returns)
+    (tie.spec (λ c. search needs) (λ c. search needs) put-number-requires same-length returns)

@@ -16,22 +16,10 @@ abbrev μ-loop : tie.MeasureT-loop
 loop-holds : tie.Need-loop-holds Inv-loop μ-loop
 loop-holds c = spacing-none
 
-mul-put-figure : tie.Need-mul-put-figure Inv-loop μ-loop
-mul-put-figure c = search needs
-
-shared-slice-read-put-figure : tie.Need-shared-slice-read-put-figure Inv-loop μ-loop
-shared-slice-read-put-figure c = search needs
-
 put-figure-requires : tie.Need-put-figure-requires Inv-loop μ-loop
 put-figure-requires c κs =
     let in-loop = c .before .before in
     spacing-room (in-loop .before .loop .inv) (search needs) (search needs)
-
-add-i : tie.Need-add-i Inv-loop μ-loop
-add-i c = search needs
-
-loop-less : tie.Need-loop-less Inv-loop μ-loop
-loop-less c = search needs
 
 loop-again : tie.Need-loop-again Inv-loop μ-loop
 loop-again c =
@@ -48,15 +36,5 @@ returns c = spacing-all (c .before .loop .inv) (search needs)
 pub put-figures-spec : {M : Type 1} → statement M
 put-figures-spec =
     tie.close
-    (tie.spec
-    Inv-loop
-    μ-loop
-    loop-holds
-    mul-put-figure
-    shared-slice-read-put-figure
-    put-figure-requires
-    add-i
-    loop-less
-    loop-again
-    same-length
-    returns)
+    (tie.spec Inv-loop μ-loop loop-holds (λ c. search needs) (λ c. search needs) put-figure-requires (λ c. search needs)
+    (λ c. search needs) loop-again same-length returns)

@@ -11,12 +11,6 @@ use borrow.Author.Needs.{needs}
 use Rattle.texts.proofs.put_line.Statement.{statement}
 use Rattle.texts.proofs.put_line.Tie as tie
 
-put-bytes-requires : tie.Need-put-bytes-requires
-put-bytes-requires c κs = search needs
-
-put-figures-requires : tie.Need-put-figures-requires
-put-figures-requires c κs = search needs
-
 -- the word and the figures, where both have been written
 written : (c : tie.After-put-figures) →
     let a = c .before .before .before .before .before .before .before .before .before .args in
@@ -51,10 +45,4 @@ returns c =
 pub put-line-spec : {M : Type 1} → statement M
 put-line-spec =
     tie.close
-    (tie.spec
-    put-bytes-requires
-    put-figures-requires
-    slice-write-out
-    add-result
-    same-length
-    returns)
+    (tie.spec (λ c κs. search needs) (λ c κs. search needs) slice-write-out add-result same-length returns)

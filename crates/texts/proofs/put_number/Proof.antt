@@ -11,24 +11,12 @@ use borrow.Author.Needs.{needs}
 use Rattle.texts.proofs.put_number.Statement.{statement}
 use Rattle.texts.proofs.put_number.Tie as tie
 
-decimal-requires : tie.Need-decimal-requires
-decimal-requires c κs = search needs
-
-array-share-prefix-text : tie.Need-array-share-prefix-text
-array-share-prefix-text c = search needs
-
-slice-aggregate-put-bytes : tie.Need-slice-aggregate-put-bytes
-slice-aggregate-put-bytes c = search needs
-
 put-bytes-requires : tie.Need-put-bytes-requires
 put-bytes-requires c κs =
     let d = c .before .before in
     let a = d .before .before .before .args in
     let value : a .value < 2 ^ 32 = search needs in
     omega (arith, d .decimal .ensures .0 .1, few (a .value) (d .decimal .result) (d .decimal .ensures .1 .0) value)
-
-same-length : tie.Need-same-length
-same-length c = search needs
 
 returns : tie.Need-returns
 returns c =
@@ -43,10 +31,4 @@ returns c =
 pub put-number-spec : {M : Type 1} → statement M
 put-number-spec =
     tie.close
-    (tie.spec
-    decimal-requires
-    array-share-prefix-text
-    slice-aggregate-put-bytes
-    put-bytes-requires
-    same-length
-    returns)
+    (tie.spec (λ c κs. search needs) (λ c. search needs) (λ c. search needs) put-bytes-requires (λ c. search needs) returns)

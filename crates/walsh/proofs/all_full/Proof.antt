@@ -33,23 +33,8 @@ read c = c .magnitude .ensures ∙ ap natAbs (word-told (value c) (c .before .ma
 loop-holds : tie.Need-loop-holds Inv-loop μ-loop
 loop-holds c = rest-all _ _ _
 
-mul-magnitude : tie.Need-mul-magnitude Inv-loop μ-loop
-mul-magnitude c = search needs
-
-shared-slice-copy-out-magnitude : tie.Need-shared-slice-copy-out-magnitude Inv-loop μ-loop
-shared-slice-copy-out-magnitude c = search needs
-
-magnitude-requires : tie.Need-magnitude-requires Inv-loop μ-loop
-magnitude-requires c κs = search needs
-
 returns : tie.Need-returns Inv-loop μ-loop
 returns c = rest-fails _ _ (c .before .before .before .before .loop .inv) (omega arith) (ne-eqb _ _ (λ e. c .if1 .taken (read (c .before) ∙ e)))
-
-add-k : tie.Need-add-k Inv-loop μ-loop
-add-k c = search needs
-
-loop-less : tie.Need-loop-less Inv-loop μ-loop
-loop-less c = search needs
 
 loop-again : tie.Need-loop-again Inv-loop μ-loop
 loop-again c = rest-next _ _ (c .before .before .before .before .loop .inv) (omega arith) (eq-eqb _ _ (sym (read (c .before)) ∙ c .if1 .left))
@@ -60,15 +45,5 @@ returns-2 c = rest-none _ _ (c .before .loop .inv) (omega arith)
 pub all-full-spec : {M : Type 1} → statement M
 all-full-spec =
     tie.close
-    (tie.spec
-    Inv-loop
-    μ-loop
-    loop-holds
-    mul-magnitude
-    shared-slice-copy-out-magnitude
-    magnitude-requires
-    returns
-    add-k
-    loop-less
-    loop-again
-    returns-2)
+    (tie.spec Inv-loop μ-loop loop-holds (λ c. search needs) (λ c. search needs) (λ c κs. search needs) returns (λ c. search needs)
+    (λ c. search needs) loop-again returns-2)

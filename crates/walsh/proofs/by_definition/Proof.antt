@@ -44,20 +44,8 @@ loop-holds c = (c .before .pre .read .size, filled-none (pos 0) _ _ (c .before .
 value-requires : tie.Need-value-requires Inv-loop μ-loop
 value-requires c κs = few (c .before .before .before)
 
-cast-t9 : tie.Need-cast-t9 Inv-loop μ-loop
-cast-t9 c = search needs
-
-mul-t10 : tie.Need-mul-t10 Inv-loop μ-loop
-mul-t10 c = search needs
-
-slice-set-from-out : tie.Need-slice-set-from-out Inv-loop μ-loop
-slice-set-from-out c = search needs
-
 add-w : tie.Need-add-w Inv-loop μ-loop
 add-w c = omega (arith, few (c .before .before .before .before), c .before .loop-test .taken)
-
-loop-less : tie.Need-loop-less Inv-loop μ-loop
-loop-less c = search needs
 
 loop-again : tie.Need-loop-again Inv-loop μ-loop
 loop-again c =
@@ -84,17 +72,5 @@ returns c = filled-whole (pos 0) _ _ (c .before .loop .w) (c .before .loop .out)
 pub by-definition-spec : {M : Type 1} → statement M
 by-definition-spec =
     tie.close
-    (tie.spec
-    Inv-loop
-    μ-loop
-    cast-size
-    loop-holds
-    value-requires
-    cast-t9
-    mul-t10
-    slice-set-from-out
-    add-w
-    loop-less
-    loop-again
-    same-length
-    returns)
+    (tie.spec Inv-loop μ-loop cast-size loop-holds value-requires (λ c. search needs) (λ c. search needs) (λ c. search needs) add-w
+    (λ c. search needs) loop-again same-length returns)

@@ -15,21 +15,6 @@ use Rattle.walsh.proofs.by_table.Tie as tie
 number-requires : tie.Need-number-requires
 number-requires c κs = c .before .pre .0 .read
 
-mul-first : tie.Need-mul-first
-mul-first c = search needs
-
-copy-four-requires : tie.Need-copy-four-requires
-copy-four-requires c κs = search needs
-
-add-copy-four : tie.Need-add-copy-four
-add-copy-four c = search needs
-
-copy-four-requires-2 : tie.Need-copy-four-requires-2
-copy-four-requires-2 c κs = search needs
-
-same-length : tie.Need-same-length
-same-length c = search needs
-
 returns : tie.Need-returns
 unfolding spectrum
 returns c =
@@ -50,11 +35,5 @@ returns c =
 pub by-table-spec : {M : Type 1} → statement M
 by-table-spec =
     tie.close
-    (tie.spec
-    number-requires
-    mul-first
-    copy-four-requires
-    add-copy-four
-    copy-four-requires-2
-    same-length
-    returns)
+    (tie.spec number-requires (λ c. search needs) (λ c κs. search needs) (λ c. search needs) (λ c κs. search needs)
+    (λ c. search needs) returns)

@@ -15,9 +15,6 @@ use Rattle.walsh.proofs.check_lengths.Tie as tie
 ok-width : (c : tie.Else1) → inRange 1 8 (c .before .before .args .n) ≡ true
 ok-width c = holds (c .before .in-range .ensures) (c .if1 .left)
 
-in-range-requires : tie.Need-in-range-requires
-in-range-requires c κs = search needs
-
 returns : tie.Need-returns
 unfolding inverseLengths
 returns c = found (stop (fails (c .before .in-range .ensures) (c .if1 .taken)))
@@ -44,10 +41,4 @@ returns-4 c =
 pub check-lengths-spec : {M : Type 1} → statement M
 check-lengths-spec =
     tie.close
-    (tie.spec
-    in-range-requires
-    returns
-    power-of-two-requires
-    returns-2
-    returns-3
-    returns-4)
+    (tie.spec (λ c κs. search needs) returns power-of-two-requires returns-2 returns-3 returns-4)

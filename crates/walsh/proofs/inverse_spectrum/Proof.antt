@@ -15,12 +15,6 @@ use Rattle.walsh.proofs.Inverting.{no-function-found, outside, inverse-
 use Rattle.walsh.proofs.inverse_spectrum.Statement.{statement}
 use Rattle.walsh.proofs.inverse_spectrum.Tie as tie
 
-check-lengths-requires : tie.Need-check-lengths-requires
-check-lengths-requires c κs = search needs
-
-enum-known-e : tie.Need-enum-known-e
-enum-known-e c = search needs
-
 returns : tie.Need-returns
 unfolding inverseChecks
 returns c =
@@ -29,9 +23,6 @@ returns c =
     wrote-refused
     (first-refused (inverseLengths (a .n) (length (a .values .now)) (length (a .table .now))) (functionCheck (a .n) (a .values .now))
     (sym (p .check-lengths .ensures) ∙ c .before .e .given .1))
-
-enum-told : tie.Need-enum-told
-enum-told c = search needs
 
 -- the width and the lengths were accepted
 lengths : (c : tie.After-enum-told) →
@@ -54,9 +45,6 @@ cast-all-within c =
     let told = c .before in
     let a = told .before .before .before .before .args in
     omega (arith, c .power-of-two .ensures .0, pow-mono {i = a .n - 1} {j = 8} (omega (arith, inverse-few (a .n) (a .values .now) (a .table .now) (lengths told))))
-
-all-within-requires : tie.Need-all-within-requires
-all-within-requires c κs = search needs
 
 returns-2 : tie.Need-returns-2
 returns-2 c =
@@ -90,9 +78,6 @@ invert-requires c κs =
     invertible (a .n) (a .values .now) (a .table .now) (lengths told) (power .power-of-two .result) (power .power-of-two .ensures .0)
     (holds (else .before .all-within .ensures) (else .if1 .left)) _ (inverse-short (a .n) (a .values .now) (a .table .now) (lengths told))
 
-same-length : tie.Need-same-length
-same-length c = search needs
-
 returns-3 : tie.Need-returns-3
 returns-3 c =
     let inverted = c .before .before .before in
@@ -103,18 +88,6 @@ returns-3 c =
 pub inverse-spectrum-spec : {M : Type 1} → statement M
 inverse-spectrum-spec =
     tie.close
-    (tie.spec
-    check-lengths-requires
-    enum-known-e
-    returns
-    enum-told
-    sub-power-of-two
-    power-of-two-requires
-    cast-all-within
-    all-within-requires
-    returns-2
-    array-borrow-prefix-work
-    slice-aggregate-invert
-    invert-requires
-    same-length
-    returns-3)
+    (tie.spec (λ c κs. search needs) (λ c. search needs) returns (λ c. search needs) sub-power-of-two power-of-two-requires
+    cast-all-within (λ c κs. search needs) returns-2 array-borrow-prefix-work slice-aggregate-invert invert-requires
+    (λ c. search needs) returns-3)

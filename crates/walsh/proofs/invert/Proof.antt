@@ -17,9 +17,6 @@ use Rattle.walsh.proofs.Inverting.{no-function-found, function-found, f
 use Rattle.walsh.proofs.invert.Statement.{statement}
 use Rattle.walsh.proofs.invert.Tie as tie
 
-copy-requires : tie.Need-copy-requires
-copy-requires c κs = search needs
-
 transform-requires : tie.Need-transform-requires
 transform-requires c κs =
     let copied = c .before .before in
@@ -35,19 +32,10 @@ is-transformed c =
     let n = copied .before .before .before .args .n in
     c .transform .ensures ∙ ap (λ (l : List ℤ). listBelow (2 ^ n) (λ x. transform n (valueAt l) x)) (copied .copy .ensures)
 
-sub-power-of-two : tie.Need-sub-power-of-two
-sub-power-of-two c = search needs
-
-power-of-two-requires : tie.Need-power-of-two-requires
-power-of-two-requires c κs = search needs
-
 cast-all-full : tie.Need-cast-all-full
 cast-all-full c =
     let s = c .before .before .before .before .before .before .before .before .before in
     omega (arith, c .power-of-two .ensures .0, pow-mono {i = s .args .n - 1} {j = 8} (omega (arith, s .pre .few)))
-
-all-full-requires : tie.Need-all-full-requires
-all-full-requires c κs = search needs
 
 -- the test is whether a function has the values
 decided : (c : tie.After-all-full) →
@@ -60,24 +48,12 @@ decided c =
     c .all-full .ensures ∙ ap (every (λ v. eqb (natAbs v) (power .result))) (is-transformed after)
     ∙ full-test (s .args .n) (s .args .values .now) (s .pre .low) (s .pre .size) (power .result) (power .ensures .0)
 
-same-length : tie.Need-same-length
-same-length c = search needs
-
 returns : tie.Need-returns
 returns c =
     let after = c .before .before .before .before .before in
     let s = after .before .before .before .before .before .before in
     let h = no-function-found (s .args .n) (s .args .values .now) (fails (decided (c .before)) (c .if1 .taken)) in
     (wrote-refused h, is-transformed after)
-
-write-signs-requires : tie.Need-write-signs-requires
-write-signs-requires c κs = search needs
-
-same-length-2 : tie.Need-same-length-2
-same-length-2 c = search needs
-
-same-length-3 : tie.Need-same-length-3
-same-length-3 c = search needs
 
 returns-2 : tie.Need-returns-2
 returns-2 c =
@@ -95,16 +71,5 @@ returns-2 c =
 pub invert-spec : {M : Type 1} → statement M
 invert-spec =
     tie.close
-    (tie.spec
-    copy-requires
-    transform-requires
-    sub-power-of-two
-    power-of-two-requires
-    cast-all-full
-    all-full-requires
-    same-length
-    returns
-    write-signs-requires
-    same-length-2
-    same-length-3
-    returns-2)
+    (tie.spec (λ c κs. search needs) transform-requires (λ c. search needs) (λ c κs. search needs) cast-all-full
+    (λ c κs. search needs) (λ c. search needs) returns (λ c κs. search needs) (λ c. search needs) (λ c. search needs) returns-2)

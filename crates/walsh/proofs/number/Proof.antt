@@ -16,17 +16,11 @@ abbrev μ-loop : tie.MeasureT-loop
 loop-holds : tie.Need-loop-holds Inv-loop μ-loop
 loop-holds c = numbered-none (c .before .args .table .now)
 
-sub-x : tie.Need-sub-x Inv-loop μ-loop
-sub-x c = search needs
-
 mul-t : tie.Need-mul-t Inv-loop μ-loop
 mul-t c = omega (arith, numbered-small _ _ _ (c .before .loop .inv) (c .loop-test .taken))
 
 shared-slice-read-wide : tie.Need-shared-slice-read-wide Inv-loop μ-loop
 shared-slice-read-wide c = omega (arith, c .before .before .loop .inv .within, c .before .before .before .before .pre .size)
-
-wide-requires : tie.Need-wide-requires Inv-loop μ-loop
-wide-requires c κs = search needs
 
 -- the value that is read is a bit
 read-bit : (c : tie.After-wide Inv-loop μ-loop) → c .wide .result < 2
@@ -36,9 +30,6 @@ add-t : tie.Need-add-t Inv-loop μ-loop
 add-t c =
     let at-loop = c .before .before .before in
     omega (arith, numbered-small _ _ _ (at-loop .loop .inv) (c .before .before .loop-test .taken), read-bit c)
-
-loop-less : tie.Need-loop-less Inv-loop μ-loop
-loop-less c = search needs
 
 loop-again : tie.Need-loop-again Inv-loop μ-loop
 loop-again c =
@@ -52,15 +43,5 @@ returns c = numbered-whole (c .before .before .before .args .table .now) (c .bef
 pub number-spec : {M : Type 1} → statement M
 number-spec =
     tie.close
-    (tie.spec
-    Inv-loop
-    μ-loop
-    loop-holds
-    sub-x
-    mul-t
-    shared-slice-read-wide
-    wide-requires
-    add-t
-    loop-less
-    loop-again
-    returns)
+    (tie.spec Inv-loop μ-loop loop-holds (λ c. search needs) mul-t shared-slice-read-wide (λ c κs. search needs) add-t
+    (λ c. search needs) loop-again returns)

@@ -14,18 +14,9 @@ use Rattle.walsh.specs.Work.{Ready}
 use Rattle.walsh.proofs.spectrum.Statement.{statement}
 use Rattle.walsh.proofs.spectrum.Tie as tie
 
-check-table-call-requires : tie.Need-check-table-call-requires
-check-table-call-requires c κs = search needs
-
-enum-known-e : tie.Need-enum-known-e
-enum-known-e c = search needs
-
 returns : tie.Need-returns
 returns c =
     wrote-refused (sym (c .before .before .before .check-table-call .ensures) ∙ c .before .e .given .1)
-
-enum-told : tie.Need-enum-told
-enum-told c = search needs
 
 -- accepted: the table is one, and the array is as long
 ready : (n : ℕ) (table : List ℕ) (out : List ℤ) → first (tableCallChecks n table (length out)) ≡ Accepted → Ready n table out
@@ -40,17 +31,11 @@ accepted : (c : tie.After-enum-told) →
     first (tableCallChecks (a .n) (a .table .now) (length (a .out .now))) ≡ Accepted
 accepted c = sym (c .before .before .check-table-call .ensures) ∙ c .enum-told .given .1
 
-spectra-requires : tie.Need-spectra-requires
-spectra-requires c κs = search needs
-
 descend-requires : tie.Need-descend-requires
 descend-requires c κs =
     let told = c .before .before .before in
     let a = told .before .before .before .before .args in
     (ready (a .n) (a .table .now) (a .out .now) (accepted told), c .before .before .spectra .ensures)
-
-same-length : tie.Need-same-length
-same-length c = search needs
 
 returns-2 : tie.Need-returns-2
 returns-2 c =
@@ -60,12 +45,5 @@ returns-2 c =
 pub spectrum-spec : {M : Type 1} → statement M
 spectrum-spec =
     tie.close
-    (tie.spec
-    check-table-call-requires
-    enum-known-e
-    returns
-    enum-told
-    spectra-requires
-    descend-requires
-    same-length
-    returns-2)
+    (tie.spec (λ c κs. search needs) (λ c. search needs) returns (λ c. search needs) (λ c κs. search needs) descend-requires
+    (λ c. search needs) returns-2)

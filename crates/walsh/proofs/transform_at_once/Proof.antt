@@ -79,17 +79,5 @@ returns-5 c =
 pub transform-at-once-spec : {M : Type 1} → statement M
 transform-at-once-spec =
     tie.close
-    (tie.spec
-    transform-of-sixteen-requires
-    transform-of-eight-requires
-    transform-of-four-requires
-    transform-of-two-requires
-    (λ c. search needs)
-    returns
-    (λ c. search needs)
-    returns-2
-    (λ c. search needs)
-    returns-3
-    (λ c. search needs)
-    returns-4
-    returns-5)
+    (tie.spec transform-of-sixteen-requires transform-of-eight-requires transform-of-four-requires transform-of-two-requires
+    (λ c. search needs) returns (λ c. search needs) returns-2 (λ c. search needs) returns-3 (λ c. search needs) returns-4 returns-5)

@@ -11,23 +11,11 @@ use Rattle.walsh.proofs.transform_of_four.Tie as tie
 some : _≡_ {A = ℕ} 2 0 → ⊥
 some e = omega arith
 
-slice-relend-prefix-transform-of-two : tie.Need-slice-relend-prefix-transform-of-two
-slice-relend-prefix-transform-of-two c = search needs
-
 slice-aggregate-transform-of-two : tie.Need-slice-aggregate-transform-of-two
 slice-aggregate-transform-of-two c = halves.lower-length 2 2 (c .before .args .values .now) (c .before .pre) some refl
 
 transform-of-two-requires : tie.Need-transform-of-two-requires
 transform-of-two-requires c κs = halves.lower-summable 2 2 (c .before .args .values .now) (c .before .pre) some refl
-
-sub-transform-of-two : tie.Need-sub-transform-of-two
-sub-transform-of-two c = search needs
-
-part-transform-of-two-start : tie.Need-part-transform-of-two-start
-part-transform-of-two-start c = search needs
-
-part-transform-of-two-end : tie.Need-part-transform-of-two-end
-part-transform-of-two-end c = search needs
 
 transform-of-two-requires-2 : tie.Need-transform-of-two-requires-2
 transform-of-two-requires-2 c κs =
@@ -43,9 +31,6 @@ butterfly-requires c κs =
     halves.crossing 2 2 (s .args .values .now) (s .pre) some refl
     (first .transform-of-two .last .0) (first .transform-of-two .ensures) (second .transform-of-two2 .last .0) (second .transform-of-two2 .ensures)
 
-same-length : tie.Need-same-length
-same-length c = search needs
-
 returns : tie.Need-returns
 returns c =
     let second = c .before .before .before .before in
@@ -58,14 +43,5 @@ returns c =
 pub transform-of-four-spec : {M : Type 1} → statement M
 transform-of-four-spec =
     tie.close
-    (tie.spec
-    slice-relend-prefix-transform-of-two
-    slice-aggregate-transform-of-two
-    transform-of-two-requires
-    sub-transform-of-two
-    part-transform-of-two-start
-    part-transform-of-two-end
-    transform-of-two-requires-2
-    butterfly-requires
-    same-length
-    returns)
+    (tie.spec (λ c. search needs) slice-aggregate-transform-of-two transform-of-two-requires (λ c. search needs) (λ c. search needs)
+    (λ c. search needs) transform-of-two-requires-2 butterfly-requires (λ c. search needs) returns)

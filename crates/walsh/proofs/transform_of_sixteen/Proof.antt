@@ -11,23 +11,11 @@ use Rattle.walsh.proofs.transform_of_sixteen.Tie as tie
 some : _≡_ {A = ℕ} 4 0 → ⊥
 some e = omega arith
 
-slice-relend-prefix-transform-of-eight : tie.Need-slice-relend-prefix-transform-of-eight
-slice-relend-prefix-transform-of-eight c = search needs
-
 slice-aggregate-transform-of-eight : tie.Need-slice-aggregate-transform-of-eight
 slice-aggregate-transform-of-eight c = halves.lower-length 4 8 (c .before .args .values .now) (c .before .pre) some refl
 
 transform-of-eight-requires : tie.Need-transform-of-eight-requires
 transform-of-eight-requires c κs = halves.lower-summable 4 8 (c .before .args .values .now) (c .before .pre) some refl
-
-sub-transform-of-eight : tie.Need-sub-transform-of-eight
-sub-transform-of-eight c = search needs
-
-part-transform-of-eight-start : tie.Need-part-transform-of-eight-start
-part-transform-of-eight-start c = search needs
-
-part-transform-of-eight-end : tie.Need-part-transform-of-eight-end
-part-transform-of-eight-end c = search needs
 
 transform-of-eight-requires-2 : tie.Need-transform-of-eight-requires-2
 transform-of-eight-requires-2 c κs =
@@ -43,9 +31,6 @@ butterfly-requires c κs =
     halves.crossing 4 8 (s .args .values .now) (s .pre) some refl
     (first .transform-of-eight .last .0) (first .transform-of-eight .ensures) (second .transform-of-eight2 .last .0) (second .transform-of-eight2 .ensures)
 
-same-length : tie.Need-same-length
-same-length c = search needs
-
 returns : tie.Need-returns
 returns c =
     let second = c .before .before .before .before in
@@ -58,14 +43,5 @@ returns c =
 pub transform-of-sixteen-spec : {M : Type 1} → statement M
 transform-of-sixteen-spec =
     tie.close
-    (tie.spec
-    slice-relend-prefix-transform-of-eight
-    slice-aggregate-transform-of-eight
-    transform-of-eight-requires
-    sub-transform-of-eight
-    part-transform-of-eight-start
-    part-transform-of-eight-end
-    transform-of-eight-requires-2
-    butterfly-requires
-    same-length
-    returns)
+    (tie.spec (λ c. search needs) slice-aggregate-transform-of-eight transform-of-eight-requires (λ c. search needs)
+    (λ c. search needs) (λ c. search needs) transform-of-eight-requires-2 butterfly-requires (λ c. search needs) returns)

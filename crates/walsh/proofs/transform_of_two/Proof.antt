@@ -7,13 +7,10 @@ use Rattle.walsh.proofs.transform_of_two.Tie as tie
 butterfly-requires : tie.Need-butterfly-requires
 butterfly-requires c κs = two-halves (c .before .args .values .now) (c .before .pre)
 
-same-length : tie.Need-same-length
-same-length c = search needs
-
 returns : tie.Need-returns
 returns c =
     let s = c .before .before .before in
     two-values (s .args .values .now) (c .before .butterfly .last .0) (s .pre) (c .before .butterfly .kept .0) (c .before .butterfly .ensures)
 
 pub transform-of-two-spec : {M : Type 1} → statement M
-transform-of-two-spec = tie.close (tie.spec butterfly-requires same-length returns)
+transform-of-two-spec = tie.close (tie.spec butterfly-requires (λ c. search needs) returns)

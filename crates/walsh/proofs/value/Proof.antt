@@ -27,32 +27,14 @@ Inv-loop table w size count₀ x₀ count x = (size ≡ length table) × Counted
 abbrev μ-loop : tie.MeasureT-loop
 μ-loop table w size count₀ x₀ count x = size - x
 
-cast-size : tie.Need-cast-size Inv-loop μ-loop
-cast-size c = search needs
-
 loop-holds : tie.Need-loop-holds Inv-loop μ-loop
 loop-holds c = (refl, counted-none _ _)
-
-cast-if1 : tie.Need-cast-if1 Inv-loop μ-loop
-cast-if1 c = search needs
-
-shared-slice-read-if1 : tie.Need-shared-slice-read-if1 Inv-loop μ-loop
-shared-slice-read-if1 c = search needs
 
 cast-if1-2 : tie.Need-cast-if1-2 Inv-loop μ-loop
 cast-if1-2 c = omega (arith, c .shared-slice-known2 .given (c .before .before .loop .x))
 
-dot-requires : tie.Need-dot-requires Inv-loop μ-loop
-dot-requires c κs = search needs
-
 add-count : tie.Need-add-count Inv-loop μ-loop
 add-count c = omega (arith, counted-le _ _ (c .before .before .before .before .loop .inv .1))
-
-add-x : tie.Need-add-x Inv-loop μ-loop
-add-x c = search needs
-
-loop-less : tie.Need-loop-less Inv-loop μ-loop
-loop-less c = search needs
 
 loop-again : tie.Need-loop-again Inv-loop μ-loop
 loop-again c =
@@ -71,9 +53,6 @@ few c = omega (arith, counted-le _ _ (c .loop .inv .1), c .loop .inv .1 .within,
 cast-result : tie.Need-cast-result Inv-loop μ-loop
 cast-result c = fits-word (pos (c .before .loop .count)) (omega (arith, few (c .before)))
 
-cast-result-2 : tie.Need-cast-result-2 Inv-loop μ-loop
-cast-result-2 c = search needs
-
 sub-result : tie.Need-sub-result Inv-loop μ-loop
 sub-result c =
     let start = c .before .before .before in
@@ -89,20 +68,5 @@ returns c =
 pub value-spec : {M : Type 1} → statement M
 value-spec =
     tie.close
-    (tie.spec
-    Inv-loop
-    μ-loop
-    cast-size
-    loop-holds
-    cast-if1
-    shared-slice-read-if1
-    cast-if1-2
-    dot-requires
-    add-count
-    add-x
-    loop-less
-    loop-again
-    cast-result
-    cast-result-2
-    sub-result
-    returns)
+    (tie.spec Inv-loop μ-loop (λ c. search needs) loop-holds (λ c. search needs) (λ c. search needs) cast-if1-2 (λ c κs. search needs)
+    add-count (λ c. search needs) (λ c. search needs) loop-again cast-result (λ c. search needs) sub-result returns)

@@ -18,24 +18,6 @@ abbrev μ-loop : tie.MeasureT-loop
 loop-holds : tie.Need-loop-holds Inv-loop μ-loop
 loop-holds c = filled-none 0 _ _ (c .before .args .table .now) (c .before .pre)
 
-mul-sign-bit : tie.Need-mul-sign-bit Inv-loop μ-loop
-mul-sign-bit c = search needs
-
-shared-slice-copy-out-sign-bit : tie.Need-shared-slice-copy-out-sign-bit Inv-loop μ-loop
-shared-slice-copy-out-sign-bit c = search needs
-
-sign-bit-requires : tie.Need-sign-bit-requires Inv-loop μ-loop
-sign-bit-requires c κs = search needs
-
-slice-write-table : tie.Need-slice-write-table Inv-loop μ-loop
-slice-write-table c = search needs
-
-add-x : tie.Need-add-x Inv-loop μ-loop
-add-x c = search needs
-
-loop-less : tie.Need-loop-less Inv-loop μ-loop
-loop-less c = search needs
-
 loop-again : tie.Need-loop-again Inv-loop μ-loop
 loop-again c =
     let at-loop = c .before .before .before in
@@ -54,16 +36,5 @@ returns c =
 pub write-signs-spec : {M : Type 1} → statement M
 write-signs-spec =
     tie.close
-    (tie.spec
-    Inv-loop
-    μ-loop
-    loop-holds
-    mul-sign-bit
-    shared-slice-copy-out-sign-bit
-    sign-bit-requires
-    slice-write-table
-    add-x
-    loop-less
-    loop-again
-    same-length
-    returns)
+    (tie.spec Inv-loop μ-loop loop-holds (λ c. search needs) (λ c. search needs) (λ c κs. search needs) (λ c. search needs)
+    (λ c. search needs) (λ c. search needs) loop-again same-length returns)

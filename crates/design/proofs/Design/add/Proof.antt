@@ -70,9 +70,6 @@ returns-2 c =
     let h = sym (ap written (c .before .before .added .given .1)) ∙ t .2 in
     add-declined (a .self) (a .j) (a .w) (a .b) _ (t .0) (boxed (p .before)) (p .power-of-two .ensures .0) (t .1) h (c .declined2 .ensures)
 
-enum-told : tie.Need-enum-told
-enum-told c = search needs
-
 returns-3 : tie.Need-returns-3
 unfolding answered
 returns-3 c =
@@ -86,18 +83,6 @@ returns-3 c =
 pub add-spec : {M : Type 1} → statement M
 add-spec =
     tie.close
-    (tie.spec
-    slice-aggregate-all
-    (λ c κs. search needs)
-    (λ c κs. search needs)
-    returns
-    power-of-two-requires
-    slice-aggregate-add-to-column
-    array-borrow-prefix-rows
-    slice-aggregate-add-to-column-2
-    (λ c κs. search needs)
-    (λ c. search needs)
-    (λ c κs. search needs)
-    returns-2
-    enum-told
-    returns-3)
+    (tie.spec slice-aggregate-all (λ c κs. search needs) (λ c κs. search needs) returns power-of-two-requires
+    slice-aggregate-add-to-column array-borrow-prefix-rows slice-aggregate-add-to-column-2 (λ c κs. search needs) (λ c. search needs)
+    (λ c κs. search needs) returns-2 (λ c. search needs) returns-3)

@@ -21,9 +21,6 @@ returns c =
     let g = c .declined .ensures in
     record { reply = ap written (g .1) ∙ reply-refused h []; whole = g .0 ∙ begin-refused (a .n) (a .m) (a .rows .now) (u .result) (u .ensures) h }
 
-enum-told : tie.Need-enum-told
-enum-told c = search needs
-
 accepted : (c : tie.After-enum-told) → let a = c .before .before .before .before .before .args in first (boxChecks (a .n) (a .m) (a .rows .now)) ≡ Accepted
 accepted c = sym (c .before .before .check-box .ensures) ∙ c .enum-told .given .1
 
@@ -50,14 +47,5 @@ returns-2 c =
 pub begin-spec : {M : Type 1} → statement M
 begin-spec =
     tie.close
-    (tie.spec
-    (λ c κs. search needs)
-    (λ c κs. search needs)
-    (λ c. search needs)
-    (λ c κs. search needs)
-    returns
-    enum-told
-    array-borrow-prefix-held
-    slice-aggregate-copy
-    copy-requires
-    returns-2)
+    (tie.spec (λ c κs. search needs) (λ c κs. search needs) (λ c. search needs) (λ c κs. search needs) returns (λ c. search needs)
+    array-borrow-prefix-held slice-aggregate-copy copy-requires returns-2)

@@ -55,15 +55,5 @@ returns-3 c =
 pub mark-spec : {M : Type 1} → statement M
 mark-spec =
     tie.close
-    (tie.spec
-    (λ c κs. search needs)
-    (λ c κs. search needs)
-    returns
-    (λ c κs. search needs)
-    (λ c κs. search needs)
-    returns-2
-    sub-i
-    (λ c. search needs)
-    (λ c. search needs)
-    element-set-from-design
-    returns-3)
+    (tie.spec (λ c κs. search needs) (λ c κs. search needs) returns (λ c κs. search needs) (λ c κs. search needs) returns-2 sub-i
+    (λ c. search needs) (λ c. search needs) element-set-from-design returns-3)

@@ -65,13 +65,5 @@ returns-3 c =
 pub read-box-spec : {M : Type 1} → statement M
 read-box-spec =
     tie.close
-    (tie.spec
-    slice-aggregate-all
-    (λ c κs. search needs)
-    returns
-    power-of-two-requires
-    returns-2
-    slice-aggregate-copy
-    copy-requires
-    (λ c. search needs)
-    returns-3)
+    (tie.spec slice-aggregate-all (λ c κs. search needs) returns power-of-two-requires returns-2 slice-aggregate-copy copy-requires
+    (λ c. search needs) returns-3)

@@ -67,17 +67,5 @@ returns-4 c =
 pub return-to-spec : {M : Type 1} → statement M
 return-to-spec =
     tie.close
-    (tie.spec
-    (λ c κs. search needs)
-    (λ c κs. search needs)
-    returns
-    (λ c κs. search needs)
-    (λ c κs. search needs)
-    returns-2
-    sub-place
-    (λ c. search needs)
-    (λ c. search needs)
-    element-copy-out-here
-    (λ c κs. search needs)
-    returns-3
-    returns-4)
+    (tie.spec (λ c κs. search needs) (λ c κs. search needs) returns (λ c κs. search needs) (λ c κs. search needs) returns-2 sub-place
+    (λ c. search needs) (λ c. search needs) element-copy-out-here (λ c κs. search needs) returns-3 returns-4)

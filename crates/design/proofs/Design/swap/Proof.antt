@@ -85,21 +85,6 @@ returns-4 c =
 pub swap-spec : {M : Type 1} → statement M
 swap-spec =
     tie.close
-    (tie.spec
-    (λ c κs. search needs)
-    (λ c κs. search needs)
-    returns
-    power-of-two-requires
-    (λ c κs. search needs)
-    returns-2
-    (λ c κs. search needs)
-    returns-3
-    (λ c. search needs)
-    array-read-here
-    (λ c. search needs)
-    array-read-there
-    (λ c. search needs)
-    array-write-rows
-    (λ c. search needs)
-    array-write-rows-2
-    returns-4)
+    (tie.spec (λ c κs. search needs) (λ c κs. search needs) returns power-of-two-requires (λ c κs. search needs) returns-2
+    (λ c κs. search needs) returns-3 (λ c. search needs) array-read-here (λ c. search needs) array-read-there (λ c. search needs)
+    array-write-rows (λ c. search needs) array-write-rows-2 returns-4)

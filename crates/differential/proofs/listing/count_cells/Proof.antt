@@ -69,17 +69,5 @@ returns c = let start = c .before .before in counting-all (start .pre .0) (c .be
 pub count-cells-spec : {M : Type 1} → statement M
 count-cells-spec =
     tie.close
-    (tie.spec
-    Inv-loop
-    μ-loop
-    loop-holds
-    mul-if1
-    element-copy-out-if1
-    mul-count
-    element-copy-out-count
-    cast-count
-    add-count
-    add-a
-    loop-less
-    loop-again
-    returns)
+    (tie.spec Inv-loop μ-loop loop-holds mul-if1 element-copy-out-if1 mul-count element-copy-out-count cast-count add-count add-a
+    loop-less loop-again returns)

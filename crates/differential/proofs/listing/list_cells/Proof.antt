@@ -68,18 +68,5 @@ returns c = storing-all (c .before .loop .inv) (omega (arith, c .loop-test .left
 pub list-cells-spec : {M : Type 1} → statement M
 list-cells-spec =
     tie.close
-    (tie.spec
-    Inv-loop
-    μ-loop
-    loop-holds
-    mul-t11
-    element-copy-out-t15
-    mul-list-row
-    element-copy-out-list-row
-    cast-list-row
-    list-row-requires
-    add-a
-    loop-less
-    loop-again
-    same-length
-    returns)
+    (tie.spec Inv-loop μ-loop loop-holds mul-t11 element-copy-out-t15 mul-list-row element-copy-out-list-row cast-list-row
+    list-row-requires add-a loop-less loop-again same-length returns)

@@ -27,34 +27,13 @@ one c =
     let start = c .before .before .before .before .before .before in
     measured-one (start .pre .0) (start .pre .2) (start .pre .3) (c .before .before .if1 .left) (c .if2 .taken)
 
-mul-list : tie.Need-mul-list
-mul-list c = search needs
-
-sub-list : tie.Need-sub-list
-sub-list c = search needs
-
-add-list : tie.Need-add-list
-add-list c = search needs
-
-mul-list-2 : tie.Need-mul-list-2
-mul-list-2 c = search needs
-
 slice-write-list : tie.Need-slice-write-list
 slice-write-list c = let h = c .before .before .before .before .before .before .before .pre .4 in omega (arith, ap length (one (c .before)))
-
-add-result : tie.Need-add-result
-add-result c = search needs
-
-same-length : tie.Need-same-length
-same-length c = search needs
 
 returns-2 : tie.Need-returns-2
 returns-2 c =
     let a = c .before .before .before .before .before .before .before .args in
     (omega (arith, ap length (one (c .before))), ap (sets (a .list .now) (a .start)) (sym (one (c .before))))
-
-array-borrow-prefix-pairs : tie.Need-array-borrow-prefix-pairs
-array-borrow-prefix-pairs c = search needs
 
 -- a box has at most 256 rows, so there is room for its pairs
 half-small : (c : tie.After-pairs) → length (c .before .before .before .before .before .before .before .args .rows .now) / 2 ≤ 128
@@ -69,27 +48,9 @@ list-several-requires c κs =
     let box = start .pre .0 in
     (box, start .pre .1, start .pre .3, half-room box (replicate 128 0) (half-small (c .before)), start .pre .4)
 
-same-length-2 : tie.Need-same-length-2
-same-length-2 c = search needs
-
-returns-3 : tie.Need-returns-3
-returns-3 c = search needs
-
 pub list-row-spec : {M : Type 1} → statement M
 list-row-spec =
     tie.close
-    (tie.spec
-    returns
-    mul-list
-    sub-list
-    add-list
-    mul-list-2
-    slice-write-list
-    add-result
-    same-length
-    returns-2
-    array-borrow-prefix-pairs
-    slice-aggregate-list-several
-    list-several-requires
-    same-length-2
-    returns-3)
+    (tie.spec returns (λ c. search needs) (λ c. search needs) (λ c. search needs) (λ c. search needs) slice-write-list
+    (λ c. search needs) (λ c. search needs) returns-2 (λ c. search needs) slice-aggregate-list-several list-several-requires
+    (λ c. search needs) (λ c. search needs))

@@ -12,24 +12,6 @@ use borrow.Author.Needs.{needs}
 use Rattle.differential.proofs.listing.list_run.Statement.{statement}
 use Rattle.differential.proofs.listing.list_run.Tie as tie
 
-sub-last : tie.Need-sub-last
-sub-last c = search needs
-
-add-last : tie.Need-add-last
-add-last c = search needs
-
-mul-if1 : tie.Need-mul-if1
-mul-if1 c = search needs
-
-shared-slice-read-if1 : tie.Need-shared-slice-read-if1
-shared-slice-read-if1 c = search needs
-
-mul-if1-2 : tie.Need-mul-if1-2
-mul-if1-2 c = search needs
-
-shared-slice-read-if1-2 : tie.Need-shared-slice-read-if1-2
-shared-slice-read-if1-2 c = search needs
-
 returns : tie.Need-returns
 returns c =
     let a = c .before .before .before .args in
@@ -42,32 +24,14 @@ one : (c : tie.Else1) →
     runAt (a .largest) (a .a) (a .pairs .now) (a .y) ≡ (a .a * 4294967296 + at (a .pairs .now) (a .y)) ∷ []
 one c = let a = c .before .before .before .args in run-listed (a .largest) (a .a) (a .pairs .now) (a .y) (c .if1 .left)
 
-mul-list : tie.Need-mul-list
-mul-list c = search needs
-
-mul-list-2 : tie.Need-mul-list-2
-mul-list-2 c = search needs
-
-shared-slice-read-list : tie.Need-shared-slice-read-list
-shared-slice-read-list c = search needs
-
 cast-list : tie.Need-cast-list
 cast-list c = omega (arith, c .shared-slice-known3 .given (c .before .before .before .before .args .y))
 
 add-list : tie.Need-add-list
 add-list c = let start = c .before .before .before .before in omega (arith, c .shared-slice-known3 .given (start .args .y), start .pre .3)
 
-mul-list-3 : tie.Need-mul-list-3
-mul-list-3 c = search needs
-
 slice-write-list : tie.Need-slice-write-list
 slice-write-list c = let h = c .before .before .before .before .pre .4 in omega (arith, ap length (one (c .before)))
-
-add-result : tie.Need-add-result
-add-result c = search needs
-
-same-length : tie.Need-same-length
-same-length c = search needs
 
 returns-2 : tie.Need-returns-2
 returns-2 c =
@@ -77,21 +41,6 @@ returns-2 c =
 pub list-run-spec : {M : Type 1} → statement M
 list-run-spec =
     tie.close
-    (tie.spec
-    sub-last
-    add-last
-    mul-if1
-    shared-slice-read-if1
-    mul-if1-2
-    shared-slice-read-if1-2
-    returns
-    mul-list
-    mul-list-2
-    shared-slice-read-list
-    cast-list
-    add-list
-    mul-list-3
-    slice-write-list
-    add-result
-    same-length
-    returns-2)
+    (tie.spec (λ c. search needs) (λ c. search needs) (λ c. search needs) (λ c. search needs) (λ c. search needs) (λ c. search needs)
+    returns (λ c. search needs) (λ c. search needs) (λ c. search needs) cast-list add-list (λ c. search needs) slice-write-list
+    (λ c. search needs) (λ c. search needs) returns-2)

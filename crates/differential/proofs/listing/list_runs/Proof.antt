@@ -47,14 +47,4 @@ returns c = runs-all (c .before .loop .inv) (c .before .before .before .before .
 pub list-runs-spec : {M : Type 1} → statement M
 list-runs-spec =
     tie.close
-    (tie.spec
-    Inv-loop
-    μ-loop
-    loop-holds
-    add-loop
-    list-run-requires
-    add-y
-    loop-less
-    loop-again
-    same-length
-    returns)
+    (tie.spec Inv-loop μ-loop loop-holds add-loop list-run-requires add-y loop-less loop-again same-length returns)

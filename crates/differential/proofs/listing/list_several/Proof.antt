@@ -48,12 +48,6 @@ list-runs-requires c κs =
       rw (are-row sorted) (start .pre .4),
     )
 
-same-length : tie.Need-same-length
-same-length c = search needs
-
-same-length-2 : tie.Need-same-length-2
-same-length-2 c = search needs
-
 returns : tie.Need-returns
 returns c =
     let listed = c .before .before in
@@ -68,10 +62,4 @@ returns c =
 pub list-several-spec : {M : Type 1} → statement M
 list-several-spec =
     tie.close
-    (tie.spec
-    write-pairs-requires
-    sort-requires
-    list-runs-requires
-    same-length
-    same-length-2
-    returns)
+    (tie.spec write-pairs-requires sort-requires list-runs-requires (λ c. search needs) (λ c. search needs) returns)

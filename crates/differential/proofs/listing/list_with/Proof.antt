@@ -13,12 +13,6 @@ use borrow.Author.Needs.{needs}
 use Rattle.differential.proofs.listing.list_with.Statement.{statement}
 use Rattle.differential.proofs.listing.list_with.Tie as tie
 
-measure-requires : tie.Need-measure-requires
-measure-requires c κs = search needs
-
-count-cells-requires : tie.Need-count-cells-requires
-count-cells-requires c κs = search needs
-
 returns : tie.Need-returns
 returns c =
     let counted = c .before in
@@ -26,15 +20,6 @@ returns c =
       wrote-refused (too-short (start .pre .0) (counted .count-cells .ensures .0) (length (start .args .list .now)) (c .if1 .taken)),
       counted .before .before .before .measure .ensures .0,
     )
-
-list-cells-requires : tie.Need-list-cells-requires
-list-cells-requires c κs = search needs
-
-cast-t21 : tie.Need-cast-t21
-cast-t21 c = search needs
-
-same-length : tie.Need-same-length
-same-length c = search needs
 
 returns-2 : tie.Need-returns-2
 returns-2 c =
@@ -56,11 +41,5 @@ returns-2 c =
 pub list-with-spec : {M : Type 1} → statement M
 list-with-spec =
     tie.close
-    (tie.spec
-    measure-requires
-    count-cells-requires
-    returns
-    list-cells-requires
-    cast-t21
-    same-length
+    (tie.spec (λ c κs. search needs) (λ c κs. search needs) returns (λ c κs. search needs) (λ c. search needs) (λ c. search needs)
     returns-2)

@@ -14,14 +14,8 @@ use Rattle.differential.proofs.listing.measure.Tie as tie
 half-small : (c : tie.After-shared-slice-known) → length (c .before .args .rows .now) / 2 ≤ 128
 half-small c = omega (arith, c .before .pre .0 .small)
 
-array-borrow-prefix-pairs : tie.Need-array-borrow-prefix-pairs
-array-borrow-prefix-pairs c = search needs
-
 slice-aggregate-measure-rows : tie.Need-slice-aggregate-measure-rows
 slice-aggregate-measure-rows c = sym (length-take-le _ (replicate 128 0) (half-small (c .before)))
-
-slice-aggregate-measure-rows-2 : tie.Need-slice-aggregate-measure-rows-2
-slice-aggregate-measure-rows-2 c = search needs
 
 measure-rows-requires : tie.Need-measure-rows-requires
 measure-rows-requires c κs =
@@ -29,15 +23,7 @@ measure-rows-requires c κs =
     let start = known .before in
     (start .pre .0, half-room (start .pre .0) (replicate 128 0) (half-small known), zeros-free, start .pre .1, start .pre .2)
 
-returns : tie.Need-returns
-returns c = search needs
-
 pub measure-spec : {M : Type 1} → statement M
 measure-spec =
     tie.close
-    (tie.spec
-    array-borrow-prefix-pairs
-    slice-aggregate-measure-rows
-    slice-aggregate-measure-rows-2
-    measure-rows-requires
-    returns)
+    (tie.spec (λ c. search needs) slice-aggregate-measure-rows (λ c. search needs) measure-rows-requires (λ c. search needs))

@@ -66,17 +66,5 @@ returns c =
 pub measure-row-spec : {M : Type 1} → statement M
 measure-row-spec =
     tie.close
-    (tie.spec
-    Inv-loop
-    μ-loop
-    (λ c. search needs)
-    (λ c. search needs)
-    loop-holds
-    rise-requires
-    cells-after-requires
-    (λ c. search needs)
-    (λ c. search needs)
-    loop-again
-    sub-t9
-    same-length
-    returns)
+    (tie.spec Inv-loop μ-loop (λ c. search needs) (λ c. search needs) loop-holds rise-requires cells-after-requires
+    (λ c. search needs) (λ c. search needs) loop-again sub-t9 same-length returns)

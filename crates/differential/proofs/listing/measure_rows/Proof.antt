@@ -89,22 +89,6 @@ returns c =
 pub measure-rows-spec : {M : Type 1} → statement M
 measure-rows-spec =
     tie.close
-    (tie.spec
-    Inv-loop
-    μ-loop
-    loop-holds
-    cast-write-pairs
-    write-pairs-requires
-    cast-measure-row
-    measure-row-requires
-    mul-standings
-    element-write-standings
-    mul-numbers
-    element-write-numbers
-    larger-requires
-    add-a
-    loop-less
-    loop-again
-    same-length
-    same-length-2
+    (tie.spec Inv-loop μ-loop loop-holds cast-write-pairs write-pairs-requires cast-measure-row measure-row-requires mul-standings
+    element-write-standings mul-numbers element-write-numbers larger-requires add-a loop-less loop-again same-length same-length-2
     returns)

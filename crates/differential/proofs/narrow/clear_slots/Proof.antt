@@ -39,15 +39,5 @@ returns c =
 pub clear-slots-spec : {M : Type 1} → statement M
 clear-slots-spec =
     tie.close
-    (tie.spec
-    Inv-loop
-    μ-loop
-    loop-holds
-    sub-slots
-    (λ c. search needs)
-    (λ c. search needs)
-    (λ c. search needs)
-    (λ c. omega (arith, c .loop-test .taken, c .before .loop .inv .long))
-    loop-again
-    same-length
-    returns)
+    (tie.spec Inv-loop μ-loop loop-holds sub-slots (λ c. search needs) (λ c. search needs) (λ c. search needs)
+    (λ c. omega (arith, c .loop-test .taken, c .before .loop .inv .long)) loop-again same-length returns)

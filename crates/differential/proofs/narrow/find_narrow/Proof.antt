@@ -43,12 +43,5 @@ sweep-narrow-requires c κs =
 pub find-narrow-spec : {M : Type 1} → statement M
 find-narrow-spec =
     tie.close
-    (tie.spec
-    (λ c κs. search needs)
-    (λ c. search needs)
-    slice-aggregate-sweep-narrow
-    array-borrow-prefix-slots
-    slice-aggregate-sweep-narrow-2
-    sweep-narrow-requires
-    (λ c. search needs)
-    (λ c. search needs))
+    (tie.spec (λ c κs. search needs) (λ c. search needs) slice-aggregate-sweep-narrow array-borrow-prefix-slots
+    slice-aggregate-sweep-narrow-2 sweep-narrow-requires (λ c. search needs) (λ c. search needs))

@@ -70,15 +70,5 @@ returns c =
 pub largest-alone-spec : {M : Type 1} → statement M
 largest-alone-spec =
     tie.close
-    (tie.spec
-    Inv-loop
-    μ-loop
-    (λ c κs. search needs)
-    (λ c. search needs)
-    loop-holds
-    rise-alone-requires
-    (λ c. search needs)
-    (λ c. search needs)
-    loop-again
-    same-length
-    returns)
+    (tie.spec Inv-loop μ-loop (λ c κs. search needs) (λ c. search needs) loop-holds rise-alone-requires (λ c. search needs)
+    (λ c. search needs) loop-again same-length returns)

@@ -49,15 +49,5 @@ returns c =
 pub rise-alone-spec : {M : Type 1} → statement M
 rise-alone-spec =
     tie.close
-    (tie.spec
-    (λ c. search needs)
-    (λ c. search needs)
-    cast-slot
-    mul-standing
-    slice-read-standing
-    add-standing
-    mul-slots
-    slice-write-slots
-    (λ c κs. search needs)
-    (λ c. search needs)
-    returns)
+    (tie.spec (λ c. search needs) (λ c. search needs) cast-slot mul-standing slice-read-standing add-standing mul-slots
+    slice-write-slots (λ c κs. search needs) (λ c. search needs) returns)

@@ -24,9 +24,6 @@ abbrev μ-loop : tie.MeasureT-loop
 power-of-two-requires : tie.Need-power-of-two-requires Inv-loop μ-loop
 power-of-two-requires c κs = le-trans (c .before .before .before .pre .0 .n-high) (lit≤ tt)
 
-cast-inputs : tie.Need-cast-inputs Inv-loop μ-loop
-cast-inputs c = search needs
-
 loop-holds : tie.Need-loop-holds Inv-loop μ-loop
 loop-holds c = let start = c .before .before .before .before in (sweep-starts (start .pre .0) (start .pre .2), start .pre .3)
 
@@ -59,12 +56,6 @@ few c =
 after-row-requires : tie.Need-after-row-requires Inv-loop μ-loop
 after-row-requires c κs = few (c .before .before)
 
-add-a : tie.Need-add-a Inv-loop μ-loop
-add-a c = search needs
-
-loop-less : tie.Need-loop-less Inv-loop μ-loop
-loop-less c = search needs
-
 loop-again : tie.Need-loop-again Inv-loop μ-loop
 loop-again c =
     let row = c .before .before .before in
@@ -96,18 +87,5 @@ returns c =
 pub sweep-narrow-spec : {M : Type 1} → statement M
 sweep-narrow-spec =
     tie.close
-    (tie.spec
-    Inv-loop
-    μ-loop
-    power-of-two-requires
-    cast-inputs
-    loop-holds
-    write-pairs-requires
-    largest-alone-requires
-    after-row-requires
-    add-a
-    loop-less
-    loop-again
-    same-length
-    same-length-2
-    returns)
+    (tie.spec Inv-loop μ-loop power-of-two-requires (λ c. search needs) loop-holds write-pairs-requires largest-alone-requires
+    after-row-requires (λ c. search needs) (λ c. search needs) loop-again same-length same-length-2 returns)

@@ -10,19 +10,10 @@ use Rattle.server.proofs.Checks.{held-low, held-high, ask-refused, ask-
 use Rattle.server.proofs.Server.ask.Statement.{statement}
 use Rattle.server.proofs.Server.ask.Tie as tie
 
-check-held-requires : tie.Need-check-held-requires
-check-held-requires c κs = search needs
-
-enum-known-e : tie.Need-enum-known-e
-enum-known-e c = search needs
-
 returns : tie.Need-returns
 returns c =
     let p = c .before .before .before in
     ask-refused (p .before .args .t1) (p .before .args .place) (sym (p .check-held .ensures) ∙ c .before .e .given .1)
-
-enum-told : tie.Need-enum-told
-enum-told c = search needs
 
 accepted : (c : tie.After-enum-told) →
     let a = c .before .before .before .args in
@@ -32,17 +23,8 @@ accepted c = sym (c .before .before .check-held .ensures) ∙ c .enum-told .give
 sub-i : tie.Need-sub-i
 sub-i c = held-low _ _ (accepted c)
 
-cast-i : tie.Need-cast-i
-cast-i c = search needs
-
-mul-asked : tie.Need-mul-asked
-mul-asked c = search needs
-
 element-copy-out-asked : tie.Need-element-copy-out-asked
 element-copy-out-asked c = let a = c .before .before .before .args in omega (arith, held-low (state (a .t1)) (a .place) (accepted c), held-high (state (a .t1)) (a .place) (accepted c))
-
-unfinished-requires : tie.Need-unfinished-requires
-unfinished-requires c κs = search needs
 
 returns-2 : tie.Need-returns-2
 returns-2 c =
@@ -60,15 +42,5 @@ returns-3 c =
 pub ask-spec : {M : Type 1} → statement M
 ask-spec =
     tie.close
-    (tie.spec
-    check-held-requires
-    enum-known-e
-    returns
-    enum-told
-    sub-i
-    cast-i
-    mul-asked
-    element-copy-out-asked
-    unfinished-requires
-    returns-2
-    returns-3)
+    (tie.spec (λ c κs. search needs) (λ c. search needs) returns (λ c. search needs) sub-i (λ c. search needs) (λ c. search needs)
+    element-copy-out-asked (λ c κs. search needs) returns-2 returns-3)

@@ -12,9 +12,6 @@ use Rattle.server.proofs.Places.{taken-at}
 use Rattle.server.proofs.Server.check_held.Statement.{statement}
 use Rattle.server.proofs.Server.check_held.Tie as tie
 
-in-range-requires : tie.Need-in-range-requires
-in-range-requires c κs = search needs
-
 returns : tie.Need-returns
 unfolding heldChecks
 returns c = found (stop (fails (c .before .in-range .ensures) (c .if1 .taken)))
@@ -25,12 +22,6 @@ numbered c = holds (c .before .in-range .ensures) (c .if1 .left)
 
 sub-i : tie.Need-sub-i
 sub-i c = range-low 1 8 _ (numbered c)
-
-cast-i : tie.Need-cast-i
-cast-i c = search needs
-
-mul-here : tie.Need-mul-here
-mul-here c = search needs
 
 element-copy-out-here : tie.Need-element-copy-out-here
 element-copy-out-here c = omega (arith, range-low 1 8 (c .before .before .args .place) (numbered c), range-high 1 8 (c .before .before .args .place) (numbered c))
@@ -52,12 +43,4 @@ returns-3 c =
 pub check-held-spec : {M : Type 1} → statement M
 check-held-spec =
     tie.close
-    (tie.spec
-    in-range-requires
-    returns
-    sub-i
-    cast-i
-    mul-here
-    element-copy-out-here
-    returns-2
-    returns-3)
+    (tie.spec (λ c κs. search needs) returns sub-i (λ c. search needs) (λ c. search needs) element-copy-out-here returns-2 returns-3)

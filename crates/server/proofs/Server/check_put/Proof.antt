@@ -13,9 +13,6 @@ use Rattle.server.proofs.Places.{taken-at}
 use Rattle.server.proofs.Server.check_put.Statement.{statement}
 use Rattle.server.proofs.Server.check_put.Tie as tie
 
-in-range-requires : tie.Need-in-range-requires
-in-range-requires c κs = search needs
-
 returns : tie.Need-returns
 unfolding putChecks
 returns c = found (stop (fails (c .before .in-range .ensures) (c .if1 .taken)))
@@ -26,12 +23,6 @@ numbered c = holds (c .before .in-range .ensures) (c .if1 .left)
 
 sub-i : tie.Need-sub-i
 sub-i c = range-low 1 8 _ (numbered c)
-
-cast-i : tie.Need-cast-i
-cast-i c = search needs
-
-mul-here : tie.Need-mul-here
-mul-here c = search needs
 
 element-copy-out-here : tie.Need-element-copy-out-here
 element-copy-out-here c =
@@ -45,9 +36,6 @@ returns-2 c =
     let a = else .before .before .before .args in
     found (skip (numbered else) (stop (ap not (sym (taken-at (a .t1) (a .place)) ∙ eq-eqb _ 1 (c .if2 .taken)))))
 
-check-box-up-to-requires : tie.Need-check-box-up-to-requires
-check-box-up-to-requires c κs = search needs
-
 returns-3 : tie.Need-returns-3
 unfolding putChecks
 returns-3 c =
@@ -58,13 +46,5 @@ returns-3 c =
 pub check-put-spec : {M : Type 1} → statement M
 check-put-spec =
     tie.close
-    (tie.spec
-    in-range-requires
-    returns
-    sub-i
-    cast-i
-    mul-here
-    element-copy-out-here
-    returns-2
-    check-box-up-to-requires
-    returns-3)
+    (tie.spec (λ c κs. search needs) returns sub-i (λ c. search needs) (λ c. search needs) element-copy-out-here returns-2
+    (λ c κs. search needs) returns-3)

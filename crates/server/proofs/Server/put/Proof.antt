@@ -11,20 +11,11 @@ use Rattle.server.proofs.Checks.{put-low, put-high, put-box, refused-pu
 use Rattle.server.proofs.Server.put.Statement.{statement}
 use Rattle.server.proofs.Server.put.Tie as tie
 
-check-put-requires : tie.Need-check-put-requires
-check-put-requires c κs = search needs
-
-enum-known-e : tie.Need-enum-known-e
-enum-known-e c = search needs
-
 returns : tie.Need-returns
 returns c =
     let p = c .before .before .before in
     let a = p .before .before .args in
     refused-put (a .self) (a .place) (a .n) (a .m) (a .rows .now) (sym (p .check-put .ensures) ∙ c .before .e .given .1)
-
-enum-told : tie.Need-enum-told
-enum-told c = search needs
 
 accepted : (c : tie.After-enum-told) →
     let a = c .before .before .before .before .args in
@@ -33,9 +24,6 @@ accepted c = sym (c .before .before .check-put .ensures) ∙ c .enum-told .given
 
 sub-i : tie.Need-sub-i
 sub-i c = put-low _ _ _ _ _ (accepted c)
-
-cast-i : tie.Need-cast-i
-cast-i c = search needs
 
 fresh-requires : tie.Need-fresh-requires
 fresh-requires c κs = put-box _ _ _ _ _ (accepted c)
@@ -57,13 +45,5 @@ returns-2 c =
 pub put-spec : {M : Type 1} → statement M
 put-spec =
     tie.close
-    (tie.spec
-    check-put-requires
-    enum-known-e
-    returns
-    enum-told
-    sub-i
-    cast-i
-    fresh-requires
-    with-place-requires
-    returns-2)
+    (tie.spec (λ c κs. search needs) (λ c. search needs) returns (λ c. search needs) sub-i (λ c. search needs) fresh-requires
+    with-place-requires returns-2)

@@ -5,7 +5,8 @@ use mathlib.Core.Path.{_≡_, refl, sym, _∙_, subst}
 use native.Mathlib.Omega.{arith}
 use borrow.Author.Needs.{needs}
 use Rattle.server.specs.Model.{served}
-use Rattle.server.specs.Calls.{state, Ran, none, Waiting}
+use Rattle.server.specs.Calls.{state, Ran, none}
+use Rattle.server.specs.Work.{Waiting}
 use Rattle.server.proofs.Steps.{turn-served, served-left}
 use Rattle.server.proofs.Waits.{waiting-served}
 use Rattle.server.proofs.Outcomes.{stepped-some, ran-more, ran-on}
@@ -18,17 +19,8 @@ Inv-loop budget fixed waiting₀ server₀ done₀ waiting server done = (done �
 abbrev μ-loop : tie.MeasureT-loop
 μ-loop budget fixed waiting₀ server₀ done₀ waiting server done = budget - done
 
-spectra-requires : tie.Need-spectra-requires Inv-loop μ-loop
-spectra-requires c κs = search needs
-
-waiting-places-requires : tie.Need-waiting-places-requires Inv-loop μ-loop
-waiting-places-requires c κs = search needs
-
 loop-holds : tie.Need-loop-holds Inv-loop μ-loop
 loop-holds c = (omega arith, none, c .waiting-places .ensures)
-
-next-place-requires : tie.Need-next-place-requires Inv-loop μ-loop
-next-place-requires c κs = search needs
 
 -- the turn that is found in what is kept of the places is the place that a step serves
 turn-now : (c : tie.After-next-place Inv-loop μ-loop) → c .next-place .result ≡ served (state (c .before .before .before .loop .server))
@@ -53,9 +45,6 @@ element-copy-out-here c = omega (arith, c .before .next-place .ensures .0)
 
 examine-requires : tie.Need-examine-requires Inv-loop μ-loop
 examine-requires c κs = c .before .before .before .before .before .before .before .before .spectra .ensures
-
-unfinished-requires : tie.Need-unfinished-requires Inv-loop μ-loop
-unfinished-requires c κs = search needs
 
 array-write-waiting : tie.Need-array-write-waiting Inv-loop μ-loop
 array-write-waiting c = omega (arith, c .before .before .before .before .before .next-place .ensures .0)
@@ -94,24 +83,6 @@ returns-2 c =
 pub run-spec : {M : Type 1} → statement M
 run-spec =
     tie.close
-    (tie.spec
-    Inv-loop
-    μ-loop
-    spectra-requires
-    waiting-places-requires
-    loop-holds
-    next-place-requires
-    returns
-    sub-i
-    cast-i
-    mul-here
-    element-copy-out-here
-    examine-requires
-    unfinished-requires
-    array-write-waiting
-    mul-served
-    element-set-from-served
-    add-done
-    loop-less
-    loop-again
-    returns-2)
+    (tie.spec Inv-loop μ-loop (λ c κs. search needs) (λ c κs. search needs) loop-holds (λ c κs. search needs) returns sub-i cast-i
+    mul-here element-copy-out-here examine-requires (λ c κs. search needs) array-write-waiting mul-served element-set-from-served
+    add-done loop-less loop-again returns-2)

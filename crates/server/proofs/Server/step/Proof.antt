@@ -4,11 +4,8 @@ use Rattle.server.proofs.Outcomes.{ran-one}
 use Rattle.server.proofs.Server.step.Statement.{statement}
 use Rattle.server.proofs.Server.step.Tie as tie
 
-run-requires : tie.Need-run-requires
-run-requires c κs = search needs
-
 returns : tie.Need-returns
 returns c = ran-one (c .run .ensures)
 
 pub step-spec : {M : Type 1} → statement M
-step-spec = tie.close (tie.spec run-requires returns)
+step-spec = tie.close (tie.spec (λ c κs. search needs) returns)

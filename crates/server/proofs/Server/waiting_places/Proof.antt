@@ -22,9 +22,6 @@ mul-held c = omega arith
 element-copy-out-held : tie.Need-element-copy-out-held Inv-loop μ-loop
 element-copy-out-held c = omega arith
 
-unfinished-requires : tie.Need-unfinished-requires Inv-loop μ-loop
-unfinished-requires c κs = search needs
-
 array-write-waiting : tie.Need-array-write-waiting Inv-loop μ-loop
 array-write-waiting c = omega arith
 
@@ -48,15 +45,5 @@ returns c =
 pub waiting-places-spec : {M : Type 1} → statement M
 waiting-places-spec =
     tie.close
-    (tie.spec
-    Inv-loop
-    μ-loop
-    loop-holds
-    mul-held
-    element-copy-out-held
-    unfinished-requires
-    array-write-waiting
-    add-at
-    loop-less
-    loop-again
-    returns)
+    (tie.spec Inv-loop μ-loop loop-holds mul-held element-copy-out-held (λ c κs. search needs) array-write-waiting add-at loop-less
+    loop-again returns)

@@ -11,19 +11,10 @@ use Rattle.server.proofs.Checks.{held-low, held-high, refused-withdrawa
 use Rattle.server.proofs.Server.withdraw.Statement.{statement}
 use Rattle.server.proofs.Server.withdraw.Tie as tie
 
-check-held-requires : tie.Need-check-held-requires
-check-held-requires c κs = search needs
-
-enum-known-reason : tie.Need-enum-known-reason
-enum-known-reason c = search needs
-
 returns : tie.Need-returns
 returns c =
     let p = c .before .before .before in
     refused-withdrawal (p .before .args .self) (p .before .args .place) (sym (p .check-held .ensures) ∙ c .before .reason .given .1)
-
-enum-told : tie.Need-enum-told
-enum-told c = search needs
 
 accepted : (c : tie.After-enum-told) →
     let a = c .before .before .before .args in
@@ -32,12 +23,6 @@ accepted c = sym (c .before .before .check-held .ensures) ∙ c .enum-told .give
 
 sub-i : tie.Need-sub-i
 sub-i c = held-low _ _ (accepted c)
-
-cast-i : tie.Need-cast-i
-cast-i c = search needs
-
-vacant-requires : tie.Need-vacant-requires
-vacant-requires c κs = search needs
 
 with-place-requires : tie.Need-with-place-requires
 with-place-requires c κs =
@@ -54,13 +39,5 @@ returns-2 c =
 pub withdraw-spec : {M : Type 1} → statement M
 withdraw-spec =
     tie.close
-    (tie.spec
-    check-held-requires
-    enum-known-reason
-    returns
-    enum-told
-    sub-i
-    cast-i
-    vacant-requires
-    with-place-requires
-    returns-2)
+    (tie.spec (λ c κs. search needs) (λ c. search needs) returns (λ c. search needs) sub-i (λ c. search needs) (λ c κs. search needs)
+    with-place-requires returns-2)

@@ -1,32 +1,32 @@
 //! The second program beside the library. See the usage text below.
-mod avalanches;
+mod additions;
 mod bounds;
 mod by_value;
 mod calls;
+mod catalogue;
 mod compare;
 mod damage;
-mod evaluations;
+mod design;
 mod far;
 mod files;
 mod forged;
 mod guarded;
 #[cfg(test)]
 mod headers;
-mod histories;
 mod lent;
 mod library;
 mod library_design;
 mod library_server;
 mod limits;
-mod lists;
+mod maximal;
 mod orders;
-mod packed;
+mod packing;
 mod pages;
 mod parts;
-mod raised;
+mod rounds;
+mod server;
 mod sheets;
-mod sums;
-mod tuning;
+mod swaps;
 
 use std::path::Path;
 use std::process::ExitCode;

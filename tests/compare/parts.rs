@@ -1,7 +1,7 @@
 //! The parts of a run: which there are, and how they are run, side by side, each with a generator
 //! of its own, so that one that fails can be repeated alone.
 use crate::calls::{Run, Tally};
-use crate::{compare, evaluations, histories, limits, pages, sheets, tuning};
+use crate::{catalogue, compare, design, limits, pages, server, sheets};
 use std::panic::{catch_unwind, AssertUnwindSafe};
 use std::sync::atomic::{AtomicUsize, Ordering};
 use std::sync::Mutex;
@@ -21,9 +21,9 @@ const AREAS: [Area; 7] = [
     Area { name: "limits", parts: limits::PARTS },
     Area { name: "turns", parts: limits::TURNS },
     Area { name: "compare", parts: compare::PARTS },
-    Area { name: "catalogue", parts: histories::PARTS },
-    Area { name: "designs", parts: tuning::PARTS },
-    Area { name: "server", parts: evaluations::PARTS },
+    Area { name: "catalogue", parts: catalogue::PARTS },
+    Area { name: "designs", parts: design::PARTS },
+    Area { name: "server", parts: server::PARTS },
     Area { name: "sheets", parts: sheets::PARTS },
 ];
 
@@ -140,8 +140,8 @@ mod tests {
     #[test]
     fn parts_are_chosen_by_area_or_by_name() {
         let number = |words: &[&str]| chosen(words).map(|parts| parts.len());
-        assert_eq!(number(&["designs"]), Ok(tuning::PARTS.len()));
-        assert_eq!(number(&["designs", "server"]), Ok(tuning::PARTS.len() + evaluations::PARTS.len()));
+        assert_eq!(number(&["designs"]), Ok(design::PARTS.len()));
+        assert_eq!(number(&["designs", "server"]), Ok(design::PARTS.len() + server::PARTS.len()));
         assert_eq!(number(&["designs: bounds"]), Ok(1));
         assert_eq!(number(&["all"]), Ok(all().len()));
         assert!(number(&["bounds"]).is_err() && number(&["designs", "nothing"]).is_err());

@@ -1,10 +1,10 @@
 //! Servers of random bytes, some with places that look sound: what every call makes of them.
 //! A refused call changes nothing, a step serves only what has a box's widths, and a run ends.
 use crate::calls::Run;
-use crate::evaluations::{any_box, any_place, figures_of};
 use crate::guarded::server::{self as library, Place, Server};
 use crate::lent::Lent;
 use crate::library_server::{untouched_box, EMPTY};
+use crate::server::{any_box, any_place, figures_of};
 use second_model::model::{all_outputs, check_box_up_to, refuse_when, Answer};
 use second_model::random::Random;
 use second_model::server::{NO_PLACE, PLACES, PLACE_STATE};

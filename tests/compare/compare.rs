@@ -1,7 +1,7 @@
 //! `second compare`: every call of the library against the model.
 use crate::calls::{Run, AUTOCORRELATION, DEGREE, FIGURE_CALLS, LIMITED_CALLS, NONLINEARITY};
 use crate::parts::Work;
-use crate::{avalanches, bounds, damage, far, limits, lists, orders, packed, raised, sums};
+use crate::{additions, bounds, damage, far, limits, maximal, orders, packing, rounds, swaps};
 use second_model::boxes::{self, KINDS};
 use second_model::combinations::quick_limit;
 use second_model::model::{self, all_outputs};
@@ -16,11 +16,11 @@ pub const PARTS: &[(&str, Work)] = &[
     ("truth tables", &truth_tables),
     ("damaged arguments", &damage::all),
     ("lists of column additions", &lists_of_additions),
-    ("sums of boxes", &sums::all),
-    ("packed columns", &packed::all),
-    ("raising swaps", &raised::all),
-    ("shorter lists of additions", &lists::all),
-    ("even and bent boxes", &avalanches::all),
+    ("sums of boxes", &rounds::all),
+    ("packed columns", &packing::all),
+    ("raising swaps", &swaps::all),
+    ("shorter lists of additions", &additions::all),
+    ("even and bent boxes", &maximal::all),
     ("lengths above 2^32", &far::all),
     ("published boxes", &published_boxes),
 ];

@@ -8,7 +8,7 @@
 //! large would not show. So here a combination of as many outputs as the limit is made affine.
 use crate::calls::{Run, AUTOCORRELATION, DEGREE, NONLINEARITY};
 use crate::parts::Work;
-use crate::sums;
+use crate::rounds;
 use second_model::boxes;
 use second_model::combinations::how_many;
 use second_model::model::{way, Way};
@@ -77,8 +77,8 @@ fn up_to_16_outputs(run: &mut Run, n: u32) {
 pub fn of_sums(run: &mut Run) {
     for (m, i) in (1..=16).flat_map(|m| (1..=m).map(move |i| (m, i))) {
         let number = 1 + (m + i) as usize % MOST;
-        let read = sums::random_sum(&mut run.random, number, 4, m);
-        sums::ask(run, &read, i);
+        let read = rounds::random_sum(&mut run.random, number, 4, m);
+        rounds::ask(run, &read, i);
     }
 }
 
