@@ -3,7 +3,8 @@
 
 What one must believe stands in `specs/`, in every file but `Work`, which has what functions ask of one another. So no other file of specs
 imports from a `Work`, and no contract of a call or an export in docs/CALLS.md names what its source imports from one. A definition of two
-arguments or more names them in its signature. No line of src/ or specs/ has more than 140 characters.
+arguments or more names them in its signature. No two definitions of all specs share a name, in whatever case its letters are. No line of
+src/ or specs/ has more than 140 characters.
 
 usage: specs.py CALLS CRATES      (docs/CALLS.md and crates/)
 """
@@ -17,6 +18,7 @@ LONGEST = 140
 IMPORT = re.compile(r"^(?:ghost )?use (\S+)\.\{([^}]*)\};?$", re.M)
 FROM_WORK = re.compile(r"specs\.Work$")
 SIGNATURE = re.compile(r"^(?:(?:unfoldable|abbrev) )?pub (?:(?:unfoldable|abbrev) )?([^\s:]+) : (.*)$")
+DEFINED = re.compile(r"^(?:(?:unfoldable|abbrev) )?pub (?:(?:unfoldable|abbrev|record|data) )?([^\s:({]+)", re.M)
 OPENS, CLOSES = "({[⌜", ")}]⌝"
 
 
@@ -72,6 +74,16 @@ def unnamed(signature):
     return grouped >= 2 and any(not re.match(r"^\([^()→]+ : ", part) for part in plain)
 
 
+def defined(text):
+    """The names that a file of specs defines; fields and constructors belong to their type and are none."""
+    return [name for name in DEFINED.findall(text) if name not in ("mod", "use")]
+
+
+def twice_defined(homes):
+    """Names with two meanings: `homes` has the files of each name in small letters."""
+    return [f"{name} is defined in {', '.join(files)}" for name, files in sorted(homes.items()) if len(files) > 1]
+
+
 def faults_of_specs(file, text):
     found = [f"{file}: {name} does not name its arguments" for name, signature in signatures(text) if unnamed(signature)]
     if pathlib.Path(file).name != "Work.antt" and from_work(text):
@@ -92,18 +104,20 @@ def main():
     if len(sys.argv) != 3:
         sys.exit("usage: specs.py CALLS CRATES")
     listed = calls.contracts(pathlib.Path(sys.argv[1]).read_text(encoding="utf-8"))
-    found, read = [], 0
+    found, read, homes = [], 0, {}
     for file in sorted(pathlib.Path(sys.argv[2]).glob("*/src/**/*.rt")) + sorted(pathlib.Path(sys.argv[2]).glob("*/specs/**/*.antt")):
         text, read = file.read_text(encoding="utf-8"), read + 1
         found += [f"{file}:{number}: more than {LONGEST} characters" for number in long_lines(text)]
         is_spec = file.suffix == ".antt"
+        for name in defined(text) if is_spec else []:
+            homes.setdefault(name.lower(), []).append(str(file))
         crate = file.parts[len(pathlib.Path(sys.argv[2]).parts)]
         found += faults_of_specs(str(file), text) if is_spec else faults_of_calls(crate, text, listed)
-    for fault in found:
+    for fault in found + twice_defined(homes):
         print(f"specs: {fault}")
-    if found or not read:
-        sys.exit(f"{read} files of src and specs have {len(found)} faults")
-    print(f"{read} files of src and specs: what must be believed stands apart, and can be read")
+    if not read or found or twice_defined(homes):
+        sys.exit(f"{read} files of src and specs have {len(found + twice_defined(homes))} faults")
+    print(f"{read} files of src and specs: what must be believed stands apart, and each of {len(homes)} names has one meaning")
 
 
 if __name__ == "__main__":

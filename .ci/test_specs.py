@@ -64,6 +64,10 @@ class Specs(unittest.TestCase):
         self.assertEqual(len(specs.faults_of_calls("linear", wrong, CALLS)), 1)
         self.assertEqual(specs.faults_of_calls("masks", wrong, CALLS), [])
 
+    def test_a_name_with_two_meanings(self):
+        self.assertEqual(specs.defined(BELIEVED + HALF_NAMED), ["distance", "one", "each", "Here", "checks"])
+        self.assertEqual(specs.twice_defined({"within": ["a/Bits", "b/Text"], "dot": ["a/Bits"]}), ["within is defined in a/Bits, b/Text"])
+
     def test_a_long_line(self):
         self.assertEqual(specs.long_lines("a\n" + "≡" * 141), [2])
 

@@ -8,7 +8,7 @@ use lib.Bits.{bitXor}
 use lib.ListN.{length, set, length-set}
 use lib.Seq.{getD-set-same, getD-set-other}
 use Rattle.boolean.specs.Functions.{at}
-use Rattle.algebraic.specs.Work.{Added}
+use Rattle.algebraic.specs.Work.{HalvesAdded}
 
 pub record Adding (h k : ℕ) (old new : List ℕ) : Type 0 where
   pub within : k ≤ h
@@ -26,7 +26,7 @@ adding-none h old = record {
   rest = λ i from. refl;
 }
 
-pub adding-all : {h k : ℕ} {old new : List ℕ} → Adding h k old new → h ≤ k → Added h old new
+pub adding-all : {h k : ℕ} {old new : List ℕ} → Adding h k old new → h ≤ k → HalvesAdded h old new
 adding-all t end = record { kept = t .kept; sums = λ i below. t .sums i (omega arith) }
 
 -- one more turn

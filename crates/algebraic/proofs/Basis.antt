@@ -13,7 +13,7 @@ use lib.Pow.{pow-mono}
 use Rattle.boolean.specs.Bits.{dot}
 use Rattle.boolean.specs.Functions.{at}
 use Rattle.boolean.proofs.Dots.{dot-zero, dot-xor}
-use Rattle.algebraic.specs.Work.{Echelon, EvenOn, Placed, Spanned}
+use Rattle.algebraic.specs.Work.{Echelon, EvenOn, WordPlaced, Spanned}
 
 -- two words that have their highest one at the same place: their XOR is below it
 pub top-cancels : (k a b : ℕ) → 2 ^ k ≤ a → a < 2 ^ suc k → 2 ^ k ≤ b → b < 2 ^ suc k → bitXor a b < 2 ^ k
@@ -100,7 +100,7 @@ module _ {m word : ℕ} {basis : List ℕ} {rest place top : ℕ} (r : Reducing 
       pick (inr t) = top-cancels (place - 1) rest (at basis (place - 1)) (omega (arith, half)) high (t .0) (t .1)
 
   -- the place is free
-  pub reducing-placed : top / 2 ≤ rest → at basis (place - 1) ≡ 0 → Placed m word basis (set basis (place - 1) rest)
+  pub reducing-placed : top / 2 ≤ rest → at basis (place - 1) ≡ 0 → WordPlaced m word basis (set basis (place - 1) rest)
   reducing-placed l e = record {
     place = place - 1;
     rest = rest;

@@ -1,41 +1,27 @@
 -- The loop that goes through the table of inputs, those with the most ones first, and gathers those whose word is no XOR of words before. Assumes nothing.
-use mathlib.Core.Path.{_≡_, refl, sym, ap, _∙_, subst}
+use mathlib.Core.Path.{_≡_, sym, ap, _∙_, subst}
 use mathlib.Core.Logic.{_⊎_, inl, inr}
 use mathlib.Core.Bool.{true, not, false≢true}
 use mathlib.Core.List.{List}
-use Prim.Native.Nat.{ℕ, zero, suc, _+_, _^_, _<_, _≤_}
+use Prim.Native.Nat.{ℕ, suc, _+_, _^_, _<_, _≤_}
 use native.Mathlib.Decide.{ℕ-discrete, decLt}
 use native.Mathlib.Nat.{le-refl}
 use native.Mathlib.Omega.{arith}
 use lib.Count.{ones}
 use lib.Dec.{eqb}
-use lib.ListN.{length, take, length-take, replicate, set, length-set, List·getD-eq-default}
+use lib.ListN.{length, take, length-take, set, length-set, List·getD-eq-default}
 use lib.Pow.{pow-pos}
 use lib.Seq.{getD-take, getD-set-same, getD-set-other}
 use Rattle.boolean.specs.Bits.{dot}
 use Rattle.boolean.specs.Functions.{at, coefficient, normalForm}
 use Rattle.boolean.specs.Sums.{every}
-use Rattle.boolean.proofs.Dots.{dot-bit, dot-zero}
+use Rattle.boolean.proofs.Dots.{dot-bit, dot-zero, some-or-none}
 use Rattle.boolean.proofs.Every.{every-at}
 use Rattle.boolean.proofs.Lists.{length-listBelow, getD-listBelow}
 use Rattle.boolean.proofs.NormalForm.{coefficient-lt}
-use Rattle.algebraic.specs.Work.{ByOnes, Echelon, EvenOn, Placed, Spanned, Gathered}
+use Rattle.algebraic.specs.Work.{ByOnes, Echelon, EvenOn, WordPlaced, Spanned, BasisGathered}
 use Rattle.algebraic.proofs.Basis.{all-even}
 use Rattle.algebraic.proofs.FallingOnes.{ones-fall}
-
--- of some truth values one is 1, or all are 0
-some-or-none : (f : ℕ → ℕ) → ((j : ℕ) → f j < 2) → (count : ℕ) → ((j : ℕ) × (j < count) × (f j ≡ 1)) ⊎ ((j : ℕ) → j < count → f j ≡ 0)
-some-or-none f bits zero = inr (λ j l. absurd (omega arith))
-some-or-none f bits (suc count) = pick (some-or-none f bits count) (ℕ-discrete (f count) 1)
-  where
-    pick : ((j : ℕ) × (j < count) × (f j ≡ 1)) ⊎ ((j : ℕ) → j < count → f j ≡ 0) → Dec (f count ≡ 1) → ((j : ℕ) × (j < suc count) × (f j ≡ 1)) ⊎ ((j : ℕ) → j < suc count → f j ≡ 0)
-    pick (inl t) d = inl (t .0, omega (arith, t .1), t .2)
-    pick (inr none) (yes e) = inl (count, omega arith, e)
-    pick (inr none) (no e) = inr (λ j l. last j l (ℕ-discrete j count))
-      where
-        last : (j : ℕ) → j < suc count → Dec (j ≡ count) → f j ≡ 0
-        last j l (yes q) = ap f q ∙ (let b = bits count in omega arith)
-        last j l (no q) = none j (omega arith)
 
 -- one of the first count inputs is odd, and has as many ones as u or more
 abbrev pub Settled : (words inputs : List ℕ) (count c u : ℕ) → Type 0
@@ -65,12 +51,6 @@ words-lt n m rows words e low u = subst (λ (l : List ℕ). at l u < 2 ^ m) (sym
     pick (no l) =
         let past : 2 ^ n ≤ u = omega arith in
         subst (λ (v : ℕ). v < 2 ^ m) (sym (List·getD-eq-default (normalForm n (at rows)) 0 (omega (arith, length-listBelow (2 ^ n) (λ u. coefficient n (at rows) u))))) (pow-pos m)
-
--- the basis at the start
-pub zeroes : (n k : ℕ) → at (replicate n 0) k ≡ 0
-zeroes zero k = refl
-zeroes (suc n) zero = refl
-zeroes (suc n) (suc k) = zeroes n k
 
 -- the test that no place is free
 pub none-zero : (m : ℕ) (basis : List ℕ) → m ≤ length basis → every (λ y. not (eqb 0 y)) (take m basis) ≡ true → (k : ℕ) → k < m → at basis k ≡ 0 → ⊥
@@ -135,7 +115,7 @@ module _ {table words basis : List ℕ} {i count : ℕ} {inputs : List ℕ} (g :
           pick (inr even) = absurd (not-both (at words (at table k)) c o (ap (λ (k : ℕ). dot (at words (at table k)) c) q ∙ s .even c even))
 
   -- another is put after those gathered, and what is left of its word into the basis
-  module _ {m : ℕ} {new : List ℕ} (lt : i < 256) (m-high : m ≤ 32) (p : Placed m (at words (at table i)) basis new) where
+  module _ {m : ℕ} {new : List ℕ} (lt : i < 256) (m-high : m ≤ 32) (p : WordPlaced m (at words (at table i)) basis new) where
     abbrev next : List ℕ
     next = set inputs count (at table i)
 
@@ -215,7 +195,7 @@ module _ {table words basis : List ℕ} {i count : ℕ} {inputs : List ℕ} (g :
     }
 
   -- the whole table, or as much of it as makes every later word even where those gathered are
-  gathered : length words ≤ 256 → ((c u : ℕ) → EvenOn basis c → (k : ℕ) → i ≤ k → k < 256 → dot (at words u) c ≡ 0) → Gathered words inputs count
+  gathered : length words ≤ 256 → ((c u : ℕ) → EvenOn basis c → (k : ℕ) → i ≤ k → k < 256 → dot (at words u) c ≡ 0) → BasisGathered words inputs count
   gathered small later = record {
     few = omega (arith, g .few, g .within, g .long);
     inside = g .inside;
@@ -231,8 +211,8 @@ module _ {table words basis : List ℕ} {i count : ℕ} {inputs : List ℕ} (g :
           pick (inl t) = subst (λ (v : ℕ). Settled words inputs count c v) e t
           pick (inr even) = absurd (not-both (at words u) c o (later c u even k (omega arith) h))
 
-  pub gathering-all : length words ≤ 256 → 256 ≤ i → Gathered words inputs count
+  pub gathering-all : length words ≤ 256 → 256 ≤ i → BasisGathered words inputs count
   gathering-all small end = gathered small (λ c u even k h l. absurd (omega arith))
 
-  pub gathering-full : {m : ℕ} → length words ≤ 256 → ((u : ℕ) → at words u < 2 ^ m) → ((k : ℕ) → k < m → at basis k ≡ 0 → ⊥) → Gathered words inputs count
+  pub gathering-full : {m : ℕ} → length words ≤ 256 → ((u : ℕ) → at words u < 2 ^ m) → ((k : ℕ) → k < m → at basis k ≡ 0 → ⊥) → BasisGathered words inputs count
   gathering-full {m} small low full = gathered small (λ c u even k h l. all-even m basis c (g .stairs) full even (at words u) (low u))

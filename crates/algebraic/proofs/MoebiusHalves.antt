@@ -11,8 +11,8 @@ use Rattle.boolean.specs.Sums.{listBelow}
 use Rattle.boolean.specs.Functions.{at, coefficient, normalForm}
 use Rattle.boolean.proofs.Lists.{list-is}
 use Rattle.boolean.proofs.NormalForm.{coefficient-cong, coefficient-low, coefficient-high, coefficient-zero}
-use Rattle.walsh.proofs.Step as step
-use Rattle.algebraic.specs.Work.{Added}
+use Rattle.boolean.proofs.Halves as halves
+use Rattle.algebraic.specs.Work.{HalvesAdded}
 
 module _ (n : ℕ) (values : List ℕ) (given : length values ≡ 2 ^ n) (nz : n ≡ 0 → ⊥) where
   abbrev h : ℕ
@@ -25,10 +25,10 @@ module _ (n : ℕ) (values : List ℕ) (given : length values ≡ 2 ^ n) (nz : n
   size = given ∙ ap (λ (k : ℕ). 2 ^ k) is-suc
 
   half : h ≡ 2 ^ (n - 1)
-  half = step.half-is (n - 1) values size
+  half = halves.half-is (n - 1) values size
 
   room : length values ≡ h + h
-  room = step.two-halves (n - 1) values size
+  room = halves.two-halves (n - 1) values size
 
   abbrev lower : ℕ → ℕ
   lower u = coefficient (n - 1) (at (take h values)) u
@@ -37,7 +37,7 @@ module _ (n : ℕ) (values : List ℕ) (given : length values ≡ 2 ^ n) (nz : n
   upper u = coefficient (n - 1) (at (drop h values)) u
 
   pub lower-length : h ≡ length (take h values)
-  lower-length = sym (step.lower-length (n - 1) values size)
+  lower-length = sym (halves.lower-length (n - 1) values size)
 
   pub lower-size : length (take h values) ≡ 2 ^ (n - 1)
   lower-size = sym lower-length ∙ half
@@ -55,10 +55,10 @@ module _ (n : ℕ) (values : List ℕ) (given : length values ≡ 2 ^ n) (nz : n
     lent = take (length after-lower - h) (drop h after-lower)
 
     lent-is : lent ≡ drop h values
-    lent-is = step.upper-kept h values room lower l₁ as-lower
+    lent-is = halves.upper-kept h values room lower l₁ as-lower
 
     pub upper-size : length lent ≡ 2 ^ (n - 1)
-    upper-size = ap length lent-is ∙ step.upper-length (n - 1) values size ∙ half
+    upper-size = ap length lent-is ∙ halves.upper-length (n - 1) values size ∙ half
 
     -- and the upper
     module _ (l₂ : List ℕ) (e₂ : l₂ ≡ normalForm (n - 1) (at lent)) where
@@ -70,27 +70,27 @@ module _ (n : ℕ) (values : List ℕ) (given : length values ≡ 2 ^ n) (nz : n
       after-upper = putMid h (length after-lower - h) after-lower l₂
 
       pub two-halves : length after-upper ≡ h + h
-      two-halves = step.length-after-upper h values room lower l₁ as-lower upper l₂ as-upper
+      two-halves = halves.length-after-upper h values room lower l₁ as-lower upper l₂ as-upper
 
       pub same-long : length after-upper ≡ length values
       same-long = two-halves ∙ sym room
 
       lower-is : (u : ℕ) → coefficient (n - 1) (at values) u ≡ lower u
-      lower-is u = coefficient-cong (n - 1) _ _ u (λ x lt. step.lower-entry 0 h values x (omega (arith, half)))
+      lower-is u = coefficient-cong (n - 1) _ _ u (λ x lt. halves.lower-entry 0 h values x (omega (arith, half)))
 
       upper-is : (u : ℕ) → coefficient (n - 1) (λ x. at values (2 ^ (n - 1) + x)) u ≡ upper u
-      upper-is u = coefficient-cong (n - 1) _ _ u (λ x lt. step.upper-entry 0 h values x (2 ^ (n - 1)) half)
+      upper-is u = coefficient-cong (n - 1) _ _ u (λ x lt. halves.upper-entry 0 h values x (2 ^ (n - 1)) half)
 
-      pub right : (new : List ℕ) → length new ≡ length after-upper → Added h after-upper new → new ≡ normalForm n (at values)
+      pub right : (new : List ℕ) → length new ≡ length after-upper → HalvesAdded h after-upper new → new ≡ normalForm n (at values)
       unfolding normalForm
       right new kept added =
-          step.halves-are 0 h (λ u. coefficient (suc (n - 1)) (at values) u) new (kept ∙ two-halves)
+          halves.halves-are 0 h (λ u. coefficient (suc (n - 1)) (at values) u) new (kept ∙ two-halves)
           (λ k lt.
-          added .kept k lt ∙ step.at-lower h values room lower l₁ as-lower upper l₂ as-upper 0 k lt
+          added .kept k lt ∙ halves.at-lower h values room lower l₁ as-lower upper l₂ as-upper 0 k lt
           ∙ sym (coefficient-low (n - 1) (at values) k (omega (arith, half)) ∙ lower-is k))
           (λ k lt.
           added .sums k lt
-          ∙ ap₂ bitXor (step.at-lower h values room lower l₁ as-lower upper l₂ as-upper 0 k lt) (step.at-upper h values room lower l₁ as-lower upper l₂ as-upper 0 k lt)
+          ∙ ap₂ bitXor (halves.at-lower h values room lower l₁ as-lower upper l₂ as-upper 0 k lt) (halves.at-upper h values room lower l₁ as-lower upper l₂ as-upper 0 k lt)
           ∙ sym (ap (λ (j : ℕ). coefficient (suc (n - 1)) (at values) (j + k)) half ∙ coefficient-high (n - 1) (at values) k (omega (arith, half)) ∙ ap₂ bitXor (lower-is k) (upper-is k)))
           ∙ ap₂ (λ (j k : ℕ). listBelow j (λ u. coefficient k (at values) u)) (sym room ∙ given) (sym is-suc)
 

@@ -3,7 +3,7 @@
 use mathlib.Core.Path.{_≡_, sym, ap, _∙_, subst}
 use mathlib.Core.Logic.{_↔_, Iff·trans}
 use mathlib.Core.Bool.{true}
-use mathlib.Core.List.{List, [], _∷_, List·Memᴰ}
+use mathlib.Core.List.{List, [], _∷_}
 use Prim.Native.Nat.{ℕ, _^_, _<_, _≤_}
 use native.Mathlib.Decide.{decLt}
 use native.Mathlib.Nat.{zero-lt-suc}
@@ -12,8 +12,8 @@ use borrow.Author.Tests.{eqb-true}
 use lib.Dec.{eqb}
 use lib.ListN.{length, List·getD-eq-default}
 use Rattle.boolean.specs.Sums.{each, distinct}
-use Rattle.boolean.specs.Functions.{at, Within, component, components, MaskBefore, degree, distance, normalForm}
-use Rattle.boolean.specs.Selection.{Candidate, shown, lower, firstBest, firstLeast, SameMembers, ranked, First}
+use Rattle.boolean.specs.Functions.{at, MaskWithin, component, components, MaskBefore, degree, distance, normalForm}
+use Rattle.boolean.specs.Selection.{Candidate, shown, lower, firstBest, SameMembers, ranked}
 use Rattle.boolean.proofs.AffineForms.{constant-degree, degree-constant, degree-affine, affine-degree, distance-none, distance-same}
 use Rattle.boolean.proofs.Components.{rank-of-before, within-more}
 use Rattle.boolean.proofs.Degrees.{length-normal-form, at-normal-form, normal-form-twice, degree-le}
@@ -22,7 +22,7 @@ use Rattle.boolean.proofs.Distinct.{distinct-at, distinct-of}
 use Rattle.boolean.proofs.Every.{both}
 use Rattle.boolean.proofs.Lists.{each-same}
 use Rattle.boolean.proofs.NormalForm.{coefficient-boolean}
-use Rattle.boolean.proofs.Selection.{firstLeast-le, firstLeast-mem, firstLeast-first, firstLeast-any-order, first-ranked}
+use Rattle.boolean.proofs.Selection.{firstLeast-chooses, first-ranked}
 use Rattle.refusals.specs.Table.{tableChecks, tableCallChecks, boxChecks, limitChecks, first, figures, asFigure, Table}
 use Rattle.refusals.specs.declared.Checked.the-variants.{Accepted}
 use Rattle.refusals.proofs.Checks.{found-after, skip, end, passed, accepted-after, box, table, table-accepted, Limited, limited, reply-accepted}
@@ -78,16 +78,16 @@ module _ (n m : ℕ) (rows : List ℕ) (i : ℕ) where
   degreeOfMask c = degree n (component rows c)
 
   -- no combination has a lower degree
-  no-lower : (c : ℕ) → Within i (2 ^ m) c → boxDegree n m rows i .figure ≤ degree n (component rows c)
+  no-lower : (c : ℕ) → MaskWithin i (2 ^ m) c → boxDegree n m rows i .figure ≤ degree n (component rows c)
   unfolding boxDegree degrees
-  no-lower c w = firstLeast-le (degreesBy degreeOfMask m i) (withDegree n rows c) (in-degrees degreeOfMask m i c w)
+  no-lower c w = firstLeast-chooses .all (degreesBy degreeOfMask m i) (withDegree n rows c) (in-degrees degreeOfMask m i c w)
 
   -- "Combinations may be visited in any order without effect on any answer." Over any list with the members of `degrees`, in any order and some of
   -- them more than once, the least degree, and of those that have it the one of the lowest rank, is the degree with its witness.
   pub degree-any-order : (visited : List Candidate) → SameMembers visited (degrees n m rows i)
       → firstBest (ranked lower (degreeRank m)) visited ≡ boxDegree n m rows i
   unfolding boxDegree degrees
-  degree-any-order visited = firstLeast-any-order (degreeRank m) (degreesBy degreeOfMask m i) visited (ascending-degrees degreeOfMask m i)
+  degree-any-order visited = firstLeast-chooses .visited (degreeRank m) (degreesBy degreeOfMask m i) visited (ascending-degrees degreeOfMask m i)
 
   -- so where the components are visited in any order, each with its degree
   pub degree-any-component-order : (order : List ℕ) → SameMembers order (components m i)
@@ -105,20 +105,19 @@ module _ (n m : ℕ) (rows : List ℕ) (i : ℕ) where
     nonempty = degrees-nonempty degreeOfMask m i (accepted-box .box .m-low) (accepted-box .i-low)
 
     -- a combination has it
-    has-it : (c : ℕ) × Within i (2 ^ m) c × (boxDegree n m rows i ≡ withDegree n rows c)
+    has-it : (c : ℕ) × MaskWithin i (2 ^ m) c × (boxDegree n m rows i ≡ withDegree n rows c)
     unfolding boxDegree degrees
     has-it =
         let t = nonempty in
-        mem-degrees degreeOfMask m i (boxDegree n m rows i) (subst (λ (l : List Candidate). List·Memᴰ (firstLeast l) l) (sym (t .2)) (firstLeast-mem (t .0) (t .1)))
+        mem-degrees degreeOfMask m i (boxDegree n m rows i) (firstLeast-chooses .mem (t .2))
 
     -- and each combination before it has a higher one
-    higher : (c : ℕ) → boxDegree n m rows i ≡ withDegree n rows c → (c′ : ℕ) → Within i (2 ^ m) c′ → MaskBefore c′ c → boxDegree n m rows i .figure < degree n (component rows c′)
+    higher : (c : ℕ) → boxDegree n m rows i ≡ withDegree n rows c → (c′ : ℕ) → MaskWithin i (2 ^ m) c′ → MaskBefore c′ c → boxDegree n m rows i .figure < degree n (component rows c′)
     unfolding boxDegree degrees
     higher c e c′ w l =
         let t = nonempty in
         first-ranked (degreeRank m) (λ r p. r .figure < p .figure) (ascending-degrees degreeOfMask m i)
-        (subst (λ (l : List Candidate). First (λ r p. r .figure < p .figure) (firstLeast l) l) (sym (t .2)) (firstLeast-first (t .0) (t .1)))
-        (withDegree n rows c′) (in-degrees degreeOfMask m i c′ w) (omega (arith, ap (degreeRank m) e, rank-of-before m c′ c (w .high) l))
+        (firstLeast-chooses .early (t .2)) (withDegree n rows c′) (in-degrees degreeOfMask m i c′ w) (omega (arith, ap (degreeRank m) e, rank-of-before m c′ c (w .high) l))
 
     -- Document 02: "The box's degree becomes that least value, with the first combination that has it." Of the "combinations of at most i outputs".
     pub degree-reported : DegreeReported n m rows i

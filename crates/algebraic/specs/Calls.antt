@@ -6,7 +6,7 @@ use lib.ListN.{length}
 use Rattle.boolean.specs.Functions.{at, normalForm}
 use Rattle.boolean.specs.Selection.{shown}
 use Rattle.refusals.specs.Table.{first, boxChecks, limitChecks, tableCallChecks, Reply, figures}
-use Rattle.refusals.specs.Table.{refusal, number, replyAfter, asFigure, Wrote, written}
+use Rattle.refusals.specs.Table.{refusal, number, replyAfter, asFigure, Wrote, saidWritten}
 use Rattle.refusals.specs.declared.Written.{Written}
 use Rattle.algebraic.specs.Algebraic.{boxDegree, bijective}
 use Rattle.algebraic.specs.declared.DegreeFound.{DegreeFound}
@@ -15,12 +15,12 @@ use Rattle.algebraic.specs.declared.DegreeFound.the-variants.{Reached, D
 -- the outcome of a call of `algebraic::normal_form`
 abbrev pub FormCalled : (n : ℕ) (table lent : List ℕ) (answer : Written) (left : List ℕ) → Type 0
 FormCalled n table lent answer left =
-    Wrote (tableCallChecks n table (length lent)) [] (normalForm n (at table)) lent (written answer) left
+    Wrote (tableCallChecks n table (length lent)) [] (normalForm n (at table)) lent (saidWritten answer) left
 
 -- what the degree's answer says: the degree and c, or the number of the refusal
-abbrev pub degreeReply : DegreeFound → Reply
-degreeReply (Reached degree c) = figures (degree ∷ c ∷ [])
-degreeReply (Declined e) = refusal (number e)
+abbrev pub saidDegreeFound : DegreeFound → Reply
+saidDegreeFound (Reached degree c) = figures (degree ∷ c ∷ [])
+saidDegreeFound (Declined e) = refusal (number e)
 
 -- what the calls on a box reply: their figures, or the number of the refusal
 abbrev pub boxDegreeReply : (n m : ℕ) (rows : List ℕ) (i : ℕ) → Reply

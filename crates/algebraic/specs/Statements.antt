@@ -2,7 +2,7 @@
 use Prim.Native.Nat.{ℕ, _^_, _<_, _≤_}
 use mathlib.Core.Path.{_≡_}
 use mathlib.Core.List.{List, [], _∷_}
-use Rattle.boolean.specs.Functions.{at, component, degree, Within, MaskBefore, maskRank}
+use Rattle.boolean.specs.Functions.{at, component, degree, MaskWithin, MaskBefore, maskRank}
 use Rattle.boolean.specs.Selection.{Candidate}
 use Rattle.refusals.specs.Table.{figures}
 use Rattle.algebraic.specs.Calls.{boxDegreeReply}
@@ -13,10 +13,10 @@ pub record DegreeReported (n m : ℕ) (rows : List ℕ) (i : ℕ) : Type 0 where
   pub d : ℕ
   pub c : ℕ
   pub reply : boxDegreeReply n m rows i ≡ figures (d ∷ c ∷ [])
-  pub least : (c′ : ℕ) → Within i (2 ^ m) c′ → d ≤ degree n (component rows c′)
-  pub member : Within i (2 ^ m) c
+  pub least : (c′ : ℕ) → MaskWithin i (2 ^ m) c′ → d ≤ degree n (component rows c′)
+  pub member : MaskWithin i (2 ^ m) c
   pub reached : degree n (component rows c) ≡ d
-  pub before : (c′ : ℕ) → Within i (2 ^ m) c′ → MaskBefore c′ c → d < degree n (component rows c′)
+  pub before : (c′ : ℕ) → MaskWithin i (2 ^ m) c′ → MaskBefore c′ c → d < degree n (component rows c′)
 
 -- a component's number in the components' order
 abbrev pub degreeRank : (m : ℕ) (p : Candidate) → ℕ

@@ -16,7 +16,7 @@ use Rattle.algebraic.specs.declared.Weakest.{Weakest}
 use Rattle.algebraic.specs.declared.Met.{Met}
 
 -- the lower half of h numbers as it was, and XORed to the upper half
-pub record Added (h : ℕ) (old new : List ℕ) : Type 0 where
+pub record HalvesAdded (h : ℕ) (old new : List ℕ) : Type 0 where
   pub kept : (k : ℕ) → k < h → at new k ≡ at old k
   pub sums : (k : ℕ) → k < h → at new (h + k) ≡ bitXor (at old k) (at old (h + k))
 
@@ -28,32 +28,32 @@ abbrev pub degreeAt : (degree c : ℕ) → Candidate
 degreeAt degree c = record { figure = degree; witness = c ∷ [] }
 
 -- the weakest component so far, as a candidate
-abbrev pub candidate : Weakest → Candidate
-candidate w = degreeAt (w .degree) (w .c)
+abbrev pub degreeCandidate : Weakest → Candidate
+degreeCandidate w = degreeAt (w .degree) (w .c)
 
 -- the degree of the component at the mask c, by the words of the normal form
-unfoldable pub degreeOf : (words : List ℕ) (c : ℕ) → ℕ
+unfoldable pub degreeOfWords : (words : List ℕ) (c : ℕ) → ℕ
 unfolding largestBelow dot
-degreeOf words c = largestBelow (length words) (λ u. cond (eqb (dot (at words u) c) 1) (ones u) 0)
+degreeOfWords words c = largestBelow (length words) (λ u. cond (eqb (dot (at words u) c) 1) (ones u) 0)
 
 -- all components within the limit i with their degrees, by the words
 unfoldable pub degreesOf : (m : ℕ) (words : List ℕ) (i : ℕ) → List Candidate
-unfolding each components degreeOf
-degreesOf m words i = each (components m i) (λ c. degreeAt (degreeOf words c) c ∷ [])
+unfolding each components degreeOfWords
+degreesOf m words i = each (components m i) (λ c. degreeAt (degreeOfWords words c) c ∷ [])
 
--- The bar of this degree at the mask c: a later component may be preferred to it only if its degree is below the bar. With a single output
--- that is the degree itself, and with several one more.
-unfoldable pub barOf : (degree c : ℕ) → ℕ
-barOf degree c = cond (leb (ones c) 1) degree (degree + 1)
+-- The threshold of this degree at the mask c: a later component may be preferred to it only if its degree is below the threshold. With a
+-- single output that is the degree itself, and with several one more.
+unfoldable pub thresholdOf : (degree c : ℕ) → ℕ
+thresholdOf degree c = cond (leb (ones c) 1) degree (degree + 1)
 
--- the first mask from c on, within the limit i, whose degree is below the bar, with its degree; or 2^m with the degree 0, where there is
--- none
-pub record FirstBelow (m : ℕ) (words : List ℕ) (i bar c : ℕ) (r : Met) : Type 0 where
+-- the first mask from c on, within the limit i, whose degree is below the threshold, with its degree; or 2^m with the degree 0, where
+-- there is none
+pub record FirstBelow (m : ℕ) (words : List ℕ) (i threshold c : ℕ) (r : Met) : Type 0 where
   pub low : c ≤ r .c
   pub high : r .c ≤ 2 ^ m
   pub few : ones (r .c) ≤ i
-  pub none-before : (x : ℕ) → c ≤ x → x < r .c → ones x ≤ i → bar ≤ degreeOf words x
-  pub reached : r .c < 2 ^ m → (r .degree ≡ degreeOf words (r .c)) × (r .degree < bar)
+  pub none-before : (x : ℕ) → c ≤ x → x < r .c → ones x ≤ i → threshold ≤ degreeOfWords words x
+  pub reached : r .c < 2 ^ m → (r .degree ≡ degreeOfWords words (r .c)) × (r .degree < threshold)
   pub ended : r .c ≡ 2 ^ m → r .degree ≡ 0
 
 -- v comes after u: it has fewer ones, or as many and is the smaller
@@ -75,7 +75,7 @@ EvenOn basis c = (k : ℕ) → dot (at basis k) c ≡ 0
 
 -- what is left of a word, in a place of the basis that was free; what it has below its highest one is open, as long as it is odd or even
 -- where the word is, at each component that is even on the basis
-pub record Placed (m word : ℕ) (old new : List ℕ) : Type 0 where
+pub record WordPlaced (m word : ℕ) (old new : List ℕ) : Type 0 where
   pub place : ℕ
   pub rest : ℕ
   pub inside : place < m
@@ -92,13 +92,13 @@ pub record Spanned (word : ℕ) (old new : List ℕ) : Type 0 where
   pub even : (c : ℕ) → EvenOn old c → dot word c ≡ 0
 
 -- whether the word is put into the basis
-abbrev pub PutIn : (m word : ℕ) (old new : List ℕ) (put : Bool) → Type 0
-PutIn m word old new true = Placed m word old new
-PutIn m word old new false = Spanned word old new
+abbrev pub WordInserted : (m word : ℕ) (old new : List ℕ) (put : Bool) → Type 0
+WordInserted m word old new true = WordPlaced m word old new
+WordInserted m word old new false = Spanned word old new
 
 -- Inputs that settle every degree, those with the most ones first, as many as are counted: a component that is odd anywhere is odd at one
 -- of them that has as many ones or more. Which of several such choices they are, and what stands after them, is open.
-pub record Gathered (words inputs : List ℕ) (count : ℕ) : Type 0 where
+pub record BasisGathered (words inputs : List ℕ) (count : ℕ) : Type 0 where
   pub few : count ≤ length inputs
   pub inside : (i : ℕ) → i < count → at inputs i < length words
   pub settle : (c u : ℕ) → u < length words → dot (at words u) c ≡ 1
@@ -106,7 +106,7 @@ pub record Gathered (words inputs : List ℕ) (count : ℕ) : Type 0 where
   pub falling : (i j : ℕ) → i ≤ j → j < count → ones (at inputs j) ≤ ones (at inputs i)
 
 -- the words of an accepted box, and a limit
-pub record Swept (n m : ℕ) (words : List ℕ) (i : ℕ) : Type 0 where
+pub record DegreesSwept (n m : ℕ) (words : List ℕ) (i : ℕ) : Type 0 where
   pub n-high : n ≤ 8
   pub m-low : 1 ≤ m
   pub m-high : m ≤ 32

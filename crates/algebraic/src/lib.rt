@@ -6,29 +6,28 @@ use refusals::Refusal;
 use refusals::Verdict;
 use refusals::Written;
 ghost use mathlib.Core.Path.{_≡_};
-ghost use mathlib.Core.Bool.{not};
 ghost use mathlib.Core.List.{[], _∷_};
 ghost use Prim.Native.Nat.{ℕ, _+_, _^_, _≤_, _<_};
 ghost use lib.Count.{ones};
 ghost use lib.Dec.{eqb};
 ghost use lib.ListN.{length};
 ghost use Rattle.boolean.specs.Bits.{dot};
-ghost use Rattle.boolean.specs.Sums.{every, distinct, AnyContent};
+ghost use Rattle.boolean.specs.Sums.{AnyContent};
 ghost use Rattle.boolean.specs.Functions.{at, normalForm};
 ghost use Rattle.boolean.specs.Selection.{best, lower, firstLeast, ranked};
-ghost use Rattle.refusals.specs.Table.{verdict, Box, Table};
+ghost use Rattle.refusals.specs.Table.{saidVerdict, Box, Table};
 ghost use Rattle.masks.specs.Masks.{outputs};
 ghost use Rattle.masks.specs.Work.{Next};
 ghost use Rattle.algebraic.specs.Algebraic.{boxDegree};
-ghost use Rattle.algebraic.specs.Calls.{FormCalled, degreeReply, boxDegreeReply, bijectiveReply};
-ghost use Rattle.algebraic.specs.Work.{degreeAt, candidate, degreeOf, degreesOf, Added, Echelon};
-ghost use Rattle.algebraic.specs.Work.{PutIn, Gathered, Swept, barOf, FirstBelow};
+ghost use Rattle.algebraic.specs.Calls.{FormCalled, saidDegreeFound, boxDegreeReply, bijectiveReply};
+ghost use Rattle.algebraic.specs.Work.{degreeAt, degreeCandidate, degreeOfWords, degreesOf, HalvesAdded, Echelon};
+ghost use Rattle.algebraic.specs.Work.{WordInserted, BasisGathered, DegreesSwept, thresholdOf, FirstBelow};
 
-// The weakest component so far: its degree, its mask, and the bar that another degree must be below to matter.
+// The weakest component so far: its degree, its mask, and the threshold that another degree must be below to matter.
 pub struct Weakest {
     pub degree: u32,
     pub c: u32,
-    pub bar: u32,
+    pub threshold: u32,
 }
 
 // A mask that a sweep meets, with its component's degree.
@@ -43,13 +42,7 @@ pub enum DegreeFound {
     Declined(Refusal),
 }
 
-// A truth value as a word, and a word that is a truth value.
-fn word_of(bit: u8) -> u32
-    ensures { λ r. ⌜ r ≡ bit ⌝ }
-{
-    bit as u32
-}
-
+// A word that is a truth value.
 fn bit_of(word: u32) -> u8
     requires { ⌜ word < 2 ⌝ }
     ensures { λ r. ⌜ r ≡ word ⌝ }
@@ -64,7 +57,7 @@ fn write_words(table: &[u8], words: &mut [u32])
 {
     let mut x = 0;
     while x < table.len() {
-        words[x] = word_of(table[x]);
+        words[x] = boolean::wide(table[x]);
         x += 1;
     }
 }
@@ -84,7 +77,7 @@ fn write_bits(words: &[u32], out: &mut [u8])
 // The lower half is XORed to the upper half, and stays.
 fn add_lower_half(values: &mut [u32], h: usize)
     requires { ⌜ length (now values) ≡ h + h ⌝ }
-    ensures { λ _. ⌜ Added h (now (values .entry)) (now (values .exit)) ⌝ }
+    ensures { λ _. ⌜ HalvesAdded h (now (values .entry)) (now (values .exit)) ⌝ }
 {
     let mut k: usize = 0;
     while k < h {
@@ -132,13 +125,7 @@ pub fn normal_form(n: u32, table: &[u8], out: &mut [u8]) -> Written
     Written::Done
 }
 
-// An input as an index, and its ones.
-fn place_of(u: u8) -> usize
-    ensures { λ r. ⌜ r ≡ u ⌝ }
-{
-    u as usize
-}
-
+// The ones of an input.
 fn ones_of(u: u8) -> u32
     ensures { λ r. ⌜ r ≡ ones u ⌝ }
 {
@@ -155,9 +142,9 @@ fn is_odd(word: u32, c: u32) -> bool
 // Whether the word is no XOR of words of the basis; then what they leave of it is put into the basis, at the place of its highest one.
 // Where a word of the basis has its highest one, that word is XORed to it, from the highest place down. (The contract leaves open what the
 // rest has below its highest one.)
-fn put_in(m: u32, word: u32, basis: &mut [u32; 32]) -> bool
+fn insert_word(m: u32, word: u32, basis: &mut [u32; 32]) -> bool
     requires { ⌜ (m ≤ 32) × (word < 2 ^ m) × Echelon (now basis) ⌝ }
-    ensures { λ r. ⌜ PutIn m word (now (basis .entry)) (now (basis .exit)) r ⌝ }
+    ensures { λ r. ⌜ WordInserted m word (now (basis .entry)) (now (basis .exit)) r ⌝ }
 {
     let mut rest = word;
     let mut place = m as usize;
@@ -180,11 +167,11 @@ fn put_in(m: u32, word: u32, basis: &mut [u32; 32]) -> bool
 // Whether the normal form has a word at u that is no XOR of words of the basis; it is then put in. Past the inputs there is none.
 fn adds_word(m: u32, words: &[u32], u: u8, basis: &mut [u32; 32]) -> bool
     requires { ⌜ (m ≤ 32) × ((x : ℕ) → at (now words) x < 2 ^ m) × Echelon (now basis) ⌝ }
-    ensures { λ r. ⌜ PutIn m (at (now (words .entry)) u) (now (basis .entry)) (now (basis .exit)) r ⌝ }
+    ensures { λ r. ⌜ WordInserted m (at (now (words .entry)) u) (now (basis .entry)) (now (basis .exit)) r ⌝ }
 {
-    let place = place_of(u);
+    let place = boolean::wide(u) as usize;
     if place < words.len() {
-        put_in(m, words[place], basis)
+        insert_word(m, words[place], basis)
     } else {
         false
     }
@@ -196,7 +183,7 @@ fn adds_word(m: u32, words: &[u32], u: u8, basis: &mut [u32; 32]) -> bool
 fn gather(m: u32, words: &[u32], inputs: &mut [u8]) -> usize
     requires { ⌜ (m ≤ 32) × ((x : ℕ) → at (now words) x < 2 ^ m) × (length (now words) ≤ 256)
         × (length (now inputs) ≡ 256) ⌝ }
-    ensures { λ r. ⌜ Gathered (now (words .entry)) (now (inputs .exit)) r ⌝ }
+    ensures { λ r. ⌜ BasisGathered (now (words .entry)) (now (inputs .exit)) r ⌝ }
 {
     let table = order::by_ones();
     let width = m as usize;
@@ -207,7 +194,7 @@ fn gather(m: u32, words: &[u32], inputs: &mut [u8]) -> usize
         if adds_word(m, words, table[i], &mut basis) {
             inputs[count] = table[i];
             count += 1;
-            if none_equal(&basis[..width], 0) {
+            if boolean::lacks_row(&basis[..width], 0) {
                 return count;
             }
         }
@@ -218,13 +205,13 @@ fn gather(m: u32, words: &[u32], inputs: &mut [u8]) -> usize
 
 // The degree of the component at the mask c: the first input that is found odd has the most ones.
 fn component_degree(words: &[u32], inputs: &[u8], count: usize, c: u32) -> u32
-    requires { ⌜ Gathered (now words) (now inputs) count ⌝ }
-    ensures { λ r. ⌜ r ≡ degreeOf (now (words .entry)) c ⌝ }
+    requires { ⌜ BasisGathered (now words) (now inputs) count ⌝ }
+    ensures { λ r. ⌜ r ≡ degreeOfWords (now (words .entry)) c ⌝ }
 {
     let mut i: usize = 0;
     while i < count {
         let u = inputs[i];
-        if is_odd(words[place_of(u)], c) {
+        if is_odd(words[boolean::wide(u) as usize], c) {
             return ones_of(u);
         }
         i += 1;
@@ -245,9 +232,9 @@ fn next_within(m: u32, i: u32, c: u64) -> u64
     }
 }
 
-// The first mask from c on, within the limit, whose degree is below the bar, or 2^m with the degree 0. Nearly all masks are passed over
-// here, so that this loop has no other test than the bar. The walk ends at 2^m itself, so that != tells its end; < a power of two would be
-// compiled to a shift in each turn.
+// The first mask from c on, within the limit, whose degree is below the threshold, or 2^m with the degree 0. Nearly all masks are passed
+// over here, so that this loop has no other test than the threshold. The walk ends at 2^m itself, so that != tells its end; < a power of
+// two would be compiled to a shift in each turn.
 fn next_below(
     n: u32,
     m: u32,
@@ -255,18 +242,18 @@ fn next_below(
     i: u32,
     inputs: &[u8],
     count: usize,
-    bar: u32,
+    threshold: u32,
     c: u64,
 ) -> Met
-    requires { ⌜ Swept n m (now words) i × Gathered (now words) (now inputs) count × (1 ≤ c) × (c ≤ 2 ^ m)
+    requires { ⌜ DegreesSwept n m (now words) i × BasisGathered (now words) (now inputs) count × (1 ≤ c) × (c ≤ 2 ^ m)
         × (ones c ≤ i) ⌝ }
-    ensures { λ r. ⌜ FirstBelow m (now (words .entry)) i bar c r ⌝ }
+    ensures { λ r. ⌜ FirstBelow m (now (words .entry)) i threshold c r ⌝ }
 {
     let masks = boolean::power_of_two(m) as u64;
     let mut at: u64 = c;
     while at != masks {
         let degree = component_degree(words, inputs, count, at as u32);
-        if degree < bar {
+        if degree < threshold {
             return Met { c: at, degree };
         }
         at = next_within(m, i, at);
@@ -274,11 +261,11 @@ fn next_below(
     Met { c: at, degree: 0 }
 }
 
-// The bar for the components after one of this degree at the mask c: a mask of one output gives way only to a lower degree, a mask of
+// The threshold for the components after one of this degree at the mask c: a mask of one output gives way only to a lower degree, a mask of
 // several to the same degree too.
-fn bar_of(degree: u32, c: u32) -> u32
+fn threshold_of(degree: u32, c: u32) -> u32
     requires { ⌜ degree ≤ 8 ⌝ }
-    ensures { λ r. ⌜ r ≡ barOf degree c ⌝ }
+    ensures { λ r. ⌜ r ≡ thresholdOf degree c ⌝ }
 {
     if u32::count_ones(c) <= 1 {
         degree
@@ -289,13 +276,17 @@ fn bar_of(degree: u32, c: u32) -> u32
 
 // The weakest component so far, or the one at the mask c: by the degree, and among equal degrees by fewer outputs.
 fn weaker(found: Weakest, degree: u32, c: u32) -> Weakest
-    requires { ⌜ (degree ≤ 8) × (found .bar ≡ barOf (found .degree) (found .c)) ⌝ }
-    ensures { λ r. ⌜ (candidate r ≡ best (ranked lower outputs) (candidate found) (degreeAt degree c ∷ []))
-        × (r .bar ≡ barOf (r .degree) (r .c)) ⌝ }
+    requires { ⌜ (degree ≤ 8) × (found .threshold ≡ thresholdOf (found .degree) (found .c)) ⌝ }
+    ensures { λ r. ⌜ (degreeCandidate r ≡ best (ranked lower outputs) (degreeCandidate found) (degreeAt degree c ∷ []))
+        × (r .threshold ≡ thresholdOf (r .degree) (r .c)) ⌝ }
 {
     if masks::is_preferred(degree, found.degree, c, found.c) {
-        let bar = bar_of(degree, c);
-        Weakest { degree, c, bar }
+        let threshold = threshold_of(degree, c);
+        Weakest {
+            degree,
+            c,
+            threshold,
+        }
     } else {
         found
     }
@@ -303,20 +294,21 @@ fn weaker(found: Weakest, degree: u32, c: u32) -> Weakest
 
 // Every component within the limit in turn. It starts from a degree that no component has.
 fn sweep(n: u32, m: u32, words: &[u32], i: u32, inputs: &[u8], count: usize) -> Weakest
-    requires { ⌜ Swept n m (now words) i × Gathered (now words) (now inputs) count ⌝ }
-    ensures { λ r. ⌜ (candidate r ≡ firstLeast (degreesOf m (now (words .entry)) i)) × (r .bar ≡ barOf (r .degree) (r .c)) ⌝ }
+    requires { ⌜ DegreesSwept n m (now words) i × BasisGathered (now words) (now inputs) count ⌝ }
+    ensures { λ r. ⌜ (degreeCandidate r ≡ firstLeast (degreesOf m (now (words .entry)) i)) ×
+        (r .threshold ≡ thresholdOf (r .degree) (r .c)) ⌝ }
 {
     let masks = boolean::power_of_two(m) as u64;
     let mut found = Weakest {
         degree: n + 1,
         c: 0,
-        bar: n + 1,
+        threshold: n + 1,
     };
-    let mut met = next_below(n, m, words, i, inputs, count, found.bar, 1);
+    let mut met = next_below(n, m, words, i, inputs, count, found.threshold, 1);
     while met.c != masks {
         found = weaker(found, met.degree, met.c as u32);
         let next = next_within(m, i, met.c);
-        met = next_below(n, m, words, i, inputs, count, found.bar, next);
+        met = next_below(n, m, words, i, inputs, count, found.threshold, next);
     }
     found
 }
@@ -324,7 +316,7 @@ fn sweep(n: u32, m: u32, words: &[u32], i: u32, inputs: &[u8], count: usize) -> 
 // The weakest component of a box within the limit, with two arrays to work in.
 fn weakest_of(n: u32, m: u32, rows: &[u32], i: u32, words: &mut [u32], inputs: &mut [u8]) -> Weakest
     requires { ⌜ Box n m (now rows) × (1 ≤ i) × (length (now words) ≡ 2 ^ n) × (length (now inputs) ≡ 256) ⌝ }
-    ensures { λ r. ⌜ (candidate r ≡ boxDegree n m (now (rows .entry)) i) × (r .bar ≡ barOf (r .degree) (r .c))
+    ensures { λ r. ⌜ (degreeCandidate r ≡ boxDegree n m (now (rows .entry)) i) × (r .threshold ≡ thresholdOf (r .degree) (r .c))
         × (now (words .exit) ≡ normalForm n (at (now (rows .entry)))) × AnyContent (now (inputs .entry)) (now (inputs .exit)) ⌝ }
 {
     boolean::copy(rows, words);
@@ -335,7 +327,7 @@ fn weakest_of(n: u32, m: u32, rows: &[u32], i: u32, words: &mut [u32], inputs: &
 
 // The degree of a box over its combinations of at most i outputs: the least degree of one, with the first that has it.
 pub fn degree(n: u32, m: u32, rows: &[u32], i: u32) -> DegreeFound
-    ensures { λ r. ⌜ degreeReply r ≡ boxDegreeReply n m (now (rows .entry)) i ⌝ }
+    ensures { λ r. ⌜ saidDegreeFound r ≡ boxDegreeReply n m (now (rows .entry)) i ⌝ }
 {
     if let Checked::Refused(e) = refusals::check_limited(n, m, rows, i) {
         return DegreeFound::Declined(e);
@@ -350,38 +342,9 @@ pub fn degree(n: u32, m: u32, rows: &[u32], i: u32) -> DegreeFound
     }
 }
 
-// Whether no row equals this one.
-fn none_equal(rows: &[u32], row: u32) -> bool
-    ensures { λ r. ⌜ r ≡ every (λ y. not (eqb row y)) (now (rows .entry)) ⌝ }
-{
-    let mut y = 0;
-    while y < rows.len() {
-        if row == rows[y] {
-            return false;
-        }
-        y += 1;
-    }
-    true
-}
-
-// Whether no two rows are equal: no later row equals row x, for each x.
-fn all_distinct(rows: &[u32]) -> bool
-    ensures { λ r. ⌜ r ≡ distinct (now (rows .entry)) ⌝ }
-{
-    let mut x = 0;
-    while x < rows.len() {
-        let later = x + 1;
-        if !none_equal(&rows[later..], rows[x]) {
-            return false;
-        }
-        x += 1;
-    }
-    true
-}
-
 // Whether n = m and no two rows are equal.
 pub fn is_bijective(n: u32, m: u32, rows: &[u32]) -> Verdict
-    ensures { λ r. ⌜ verdict r ≡ bijectiveReply n m (now (rows .entry)) ⌝ }
+    ensures { λ r. ⌜ saidVerdict r ≡ bijectiveReply n m (now (rows .entry)) ⌝ }
 {
     if let Checked::Refused(e) = refusals::check_box(n, m, rows) {
         return Verdict::Undecided(e);
@@ -389,7 +352,7 @@ pub fn is_bijective(n: u32, m: u32, rows: &[u32]) -> Verdict
     if n != m {
         return Verdict::No;
     }
-    if all_distinct(rows) {
+    if boolean::rows_distinct(rows) {
         Verdict::Yes
     } else {
         Verdict::No

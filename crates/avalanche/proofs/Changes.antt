@@ -6,7 +6,7 @@ use native.Mathlib.Nat.{suc-mul}
 use native.Mathlib.Omega.{arith}
 use lib.Pow.{pow-pos}
 use Rattle.boolean.specs.Sums.{each}
-use Rattle.boolean.specs.Functions.{Within, components, maskRank}
+use Rattle.boolean.specs.Functions.{MaskWithin, components, maskRank}
 use Rattle.boolean.specs.Selection.{Candidate, Ascending, SameMembers}
 use Rattle.boolean.proofs.Lists.{some-member, mem-each, in-each, each-same, ascending-each, ascending-blocks}
 use Rattle.boolean.proofs.Kept.{each-cong-on}
@@ -16,11 +16,11 @@ use Rattle.avalanche.specs.Statements.{changeRank}
 
 -- ---- the changes of at most j inputs, in ascending order
 module _ (n j : ℕ) where
-  mem-shifts : (s : ℕ) → List·Memᴰ s (atMost j (shifts n)) → Within j (2 ^ n) s
+  mem-shifts : (s : ℕ) → List·Memᴰ s (atMost j (shifts n)) → MaskWithin j (2 ^ n) s
   unfolding atMost shifts
   mem-shifts = mem-masksBelow j (2 ^ n) (pow-pos n)
 
-  in-shifts : (s : ℕ) → Within j (2 ^ n) s → List·Memᴰ s (atMost j (shifts n))
+  in-shifts : (s : ℕ) → MaskWithin j (2 ^ n) s → List·Memᴰ s (atMost j (shifts n))
   unfolding atMost shifts
   in-shifts = in-masksBelow j (2 ^ n) (pow-pos n)
 
@@ -35,11 +35,11 @@ module _ (n j : ℕ) where
 
 -- ---- the changes of one component
 module _ (n j : ℕ) (figure : ℕ → ℕ → ℕ) (c : ℕ) where
-  pub in-changesOf : (s : ℕ) → Within j (2 ^ n) s → List·Memᴰ (change figure c s) (changesOf n j figure c)
+  pub in-changesOf : (s : ℕ) → MaskWithin j (2 ^ n) s → List·Memᴰ (change figure c s) (changesOf n j figure c)
   unfolding changesOf
   in-changesOf s h = in-each (atMost j (shifts n)) (λ s. change figure c s ∷ []) s (change figure c s) (in-shifts n j s h) (List·Memᴰ·head refl)
 
-  pub mem-changesOf : (p : Candidate) → List·Memᴰ p (changesOf n j figure c) → (s : ℕ) × Within j (2 ^ n) s × (p ≡ change figure c s)
+  pub mem-changesOf : (p : Candidate) → List·Memᴰ p (changesOf n j figure c) → (s : ℕ) × MaskWithin j (2 ^ n) s × (p ≡ change figure c s)
   unfolding changesOf
   mem-changesOf p h =
       let t = mem-each (atMost j (shifts n)) (λ s. change figure c s ∷ []) p h in
@@ -69,11 +69,11 @@ module _ (n m i j : ℕ) (figure : ℕ → ℕ → ℕ) where
   unfolding measured changesOf
   measured-is = refl
 
-  pub in-measured : (c s : ℕ) → Within i (2 ^ m) c → Within j (2 ^ n) s → List·Memᴰ (change figure c s) (measured n m i j figure)
+  pub in-measured : (c s : ℕ) → MaskWithin i (2 ^ m) c → MaskWithin j (2 ^ n) s → List·Memᴰ (change figure c s) (measured n m i j figure)
   unfolding measured changesOf
   in-measured c s hc hs = in-each (components m i) (changesOf n j figure) c (change figure c s) (in-components m i c hc) (in-changesOf n j figure c s hs)
 
-  pub mem-measured : (p : Candidate) → List·Memᴰ p (measured n m i j figure) → (c s : ℕ) × Within i (2 ^ m) c × Within j (2 ^ n) s × (p ≡ change figure c s)
+  pub mem-measured : (p : Candidate) → List·Memᴰ p (measured n m i j figure) → (c s : ℕ) × MaskWithin i (2 ^ m) c × MaskWithin j (2 ^ n) s × (p ≡ change figure c s)
   unfolding measured changesOf
   mem-measured p h =
       let t = mem-each (components m i) (changesOf n j figure) p h in
@@ -86,7 +86,7 @@ module _ (n m i j : ℕ) (figure : ℕ → ℕ → ℕ) where
       ascending-blocks 0 (2 ^ n) (maskRank m) (changeRank n m) (components m i) (changesOf n j figure) (ascending-components m i)
       (λ c k. ascending-changesOf n j figure c m) (λ c k p h. inside c p (mem-changesOf n j figure c p h))
     where
-      inside : (c : ℕ) (p : Candidate) → (s : ℕ) × Within j (2 ^ n) s × (p ≡ change figure c s)
+      inside : (c : ℕ) (p : Candidate) → (s : ℕ) × MaskWithin j (2 ^ n) s × (p ≡ change figure c s)
           → (0 + maskRank m c * 2 ^ n ≤ changeRank n m p) × (changeRank n m p < 0 + suc (maskRank m c) * 2 ^ n)
       inside c p t = omega (arith, ap (changeRank n m) (t .2), t .1 .high, suc-mul (maskRank m c) (2 ^ n))
 
@@ -106,7 +106,7 @@ module _ (n m i j : ℕ) (figure : ℕ → ℕ → ℕ) where
   measured-same order same = each-same order (components m i) (changesOf n j figure) same
 
   -- figures that are equal within the limits make equal lists
-  pub measured-cong : (other : ℕ → ℕ → ℕ) → ((c s : ℕ) → Within i (2 ^ m) c → Within j (2 ^ n) s → figure c s ≡ other c s) → measured n m i j figure ≡ measured n m i j other
+  pub measured-cong : (other : ℕ → ℕ → ℕ) → ((c s : ℕ) → MaskWithin i (2 ^ m) c → MaskWithin j (2 ^ n) s → figure c s ≡ other c s) → measured n m i j figure ≡ measured n m i j other
   unfolding measured
   measured-cong other h =
       each-cong-on (components m i) _ _ (λ c k. each-cong-on (atMost j (shifts n)) _ _

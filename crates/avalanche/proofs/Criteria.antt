@@ -13,7 +13,7 @@ use lib.Dec.{eqb}
 use lib.IntN.{ℤ, pos, _+ℤ_, _-ℤ_, natAbs, +ℤ-idl, +ℤ-invr, -ℤ-+ℤ-cancel}
 use lib.Pow.{pow-pos, pow-lt}
 use Rattle.boolean.specs.Sums.{listFrom, every}
-use Rattle.boolean.specs.Functions.{Within, changes, component, column}
+use Rattle.boolean.specs.Functions.{MaskWithin, changes, component, column}
 use Rattle.boolean.proofs.Columns.{component-column}
 use Rattle.boolean.proofs.Components.{within-more}
 use Rattle.boolean.proofs.Correlation.{changes-cong}
@@ -46,16 +46,16 @@ back : (p : ℕ) → p ≡ suc p - 1
 back p = omega arith
 
 -- the masks with a single 1 are the powers of two
-single : (k p : ℕ) → 1 ≤ p → p ≤ k → Within 1 (2 ^ k) (2 ^ (p - 1))
+single : (k p : ℕ) → 1 ≤ p → p ≤ k → MaskWithin 1 (2 ^ k) (2 ^ (p - 1))
 single k p l h = record { low = pow-pos (p - 1); high = pow-lt (omega arith); few = le-of-eq (ones-power (p - 1)) }
 
-power : {k v : ℕ} → Within 1 (2 ^ k) v → (p : ℕ) × (1 ≤ p) × (p ≤ k) × (v ≡ 2 ^ (p - 1))
+power : {k v : ℕ} → MaskWithin 1 (2 ^ k) v → (p : ℕ) × (1 ≤ p) × (p ≤ k) × (v ≡ 2 ^ (p - 1))
 power {k} {v} w =
     let t = power-of-ones k v (w .low) (w .high) (w .few) in
     (suc (t .0), omega arith, omega (arith, t .1), t .2 ∙ ap (λ (q : ℕ). 2 ^ q) (back (t .0)))
 
 -- the masks with two ones are the XORs of two powers of two
-double : (m i j : ℕ) → 1 ≤ i → i < j → j ≤ m → Within 2 (2 ^ m) (bitXor (2 ^ (i - 1)) (2 ^ (j - 1)))
+double : (m i j : ℕ) → 1 ≤ i → i < j → j ≤ m → MaskWithin 2 (2 ^ m) (bitXor (2 ^ (i - 1)) (2 ^ (j - 1)))
 double m i j li l hj =
     let p : i - 1 < j - 1 = omega arith in
     record {
@@ -64,7 +64,7 @@ double m i j li l hj =
       few = le-of-eq (ones-powers (i - 1) (j - 1) p);
     }
 
-one-or-two : {m c : ℕ} → Within 2 (2 ^ m) c
+one-or-two : {m c : ℕ} → MaskWithin 2 (2 ^ m) c
     → ((j : ℕ) × (1 ≤ j) × (j ≤ m) × (c ≡ 2 ^ (j - 1))) ⊎ ((i j : ℕ) × (1 ≤ i) × (i < j) × (j ≤ m) × (c ≡ bitXor (2 ^ (i - 1)) (2 ^ (j - 1))))
 one-or-two {m} {c} w =
     ⊎-elim (λ t. inl (suc (t .0), omega arith, omega (arith, t .1), t .2 ∙ ap (λ (q : ℕ). 2 ^ q) (back (t .0))))
@@ -81,7 +81,7 @@ one-or-two {m} {c} w =
 module _ (n m : ℕ) (rows : List ℕ) (b : Box n m rows) where
   -- order (i, 1) gives 0 exactly when each combination of at most i outputs changes at half of the inputs under each single input bit
   single-bits : (i : ℕ) → 1 ≤ i → dynamicDistance n m rows i 1 .figure ≡ 0
-      ↔ ((c k : ℕ) → Within i (2 ^ m) c → 1 ≤ k → k ≤ n → ChangesAtHalf n (component rows c) k)
+      ↔ ((c k : ℕ) → MaskWithin i (2 ^ m) c → 1 ≤ k → k ≤ n → ChangesAtHalf n (component rows c) k)
   unfolding dynamicDistance
   single-bits i i-low =
       let t = largest-none n m i 1 (distanceOf n rows) (b .n-low) (b .m-low) i-low (le-refl 1) in (

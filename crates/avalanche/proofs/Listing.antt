@@ -1,8 +1,8 @@
 -- The list of the changes within a limit, made one change after the other, and the scans of it. Assumes nothing.
 use mathlib.Core.Path.{_≡_, refl, sym, ap, _∙_, subst}
 use mathlib.Core.List.{List, [], _∷_, _++_}
+use mathlib.Core.Logic.{_⊎_, inl, inr}
 use Prim.Native.Nat.{ℕ, _+_, _<_, _≤_}
-use native.Mathlib.Nat.{le-of-eq}
 use native.Mathlib.Numerals.{add-one}
 use native.Mathlib.Omega.{arith}
 use native.Mathlib.Decide.{ℕ-discrete, decLt}
@@ -10,8 +10,10 @@ use lib.Count.{ones}
 use lib.IntN.{ℤ, natAbs}
 use lib.ListN.{length, set, take, length-append, List·getD-append}
 use lib.Seq.{take-suc-set, getD-append-seam}
-use Rattle.boolean.specs.Functions.{at, valueAt, Within}
-use Rattle.avalanche.specs.Work.{LargestWithin, FirstWithin, Listed, Inside, LargestListed, FirstListed}
+use Rattle.boolean.specs.Functions.{at, valueAt, MaskWithin}
+use Rattle.boolean.specs.Sums.{largestBelow}
+use Rattle.boolean.proofs.Largest.{le-largest, largest-reached}
+use Rattle.avalanche.specs.Work.{LargestWithin, FirstWithin, Listed, ChangesInside, LargestListed, FirstListed}
 
 -- ---- the list, made one change after the other
 pub listed-none : (j : ℕ) (list : List ℕ) → Listed j 1 (take 0 list)
@@ -22,10 +24,10 @@ listed-none j list = record {
 }
 
 module _ {j s : ℕ} {list : List ℕ} (d : Listed j s list) where
-  wider : {t : ℕ} → Within j s t → Within j (s + 1) t
+  wider : {t : ℕ} → MaskWithin j s t → MaskWithin j (s + 1) t
   wider w = record { low = w .low; high = omega (arith, w .high); few = w .few }
 
-  narrower : {t : ℕ} → Within j (s + 1) t → (t ≡ s → ⊥) → Within j s t
+  narrower : {t : ℕ} → MaskWithin j (s + 1) t → (t ≡ s → ⊥) → MaskWithin j s t
   narrower w h = record { low = w .low; high = omega (arith, w .high); few = w .few }
 
   -- a change of more ones is passed over
@@ -54,11 +56,11 @@ module _ {j s : ℕ} {list : List ℕ} (d : Listed j s list) where
       rises = λ h k l m. up h k l (omega (arith, size)) (decLt k (length list));
     }
       where
-        at-most : (k : ℕ) → k < length list + 1 → Dec (k < length list) → Within j (s + 1) (at (list ++ s ∷ []) k)
-        at-most k l (yes m) = subst (Within j (s + 1)) (sym (before k m)) (wider (d .within k m))
-        at-most k l (no m) = subst (Within j (s + 1)) (sym (new k (omega arith))) (record { low = low; high = omega arith; few = few })
+        at-most : (k : ℕ) → k < length list + 1 → Dec (k < length list) → MaskWithin j (s + 1) (at (list ++ s ∷ []) k)
+        at-most k l (yes m) = subst (MaskWithin j (s + 1)) (sym (before k m)) (wider (d .within k m))
+        at-most k l (no m) = subst (MaskWithin j (s + 1)) (sym (new k (omega arith))) (record { low = low; high = omega arith; few = few })
 
-        found : (t : ℕ) → Within j (s + 1) t → Dec (t ≡ s) → (k : ℕ) × (k < length (list ++ s ∷ [])) × (at (list ++ s ∷ []) k ≡ t)
+        found : (t : ℕ) → MaskWithin j (s + 1) t → Dec (t ≡ s) → (k : ℕ) × (k < length (list ++ s ∷ [])) × (at (list ++ s ∷ []) k ≡ t)
         found t w (yes e) = (length list, omega (arith, size), new (length list) refl ∙ sym e)
         found t w (no e) =
             let p = d .all t (narrower w e) in
@@ -74,32 +76,21 @@ pub listed-takes : (j s count : ℕ) (array : List ℕ) → Listed j s (take cou
 listed-takes j s count array d low few l =
     subst (Listed j (s + 1)) (sym (ap (λ (k : ℕ). take k (set array count s)) (add-one count) ∙ take-suc-set array count s l)) (listed-more d low few)
 
--- ---- the largest before place k
-pub record Through (values : List ℤ) (list : List ℕ) (k largest : ℕ) : Type 0 where
-  pub bounds : (h : ℕ) → h < k → natAbs (valueAt values (at list h)) ≤ largest
-  pub reached : 0 < largest → (h : ℕ) × (h < length list) × (natAbs (valueAt values (at list h)) ≡ largest)
+-- ---- the largest at the places of the list
+pub largest-listed : (values : List ℤ) (list : List ℕ) {largest : ℕ} → largest ≡ largestBelow (length list) (λ k. natAbs (valueAt values (at list k)))
+    → LargestListed values list largest
+largest-listed values list {largest} e = record {
+  bounds = λ k l. omega (arith, e, le-largest (length list) sizes k l);
+  reached = λ p. go p (largest-reached (length list) sizes);
+}
+  where
+    sizes : ℕ → ℕ
+    sizes k = natAbs (valueAt values (at list k))
 
-pub through-none : (values : List ℤ) (list : List ℕ) → Through values list 0 0
-through-none values list = record { bounds = λ h l. absurd (omega arith); reached = λ p. absurd (omega arith) }
-
-module _ {values : List ℤ} {list : List ℕ} {k largest : ℕ} (d : Through values list k largest) where
-  module _ {size : ℕ} (e : size ≡ natAbs (valueAt values (at list k))) where
-    pub through-keeps : size ≤ largest → Through values list (k + 1) largest
-    through-keeps p = record { bounds = λ h l. more h l (ℕ-discrete h k); reached = d .reached }
-      where
-        more : (h : ℕ) → h < k + 1 → Dec (h ≡ k) → natAbs (valueAt values (at list h)) ≤ largest
-        more h l (yes q) = omega (arith, ap (λ (z : ℕ). natAbs (valueAt values (at list z))) q)
-        more h l (no q) = d .bounds h (omega arith)
-
-    pub through-takes : k < length list → largest < size → Through values list (k + 1) size
-    through-takes inside p = record { bounds = λ h l. more h l (ℕ-discrete h k); reached = λ z. (k, inside, sym e) }
-      where
-        more : (h : ℕ) → h < k + 1 → Dec (h ≡ k) → natAbs (valueAt values (at list h)) ≤ size
-        more h l (yes q) = le-of-eq (ap (λ (z : ℕ). natAbs (valueAt values (at list z))) q ∙ sym e)
-        more h l (no q) = omega (arith, d .bounds h (omega arith))
-
-  pub through-all : length list ≤ k → LargestListed values list largest
-  through-all p = record { bounds = λ h l. d .bounds h (omega arith); reached = d .reached }
+    go : 0 < largest → (largestBelow (length list) sizes ≡ 0) ⊎ ((k : ℕ) × (k < length list) × (sizes k ≡ largestBelow (length list) sizes))
+        → (k : ℕ) × (k < length list) × (sizes k ≡ largest)
+    go p (inl z) = absurd (omega (arith, e, z))
+    go p (inr t) = (t .0, t .1, t .2 ∙ sym e)
 
 -- ---- none before place k has the size, and one from there on does
 pub record Passing (values : List ℤ) (list : List ℕ) (size k : ℕ) : Type 0 where
@@ -150,7 +141,7 @@ module _ {values : List ℤ} {list : List ℕ} {size k : ℕ} (d : Passing value
 
 -- ---- what is looked at is what is within the limit
 module _ (values : List ℤ) {j : ℕ} {list : List ℕ} (d : Listed j (length values) list) where
-  pub listed-inside : Inside values list
+  pub listed-inside : ChangesInside values list
   listed-inside k l = d .within k l .high
 
   pub largest-listed-within : {largest : ℕ} → LargestListed values list largest → LargestWithin values j largest
@@ -168,7 +159,7 @@ module _ (values : List ℤ) {j : ℕ} {list : List ℕ} (d : Listed j (length v
 
   pub first-listed-within : {size s : ℕ} → FirstListed values list size s → FirstWithin values j size s
   first-listed-within {size} {s} h = record {
-    within = subst (Within j (length values)) (h .is) (d .within (h .place) (h .inside));
+    within = subst (MaskWithin j (length values)) (h .is) (d .within (h .place) (h .inside));
     has = h .has;
     first = λ t l w q. earlier t l q (d .all t w);
   }

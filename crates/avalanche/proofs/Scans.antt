@@ -1,112 +1,68 @@
--- The scan that takes the largest magnitude at the changes from 1, and the one that finds its first place. Assumes nothing.
+-- The changes from 1 on: their largest magnitude, its first place, and limits that leave out none. Assumes nothing.
 use mathlib.Core.Path.{_≡_, sym, ap, _∙_}
+use mathlib.Core.Logic.{_⊎_, inl, inr}
 use mathlib.Core.List.{List}
-use Prim.Native.Nat.{ℕ, _+_, _^_, _<_, _≤_}
-use native.Mathlib.Nat.{le-refl, le-trans, le-of-eq}
+use Prim.Native.Nat.{ℕ, _+_, _-_, _^_, _<_, _≤_}
+use native.Mathlib.Nat.{le-trans}
 use native.Mathlib.Omega.{arith}
-use native.Mathlib.Decide.{ℕ-discrete}
 use lib.Count.{ones-le}
-use lib.IntN.{ℤ, natAbs}
-use lib.ListN.{length}
-use Rattle.boolean.specs.Functions.{valueAt, Within}
+use lib.IntN.{ℤ, pos, natAbs}
+use lib.ListN.{length, take, drop, length-drop}
+use lib.Seq.{getD-drop}
+use Rattle.boolean.specs.Functions.{valueAt, MaskWithin}
+use Rattle.boolean.proofs.Largest.{largest-reached}
+use Rattle.boolean.proofs.Lists.{upper-part}
+use Rattle.walsh.specs.Work.{largestMagnitude, FirstOfMagnitude}
+use Rattle.walsh.proofs.Magnitudes.{largest-bounds, place-inside, place-has}
 use Rattle.avalanche.specs.Work.{LargestWithin, FirstWithin}
 
--- ---- the largest before s
-pub record Scanned (values : List ℤ) (s largest : ℕ) : Type 0 where
-  pub low : 1 ≤ s
-  pub bounds : (t : ℕ) → 1 ≤ t → t < s → natAbs (valueAt values t) ≤ largest
-  pub reached : 0 < largest → (t : ℕ) × (1 ≤ t) × (t < length values) × (natAbs (valueAt values t) ≡ largest)
+-- ---- the values from place 1 on, as they are handed over; none of at most 256 places has more than 8 ones
+module _ (values : List ℤ) (few : length values ≤ 256) where
+  abbrev rest : List ℤ
+  rest = take (length values - 1) (drop 1 values)
 
-pub scanned-none : (values : List ℤ) → Scanned values 1 0
-scanned-none values = record { low = le-refl 1; bounds = λ t a l. absurd (omega arith); reached = λ h. absurd (omega arith) }
+  rest-length : length rest ≡ length values - 1
+  rest-length = ap length (upper-part 1 values) ∙ length-drop 1 values
 
-module _ {values : List ℤ} {s largest : ℕ} (d : Scanned values s largest) where
-  module _ {size : ℕ} (e : size ≡ natAbs (valueAt values s)) where
-    -- one change more, that is no larger, or that is
-    pub scanned-keeps : size ≤ largest → Scanned values (s + 1) largest
-    scanned-keeps h = record { low = omega (arith, d .low); bounds = λ t a l. more t a l (ℕ-discrete t s); reached = d .reached }
-      where
-        more : (t : ℕ) → 1 ≤ t → t < s + 1 → Dec (t ≡ s) → natAbs (valueAt values t) ≤ largest
-        more t a l (yes q) = omega (arith, ap (λ (z : ℕ). natAbs (valueAt values z)) q)
-        more t a l (no q) = d .bounds t a (omega arith)
+  rest-at : (k : ℕ) → natAbs (valueAt rest k) ≡ natAbs (valueAt values (1 + k))
+  rest-at k = ap (λ (l : List ℤ). natAbs (valueAt l k)) (upper-part 1 values) ∙ ap natAbs (getD-drop 1 values k (pos 0))
 
-    pub scanned-takes : s < length values → largest < size → Scanned values (s + 1) size
-    scanned-takes inside h = record {
-      low = omega (arith, d .low);
-      bounds = λ t a l. more t a l (ℕ-discrete t s);
-      reached = λ p. (s, d .low, inside, sym e);
-    }
-      where
-        more : (t : ℕ) → 1 ≤ t → t < s + 1 → Dec (t ≡ s) → natAbs (valueAt values t) ≤ size
-        more t a l (yes q) = le-of-eq (ap (λ (z : ℕ). natAbs (valueAt values z)) q ∙ sym e)
-        more t a l (no q) = omega (arith, d .bounds t a (omega arith))
+  within-all : (s : ℕ) → 1 ≤ s → s < length values → MaskWithin 8 (length values) s
+  within-all s low high = record { low = low; high = high; few = ones-le 8 s (omega arith) }
 
-  -- all of them; none of at most 256 has more than 8 ones
-  pub scanned-all : length values ≤ 256 → length values ≤ s → LargestWithin values 8 largest
-  scanned-all few h = record {
-    bounds = λ t w. d .bounds t (w .low) (omega (arith, w .high));
-    reached = λ p. let t = d .reached p in (t .0, record { low = t .1; high = t .2; few = ones-le 8 (t .0) (omega (arith, t .2)) }, t .3);
+  -- a change is 1 and a place of those
+  from-one : (s : ℕ) → 1 ≤ s → natAbs (valueAt rest (s - 1)) ≡ natAbs (valueAt values s)
+  from-one s low = let whole : 1 + (s - 1) ≡ s = omega arith in rest-at (s - 1) ∙ ap (λ (k : ℕ). natAbs (valueAt values k)) whole
+
+  pub largest-from : {largest : ℕ} → largest ≡ largestMagnitude rest → LargestWithin values 8 largest
+  largest-from {largest} e = record {
+    bounds = λ s w. omega (arith, from-one s (w .low), largest-bounds rest e (s - 1));
+    reached = λ p. go p (largest-reached (length rest) (λ k. natAbs (valueAt rest k)));
   }
+    where
+      go : 0 < largest → (largestMagnitude rest ≡ 0) ⊎ ((k : ℕ) × (k < length rest) × (natAbs (valueAt rest k) ≡ largestMagnitude rest))
+          → (s : ℕ) × MaskWithin 8 (length values) s × (natAbs (valueAt values s) ≡ largest)
+      go p (inl z) = absurd (omega (arith, e, z))
+      go p (inr t) = (1 + t .0, within-all (1 + t .0) (omega arith) (omega (arith, t .1, rest-length)), sym (rest-at (t .0)) ∙ t .2 ∙ sym e)
 
--- ---- none before s has the size, and one from s on does
-pub record Seeking (values : List ℤ) (size s : ℕ) : Type 0 where
-  pub low : 1 ≤ s
-  pub none : (t : ℕ) → 1 ≤ t → t < s → natAbs (valueAt values t) ≡ size → ⊥
-  pub place : ℕ
-  pub beyond : s ≤ place
-  pub inside : place < length values
-  pub reached : natAbs (valueAt values place) ≡ size
+  -- the first of them that has a magnitude, where one has it
+  module _ {size place : ℕ} (t : (s : ℕ) × MaskWithin 8 (length values) s × (natAbs (valueAt values s) ≡ size)) (f : FirstOfMagnitude rest size place) where
+    there : t .0 - 1 < length rest
+    there = omega (arith, rest-length, t .1 .low, t .1 .high)
 
-pub seeking-all : (values : List ℤ) (largest : ℕ) → LargestWithin values 8 largest → 0 < largest → Seeking values largest 1
-seeking-all values largest h p =
-    let t = h .reached p in
-    record {
-      low = le-refl 1;
-      none = λ t a l e. absurd (omega arith);
-      place = t .0;
-      beyond = t .1 .low;
-      inside = t .1 .high;
-      reached = t .2;
-    }
+    has : natAbs (valueAt rest (t .0 - 1)) ≡ size
+    has = from-one (t .0) (t .1 .low) ∙ t .2
 
-module _ {values : List ℤ} {size s : ℕ} (d : Seeking values size s) where
-  pub seeking-inside : s < length values
-  seeking-inside = omega (arith, d .beyond, d .inside)
-
-  module _ {found : ℕ} (e : found ≡ natAbs (valueAt values s)) where
-    -- a change of another size is passed over
-    pub seeking-next : (found ≡ size → ⊥) → Seeking values size (s + 1)
-    seeking-next h = record {
-      low = omega (arith, d .low);
-      none = λ t a l q. more t a l q (ℕ-discrete t s);
-      place = d .place;
-      beyond = further (ℕ-discrete (d .place) s);
-      inside = d .inside;
-      reached = d .reached;
-    }
-      where
-        other : (t : ℕ) → t ≡ s → natAbs (valueAt values t) ≡ size → ⊥
-        other t p q = h (e ∙ sym (ap (λ (z : ℕ). natAbs (valueAt values z)) p) ∙ q)
-
-        more : (t : ℕ) → 1 ≤ t → t < s + 1 → natAbs (valueAt values t) ≡ size → Dec (t ≡ s) → ⊥
-        more t a l q (yes p) = other t p q
-        more t a l q (no p) = d .none t a (omega arith) q
-
-        further : Dec (d .place ≡ s) → s + 1 ≤ d .place
-        further (yes p) = absurd (other (d .place) p (d .reached))
-        further (no p) = omega (arith, d .beyond)
-
-    -- the first of the size
-    pub seeking-found : length values ≤ 256 → found ≡ size → FirstWithin values 8 size s
-    seeking-found few h = record {
-      within = record { low = d .low; high = seeking-inside; few = ones-le 8 s (omega (arith, seeking-inside)) };
-      has = sym e ∙ h;
-      first = λ t l w q. d .none t (w .low) l q;
+    pub first-from : FirstWithin values 8 size (place + 1)
+    first-from = record {
+      within = within-all (place + 1) (omega arith) (omega (arith, rest-length, place-inside f (t .0 - 1) there has));
+      has = sym (from-one (place + 1) (omega arith)) ∙ (let same : place + 1 - 1 ≡ place = omega arith in ap (λ (k : ℕ). natAbs (valueAt rest k)) same) ∙ place-has f (t .0 - 1) there has;
+      first = λ s l w q. f .first (s - 1) (omega (arith, w .low)) (from-one s (w .low) ∙ q);
     }
 
 -- ---- no change of n inputs has more than n ones: limits of n or more are the same
 module _ (values : List ℤ) {n i j : ℕ} (long : length values ≡ 2 ^ n) (hi : n ≤ i) (hj : n ≤ j) where
-  anywhere : {h s : ℕ} (k : ℕ) → n ≤ k → Within h (length values) s → Within k (length values) s
+  anywhere : {h s : ℕ} (k : ℕ) → n ≤ k → MaskWithin h (length values) s → MaskWithin k (length values) s
   anywhere {s = s} k le w = record { low = w .low; high = w .high; few = le-trans (ones-le n s (omega (arith, w .high))) le }
 
   pub largest-anywhere : {largest : ℕ} → LargestWithin values i largest → LargestWithin values j largest

@@ -9,10 +9,10 @@ use native.Mathlib.Omega.{arith}
 use lib.Bits.{bitXor}
 use lib.IntN.{natAbs}
 use Rattle.boolean.specs.Sums.{each}
-use Rattle.boolean.specs.Functions.{Within, autocorrelation, component, components, column}
+use Rattle.boolean.specs.Functions.{MaskWithin, autocorrelation, component, components, column}
 use Rattle.boolean.specs.Selection.{Candidate, shown, higher, firstBest, SameMembers, ranked}
 use Rattle.boolean.proofs.Components.{whole-within, within-more}
-use Rattle.boolean.proofs.Selection.{firstLargest-any-order}
+use Rattle.boolean.proofs.Selection.{firstLargest-chooses}
 use Rattle.refusals.specs.Table.{Box, first, figures, boxChecks, limitChecks, asFigure}
 use Rattle.refusals.specs.declared.Checked.the-variants.{Accepted}
 use Rattle.refusals.proofs.Checks.{limited, reply-accepted}
@@ -44,7 +44,7 @@ distance-reported n m rows i j h =
 
 -- "and s from 1": no change is left out by their number of ones
 pub autocorrelation-most : (n m : ℕ) (rows : List ℕ) (i d : ℕ) (v : List ℕ) → autocorrelationReply n m rows i ≡ figures (d ∷ v)
-    → (c s : ℕ) → Within i (2 ^ m) c → 1 ≤ s → s < 2 ^ n → natAbs (autocorrelation n (component rows c) s) ≤ d
+    → (c s : ℕ) → MaskWithin i (2 ^ m) c → 1 ≤ s → s < 2 ^ n → natAbs (autocorrelation n (component rows c) s) ≤ d
 autocorrelation-most n m rows i d v e c s w low high =
     let r = autocorrelation-reported n m rows i (figures-accepted (first (limitChecks n m rows i)) (shown (boxAutocorrelation n m rows i)) e .0) in
     omega (arith, r .largest c s (record { mask = w; shift = whole-within n s low high }), same-figure (r .reply) e)
@@ -56,13 +56,13 @@ module _ (n m : ℕ) (rows : List ℕ) (i : ℕ) where
       → firstBest (ranked higher (changeRank n m)) visited ≡ boxAutocorrelation n m rows i
   unfolding boxAutocorrelation
   autocorrelation-any-order visited =
-      firstLargest-any-order (changeRank n m) (measured n m i n (correlated n rows)) visited (ascending-measured n m i n (correlated n rows))
+      firstLargest-chooses .visited (changeRank n m) (measured n m i n (correlated n rows)) visited (ascending-measured n m i n (correlated n rows))
 
   pub distance-any-order : (j : ℕ) (visited : List Candidate) → SameMembers visited (measured n m i j (distanceOf n rows))
       → firstBest (ranked higher (changeRank n m)) visited ≡ dynamicDistance n m rows i j
   unfolding dynamicDistance
   distance-any-order j visited =
-      firstLargest-any-order (changeRank n m) (measured n m i j (distanceOf n rows)) visited (ascending-measured n m i j (distanceOf n rows))
+      firstLargest-chooses .visited (changeRank n m) (measured n m i j (distanceOf n rows)) visited (ascending-measured n m i j (distanceOf n rows))
 
   -- so where the components within the limit are visited in any order, each with its changes
   pub autocorrelation-any-component-order : (order : List ℕ) → SameMembers order (components m i)

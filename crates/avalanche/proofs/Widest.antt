@@ -12,12 +12,12 @@ use lib.Dec.{ltb, eqb}
 use lib.Pow.{pow-pos}
 use lib.IntN.{ℤ, pos, _*ℤ_, natAbs}
 use lib.ListN.{length}
-use Rattle.boolean.specs.Functions.{at, valueAt, component, autocorrelation, Within}
+use Rattle.boolean.specs.Functions.{at, valueAt, component, autocorrelation, MaskWithin}
 use Rattle.boolean.specs.Selection.{Candidate, best, higher, firstLargest, ranked}
 use Rattle.boolean.proofs.Lists.{length-listBelow, getD-listBelow}
 use Rattle.boolean.proofs.Products.{abs-multiple}
 use Rattle.boolean.proofs.OneBit.{ones-pos}
-use Rattle.boolean.proofs.Selection.{best-takes, best-keeps, first-is, firstLargest-ge, firstLargest-mem, ranked-first}
+use Rattle.boolean.proofs.Selection.{best-takes, best-keeps, first-is, firstLargest-chooses, ranked-first}
 use Rattle.masks.specs.Masks.{outputs}
 use Rattle.masks.specs.Work.{preferred}
 use Rattle.masks.specs.Statements.{Blocks}
@@ -61,19 +61,18 @@ module _ (n : ℕ) (rows : List ℕ) (c j : ℕ) {values : List ℤ} (e : values
   share-at : {largest : ℕ} (s : ℕ) → s < 2 ^ n → natAbs (valueAt values s) ≡ largest → largest / 2 ^ n ≡ correlated n rows c s
   share-at s l has = ap (λ (k : ℕ). k / 2 ^ n) (sym has ∙ size-is s l) ∙ mul-div-right (correlated n rows c s) (pow-pos n)
 
-  inside : {s : ℕ} → Within j (2 ^ n) s → Within j (length values) s
-  inside {s} w = subst (λ (k : ℕ). Within j k s) (sym values-length) w
+  inside : {s : ℕ} → MaskWithin j (2 ^ n) s → MaskWithin j (length values) s
+  inside {s} w = subst (λ (k : ℕ). MaskWithin j k s) (sym values-length) w
 
-  outside : {s : ℕ} → Within j (length values) s → Within j (2 ^ n) s
-  outside {s} w = subst (λ (k : ℕ). Within j k s) values-length w
+  outside : {s : ℕ} → MaskWithin j (length values) s → MaskWithin j (2 ^ n) s
+  outside {s} w = subst (λ (k : ℕ). MaskWithin j k s) values-length w
 
   -- the first largest is one of them
   largest-mem : 1 ≤ n → 1 ≤ j → List·Memᴰ (firstLargest (changesOf n j (correlated n rows) c)) (changesOf n j (correlated n rows) c)
   largest-mem n-low j-low =
-      let t = changesOf-some n j (correlated n rows) c n-low j-low in
-      subst (λ (l : List Candidate). List·Memᴰ (firstLargest l) l) (sym (t .2)) (firstLargest-mem (t .0) (t .1))
+      firstLargest-chooses .mem (changesOf-some n j (correlated n rows) c n-low j-low .2)
 
-  module _ {bound : ℕ} (bounds : (s : ℕ) → Within j (length values) s → natAbs (valueAt values s) ≤ bound) where
+  module _ {bound : ℕ} (bounds : (s : ℕ) → MaskWithin j (length values) s → natAbs (valueAt values s) ≤ bound) where
     -- where no magnitude is above a bound, no change has more than the bound's share
     most-of : (q : Candidate) → List·Memᴰ q (changesOf n j (correlated n rows) c) → q .figure ≤ bound / 2 ^ n
     most-of q k =
@@ -107,7 +106,7 @@ module _ (n : ℕ) (rows : List ℕ) (c j : ℕ) {values : List ℤ} (e : values
               let t = top .reached l in
               let w = outside (t .1) in
               le-trans (le-of-eq (share-at (t .0) (w .high) (t .2)))
-              (firstLargest-ge (changesOf n j (correlated n rows) c) (change (correlated n rows) c (t .0)) (in-changesOf n j (correlated n rows) c (t .0) w))
+              (firstLargest-chooses .all (changesOf n j (correlated n rows) c) (change (correlated n rows) c (t .0)) (in-changesOf n j (correlated n rows) c (t .0) w))
           reached (no l) = omega (arith, div-le-self largest (2 ^ n))
 
       module _ {figure : ℕ} (share : figure ≡ largest / 2 ^ n) (b : Candidate) where
@@ -143,7 +142,7 @@ module _ (n : ℕ) (rows : List ℕ) (c j : ℕ) {values : List ℤ} (e : values
             ap (λ (k : ℕ). record { figure = k; witness = c ∷ s ∷ [] }) figure-is ∙ sym widest
             ∙ sym (best-takes (ranked higher outputs) b (firstLargest (changesOf n j (correlated n rows) c)) [] (sym test ∙ h))
           where
-            w : Within j (2 ^ n) s
+            w : MaskWithin j (2 ^ n) s
             w = outside (place .within)
 
             figure-is : figure ≡ correlated n rows c s
@@ -152,10 +151,10 @@ module _ (n : ℕ) (rows : List ℕ) (c j : ℕ) {values : List ℤ} (e : values
             r : Candidate
             r = change (correlated n rows) c s
 
-            no-more : (t : ℕ) → Within j (2 ^ n) t → correlated n rows c t ≤ correlated n rows c s
+            no-more : (t : ℕ) → MaskWithin j (2 ^ n) t → correlated n rows c t ≤ correlated n rows c s
             no-more t u = omega (arith, figure-is, most (change (correlated n rows) c t) (in-changesOf n j (correlated n rows) c t u))
 
-            earlier : (t : ℕ) → Within j (2 ^ n) t → t < s → correlated n rows c t < correlated n rows c s
+            earlier : (t : ℕ) → MaskWithin j (2 ^ n) t → t < s → correlated n rows c t < correlated n rows c s
             earlier t u l = pick (decLt (correlated n rows c t) (correlated n rows c s))
               where
                 pick : Dec (correlated n rows c t < correlated n rows c s) → correlated n rows c t < correlated n rows c s

@@ -18,9 +18,9 @@ distanceChecks n m rows i j =
     ∷ [])
 
 -- what an answer says: the figure, c and s, or the number of the refusal
-abbrev pub changeReply : LargestChange → Reply
-changeReply (Reached figure c s) = figures (figure ∷ c ∷ s ∷ [])
-changeReply (Declined e) = refusal (number e)
+abbrev pub saidLargestChange : LargestChange → Reply
+saidLargestChange (Reached figure c s) = figures (figure ∷ c ∷ s ∷ [])
+saidLargestChange (Declined e) = refusal (number e)
 
 -- what the calls reply: the figure and its witness, yes or no, or the number of the refusal
 abbrev pub autocorrelationReply : (n m : ℕ) (rows : List ℕ) (i : ℕ) → Reply

@@ -4,7 +4,7 @@ use mathlib.Core.Path.{_≡_}
 use mathlib.Core.Logic.{_⊎_}
 use mathlib.Core.List.{List, [], _∷_}
 use lib.IntN.{natAbs}
-use Rattle.boolean.specs.Functions.{at, autocorrelation, changes, component, Within, MaskBefore, maskRank}
+use Rattle.boolean.specs.Functions.{at, autocorrelation, changes, component, MaskWithin, MaskBefore, maskRank}
 use Rattle.boolean.specs.Selection.{Candidate}
 use Rattle.refusals.specs.Table.{Reply, figures}
 use Rattle.avalanche.specs.Avalanche.{imbalance}
@@ -12,12 +12,12 @@ use Rattle.avalanche.specs.Calls.{autocorrelationReply, distanceReply}
 
 -- a combination within the limit i, and an input change of at most j ones
 pub record IsChange (n m i j c s : ℕ) : Type 0 where
-  pub mask : Within i (2 ^ m) c
-  pub shift : Within j (2 ^ n) s
+  pub mask : MaskWithin i (2 ^ m) c
+  pub shift : MaskWithin j (2 ^ n) s
 
 -- (c′, s′) comes before (c, s): by c in the components' order, then s
-abbrev pub Before : (c′ s′ c s : ℕ) → Type 0
-Before c′ s′ c s = MaskBefore c′ c ⊎ ((c′ ≡ c) × (s′ < s))
+abbrev pub ChangeBefore : (c′ s′ c s : ℕ) → Type 0
+ChangeBefore c′ s′ c s = MaskBefore c′ c ⊎ ((c′ ≡ c) × (s′ < s))
 
 -- What is reported of a figure that each combination c within i has under each change s of at most j ones: the largest, d, and the first c
 -- and s that have it. Where it is 0 they are 1 and 1.
@@ -29,7 +29,7 @@ pub record LargestReported (n m i j : ℕ) (figure : (c s : ℕ) → ℕ) (said 
   pub largest : (c′ s′ : ℕ) → IsChange n m i j c′ s′ → figure c′ s′ ≤ d
   pub member : IsChange n m i j c s
   pub reached : figure c s ≡ d
-  pub before : (c′ s′ : ℕ) → IsChange n m i j c′ s′ → Before c′ s′ c s → figure c′ s′ < d
+  pub before : (c′ s′ : ℕ) → IsChange n m i j c′ s′ → ChangeBefore c′ s′ c s → figure c′ s′ < d
   pub none : d ≡ 0 → (c ≡ 1) × (s ≡ 1)
 
 -- the autocorrelation within i: the largest |r(s)|, s from 1 (of at most n ones: every s below 2^n)

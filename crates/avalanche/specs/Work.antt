@@ -6,14 +6,14 @@ use lib.Count.{ones}
 use lib.IntN.{ℤ, pos, _*ℤ_, natAbs}
 use lib.ListN.{length}
 use Rattle.boolean.specs.Sums.{listBelow}
-use Rattle.boolean.specs.Functions.{at, valueAt, autocorrelation, component, Within}
+use Rattle.boolean.specs.Functions.{at, valueAt, autocorrelation, component, MaskWithin}
 use Rattle.boolean.specs.Selection.{Candidate}
 use Rattle.refusals.specs.Table.{Box}
 use Rattle.avalanche.specs.declared.FoundChange.{FoundChange}
 
 -- the best so far, as a candidate
-abbrev pub candidate : FoundChange → Candidate
-candidate f = record { figure = f .figure; witness = f .c ∷ f .s ∷ [] }
+abbrev pub changeCandidate : FoundChange → Candidate
+changeCandidate f = record { figure = f .figure; witness = f .c ∷ f .s ∷ [] }
 
 -- the truth table of component c
 abbrev pub truthTable : (n : ℕ) (rows : List ℕ) (c : ℕ) → List ℕ
@@ -34,24 +34,24 @@ pub record Compared (n m : ℕ) (rows : List ℕ) (j : ℕ) (found : FoundChange
 
 -- the largest magnitude at a change within the limit j, and 0 where there is none
 pub record LargestWithin (values : List ℤ) (j largest : ℕ) : Type 0 where
-  pub bounds : (s : ℕ) → Within j (length values) s → natAbs (valueAt values s) ≤ largest
-  pub reached : 0 < largest → (s : ℕ) × Within j (length values) s × (natAbs (valueAt values s) ≡ largest)
+  pub bounds : (s : ℕ) → MaskWithin j (length values) s → natAbs (valueAt values s) ≤ largest
+  pub reached : 0 < largest → (s : ℕ) × MaskWithin j (length values) s × (natAbs (valueAt values s) ≡ largest)
 
 -- the first such change that has a magnitude
 pub record FirstWithin (values : List ℤ) (j size s : ℕ) : Type 0 where
-  pub within : Within j (length values) s
+  pub within : MaskWithin j (length values) s
   pub has : natAbs (valueAt values s) ≡ size
-  pub first : (t : ℕ) → t < s → Within j (length values) t → natAbs (valueAt values t) ≡ size → ⊥
+  pub first : (t : ℕ) → t < s → MaskWithin j (length values) t → natAbs (valueAt values t) ≡ size → ⊥
 
 -- the changes within the limit j, in ascending order
 pub record Listed (j size : ℕ) (list : List ℕ) : Type 0 where
-  pub within : (k : ℕ) → k < length list → Within j size (at list k)
-  pub all : (s : ℕ) → Within j size s → (k : ℕ) × (k < length list) × (at list k ≡ s)
+  pub within : (k : ℕ) → k < length list → MaskWithin j size (at list k)
+  pub all : (s : ℕ) → MaskWithin j size s → (k : ℕ) × (k < length list) × (at list k ≡ s)
   pub rises : (h k : ℕ) → h < k → k < length list → at list h < at list k
 
 -- each change of a list has a value
-abbrev pub Inside : (values : List ℤ) (list : List ℕ) → Type 0
-Inside values list = (k : ℕ) → k < length list → at list k < length values
+abbrev pub ChangesInside : (values : List ℤ) (list : List ℕ) → Type 0
+ChangesInside values list = (k : ℕ) → k < length list → at list k < length values
 
 -- the largest magnitude at a change of a list, and 0 where there is none
 pub record LargestListed (values : List ℤ) (list : List ℕ) (largest : ℕ) : Type 0 where

@@ -13,16 +13,16 @@ ghost use Rattle.boolean.specs.Bits.{bit};
 ghost use Rattle.boolean.specs.Sums.{listFrom, listBelow, every, AnyContent};
 ghost use Rattle.boolean.specs.Functions.{valueAt, changes, column, square};
 ghost use Rattle.boolean.specs.Selection.{best, higher, firstLargest, ranked};
-ghost use Rattle.refusals.specs.Table.{first, verdict, Box};
+ghost use Rattle.refusals.specs.Table.{first, saidVerdict, Box};
 ghost use Rattle.walsh.specs.Work.{Spectra};
 ghost use Rattle.masks.specs.Masks.{outputs};
 ghost use Rattle.masks.specs.Work.{stepTables, Stepping};
-ghost use Rattle.linear.specs.Work.{Swept};
+ghost use Rattle.linear.specs.Work.{PairsSwept};
 ghost use Rattle.avalanche.specs.Avalanche.{measured, correlated, changesOf};
 ghost use Rattle.avalanche.specs.Avalanche as spec;
-ghost use Rattle.avalanche.specs.Calls.{distanceChecks, changeReply, autocorrelationReply, distanceReply, completeReply};
-ghost use Rattle.avalanche.specs.Work.{candidate, truthTable, correlations, Compared, LargestWithin};
-ghost use Rattle.avalanche.specs.Work.{FirstWithin, Listed, Inside, LargestListed, FirstListed};
+ghost use Rattle.avalanche.specs.Calls.{distanceChecks, saidLargestChange, autocorrelationReply, distanceReply, completeReply};
+ghost use Rattle.avalanche.specs.Work.{changeCandidate, truthTable, correlations, Compared, LargestWithin};
+ghost use Rattle.avalanche.specs.Work.{FirstWithin, Listed, ChangesInside, LargestListed, FirstListed};
 
 // The best so far.
 pub struct FoundChange {
@@ -80,7 +80,7 @@ fn correlate(
     table: &[u8],
     values: &mut [i32],
 )
-    requires { ⌜ Swept n m (now rows) (now table) (now values) × Spectra (now fixed) × (now table ≡ truthTable n (now rows) c) ⌝ }
+    requires { ⌜ PairsSwept n m (now rows) (now table) (now values) × Spectra (now fixed) × (now table ≡ truthTable n (now rows) c) ⌝ }
     ensures { λ _. ⌜ now (values .exit) ≡ correlations n (now (rows .entry)) c ⌝ }
 {
     walsh::descend(fixed, n, table, values);
@@ -100,7 +100,7 @@ fn next_correlation(
     table: &mut [u8],
     values: &mut [i32],
 )
-    requires { ⌜ Swept n m (now rows) (now table) (now values) × Spectra (now fixed)
+    requires { ⌜ PairsSwept n m (now rows) (now table) (now values) × Spectra (now fixed)
         × Stepping m (now rows) (now steps) last c (now table) ⌝ }
     ensures { λ _. ⌜ (now (values .exit) ≡ correlations n (now (rows .entry)) c)
         × (now (table .exit) ≡ truthTable n (now (rows .entry)) c) ⌝ }
@@ -144,7 +144,7 @@ fn list_changes(n: u32, j: u32, list: &mut [u32]) -> usize
 
 // The largest magnitude at the changes of a list.
 fn largest_listed(values: &[i32], list: &[u32]) -> u32
-    requires { ⌜ Inside (now values) (now list) ⌝ }
+    requires { ⌜ ChangesInside (now values) (now list) ⌝ }
     ensures { λ r. ⌜ LargestListed (now (values .entry)) (now (list .entry)) r ⌝ }
 {
     let mut largest: u32 = 0;
@@ -162,19 +162,10 @@ fn largest_listed(values: &[i32], list: &[u32]) -> u32
 
 // The largest magnitude at an s from 1. None of them has more than 8 ones, so that none is counted.
 fn largest_from_one(values: &[i32]) -> u32
-    requires { ⌜ length (now values) ≤ 256 ⌝ }
+    requires { ⌜ (1 ≤ length (now values)) × (length (now values) ≤ 256) ⌝ }
     ensures { λ r. ⌜ LargestWithin (now (values .entry)) 8 r ⌝ }
 {
-    let mut largest: u32 = 0;
-    let mut s = 1;
-    while s < values.len() {
-        let size = boolean::magnitude(values[s]);
-        if largest < size {
-            largest = size;
-        }
-        s += 1;
-    }
-    largest
+    walsh::largest_magnitude(&values[1..])
 }
 
 // The largest magnitude at an s from 1 with at most j ones. Where to find it is not asked yet: most components do not need it.
@@ -191,7 +182,7 @@ fn largest_within(n: u32, values: &[i32], j: u32, list: &[u32]) -> u32
 
 // The first change of a list that has the largest magnitude, which is not 0.
 fn first_listed(values: &[i32], list: &[u32], largest: u32) -> u32
-    requires { ⌜ Inside (now values) (now list) × LargestListed (now values) (now list) largest × (0 < largest) ⌝ }
+    requires { ⌜ ChangesInside (now values) (now list) × LargestListed (now values) (now list) largest × (0 < largest) ⌝ }
     ensures { λ r. ⌜ FirstListed (now (values .entry)) (now (list .entry)) largest r ⌝ }
 {
     let mut k = 0;
@@ -208,11 +199,8 @@ fn first_from_one(values: &[i32], largest: u32) -> u32
     requires { ⌜ (length (now values) ≤ 256) × LargestWithin (now values) 8 largest × (0 < largest) ⌝ }
     ensures { λ r. ⌜ FirstWithin (now (values .entry)) 8 largest r ⌝ }
 {
-    let mut place: u32 = 1;
-    while boolean::magnitude(values[place as usize]) != largest {
-        place += 1;
-    }
-    place
+    let place = walsh::first_place(&values[1..], largest);
+    place as u32 + 1
 }
 
 // The first s from 1 with at most j ones that has the largest magnitude, which is not 0.
@@ -241,8 +229,8 @@ fn is_beaten(
     values: &[i32],
 ) -> bool
     requires { ⌜ Compared n m (now rows) j found c (now values) ⌝ }
-    ensures { λ r. ⌜ (r ≡ true → candidate found
-        ≡ best (ranked higher outputs) (candidate found) (firstLargest (changesOf n j (correlated n (now (rows .entry))) c) ∷ [])) ⌝ }
+    ensures { λ r. ⌜ (r ≡ true → changeCandidate found
+        ≡ best (ranked higher outputs) (changeCandidate found) (firstLargest (changesOf n j (correlated n (now (rows .entry))) c) ∷ [])) ⌝ }
 {
     if list.len() < values.len() / 2 {
         return false;
@@ -264,8 +252,8 @@ fn with_correlation(
     values: &[i32],
 ) -> FoundChange
     requires { ⌜ Compared n m (now rows) j found c (now values) × (j < n → Listed j (2 ^ n) (now list)) ⌝ }
-    ensures { λ r. ⌜ candidate r
-        ≡ best (ranked higher outputs) (candidate found) (firstLargest (changesOf n j (correlated n (now (rows .entry))) c) ∷ []) ⌝ }
+    ensures { λ r. ⌜ changeCandidate r
+        ≡ best (ranked higher outputs) (changeCandidate found) (firstLargest (changesOf n j (correlated n (now (rows .entry))) c) ∷ []) ⌝ }
 {
     if is_beaten(found, n, m, rows, j, list, c, values) {
         return found;
@@ -294,9 +282,9 @@ fn sweep(
     table: &mut [u8],
     values: &mut [i32],
 ) -> FoundChange
-    requires { ⌜ Swept n m (now rows) (now table) (now values) × Spectra (now fixed)
+    requires { ⌜ PairsSwept n m (now rows) (now table) (now values) × Spectra (now fixed)
         × (length (now steps) ≡ m * length (now rows)) × (1 ≤ i) × (1 ≤ j) × (j < n → Listed j (2 ^ n) (now list)) ⌝ }
-    ensures { λ r. ⌜ (candidate r ≡ firstLargest (measured n m i j (correlated n (now (rows .entry)))))
+    ensures { λ r. ⌜ (changeCandidate r ≡ firstLargest (measured n m i j (correlated n (now (rows .entry)))))
         × (now (steps .exit) ≡ stepTables m (now (rows .entry)))
         × AnyContent (now (table .entry)) (now (table .exit)) × AnyContent (now (values .entry)) (now (values .exit)) ⌝ }
 {
@@ -322,7 +310,7 @@ fn sweep(
 // The largest |r(s)| over components with at most i ones and s with 1 to j ones, for an accepted box.
 fn largest_correlation(n: u32, m: u32, rows: &[u32], i: u32, j: u32) -> FoundChange
     requires { ⌜ Box n m (now rows) × (1 ≤ i) × (1 ≤ j) ⌝ }
-    ensures { λ r. ⌜ candidate r ≡ firstLargest (measured n m i j (correlated n (now (rows .entry)))) ⌝ }
+    ensures { λ r. ⌜ changeCandidate r ≡ firstLargest (measured n m i j (correlated n (now (rows .entry)))) ⌝ }
 {
     let fixed = walsh::spectra();
     let mut list = [0u32; 256];
@@ -401,7 +389,7 @@ fn all_complete(n: u32, m: u32, rows: &[u32]) -> bool
 
 // The largest |r(s)| over the combinations of at most i outputs and all s from 1.
 pub fn autocorrelation(n: u32, m: u32, rows: &[u32], i: u32) -> LargestChange
-    ensures { λ r. ⌜ changeReply r ≡ autocorrelationReply n m (now (rows .entry)) i ⌝ }
+    ensures { λ r. ⌜ saidLargestChange r ≡ autocorrelationReply n m (now (rows .entry)) i ⌝ }
 {
     if let Checked::Refused(e) = refusals::check_limited(n, m, rows, i) {
         return LargestChange::Declined(e);
@@ -416,7 +404,7 @@ pub fn autocorrelation(n: u32, m: u32, rows: &[u32], i: u32) -> LargestChange
 
 // The dynamic distance of order (i, j), as document 01 doubles it: half of the largest |r(s)|.
 pub fn dynamic_distance(n: u32, m: u32, rows: &[u32], i: u32, j: u32) -> LargestChange
-    ensures { λ r. ⌜ changeReply r ≡ distanceReply n m (now (rows .entry)) i j ⌝ }
+    ensures { λ r. ⌜ saidLargestChange r ≡ distanceReply n m (now (rows .entry)) i j ⌝ }
 {
     if let Checked::Refused(e) = check_distance(n, m, rows, i, j) {
         return LargestChange::Declined(e);
@@ -431,7 +419,7 @@ pub fn dynamic_distance(n: u32, m: u32, rows: &[u32], i: u32, j: u32) -> Largest
 
 // Whether every input bit changes every column at some input.
 pub fn is_complete(n: u32, m: u32, rows: &[u32]) -> Verdict
-    ensures { λ r. ⌜ verdict r ≡ completeReply n m (now (rows .entry)) ⌝ }
+    ensures { λ r. ⌜ saidVerdict r ≡ completeReply n m (now (rows .entry)) ⌝ }
 {
     if let Checked::Refused(e) = refusals::check_box(n, m, rows) {
         return Verdict::Undecided(e);

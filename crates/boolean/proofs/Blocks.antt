@@ -3,7 +3,7 @@ use mathlib.Core.Path.{_≡_, refl, sym, ap, _∙_}
 use mathlib.Core.Bool.{Bool, true, false}
 use mathlib.Core.List.{List, [], _∷_, _++_}
 use Rattle.boolean.specs.Sums.{each}
-use Rattle.boolean.specs.Selection.{Candidate, best, firstBest, First, here, there}
+use Rattle.boolean.specs.Selection.{Candidate, best, firstBest, FirstIn, here, there}
 use Rattle.boolean.specs.Statements.{Ordered, ByFigure}
 use Rattle.boolean.proofs.Selection.{best-takes, best-keeps, best-append, best-stays, best-is, best-all, best-first}
 
@@ -35,7 +35,7 @@ module _ {beats : Candidate → Candidate → Bool} {R S : Candidate → Candida
       r : Candidate
       r = best beats x xs
 
-      beaten : {z : Candidate} {cs : List Candidate} → First S z cs → First (λ a c. beats a c ≡ true) z cs
+      beaten : {z : Candidate} {cs : List Candidate} → FirstIn S z cs → FirstIn (λ a c. beats a c ≡ true) z cs
       beaten here = here
       beaten {z} (there {c} s h) = there (beats-better z c s) (beaten h)
 

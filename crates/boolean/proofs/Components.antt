@@ -12,7 +12,7 @@ use lib.Count.{ones, onesIn, ones-le}
 use lib.Dec.{leb, eqb}
 use lib.Pow.{pow-pos, pow-mono, pow-lt}
 use Rattle.boolean.specs.Sums.{listFrom, each, keep}
-use Rattle.boolean.specs.Functions.{Within, components, MaskBefore, maskRank}
+use Rattle.boolean.specs.Functions.{MaskWithin, components, MaskBefore, maskRank}
 use Rattle.boolean.proofs.Lists.{mem-listFrom, in-listFrom, mem-each, in-each, ascending-listFrom, ascending-each}
 use Rattle.boolean.proofs.Kept.{keep-takes, keep-drops, mem-keep, in-keep, ascending-keep}
 use Rattle.boolean.proofs.OneBit.{ones-one, ones-pos}
@@ -51,13 +51,13 @@ module _ (p : ℕ → Bool) where
 
 -- ---- the masks within a limit below a bound, in ascending order
 module _ (i end : ℕ) (some : 1 ≤ end) where
-  pub mem-masksBelow : (c : ℕ) → List·Memᴰ c (masksBelow i end) → Within i end c
+  pub mem-masksBelow : (c : ℕ) → List·Memᴰ c (masksBelow i end) → MaskWithin i end c
   mem-masksBelow c k =
       let t = mem-keep (limited i) (listFrom 1 (end - 1) (λ c. c)) c k in
       let s = mem-listFrom 1 (end - 1) (λ c. c) c (t .0) in
       record { low = omega (arith, s .1, s .3); high = omega (arith, s .2, s .3); few = leb-true (ones c) i (t .1) }
 
-  pub in-masksBelow : (c : ℕ) → Within i end c → List·Memᴰ c (masksBelow i end)
+  pub in-masksBelow : (c : ℕ) → MaskWithin i end c → List·Memᴰ c (masksBelow i end)
   in-masksBelow c w =
       in-keep (limited i) (listFrom 1 (end - 1) (λ c. c)) c
       (in-listFrom 1 (end - 1) (λ c. c) c (w .low) (omega (arith, w .high))) (le-leb (ones c) i (w .few))
@@ -105,7 +105,7 @@ module _ (m : ℕ) where
   rank-of-before c′ c h (inr l) = omega (arith, ap (λ (z : ℕ). z * 2 ^ m) (l .0), l .1)
 
 -- ---- the two laws of the masks: which they are, and their order
-pub mem-components : (m i c : ℕ) → List·Memᴰ c (components m i) → Within i (2 ^ m) c
+pub mem-components : (m i c : ℕ) → List·Memᴰ c (components m i) → MaskWithin i (2 ^ m) c
 unfolding components
 mem-components m i c h =
     let t = mem-each (listFrom 1 i (λ k. k)) (ofOnes m) c h in
@@ -113,7 +113,7 @@ mem-components m i c h =
     let u = mem-ofOnes m (t .0) c (t .2) in
     record { low = u .0; high = u .1; few = omega (arith, u .2, k .2, k .3) }
 
-pub in-components : (m i c : ℕ) → Within i (2 ^ m) c → List·Memᴰ c (components m i)
+pub in-components : (m i c : ℕ) → MaskWithin i (2 ^ m) c → List·Memᴰ c (components m i)
 unfolding components
 in-components m i c w =
     in-each (listFrom 1 i (λ k. k)) (ofOnes m) (ones c) c (in-listFrom 1 i (λ k. k) (ones c) (ones-pos c (w .low)) (omega (arith, w .few)))
@@ -149,13 +149,13 @@ first-component m i lm li =
 pub same-masks : (m i : ℕ) → SameMembers (masksBelow i (2 ^ m)) (components m i)
 same-masks m i c = (λ h. in-components m i c (mem-masksBelow i (2 ^ m) (pow-pos m) c h), λ h. in-masksBelow i (2 ^ m) (pow-pos m) c (mem-components m i c h))
 
-pub whole-within : (m c : ℕ) → 1 ≤ c → c < 2 ^ m → Within m (2 ^ m) c
+pub whole-within : (m c : ℕ) → 1 ≤ c → c < 2 ^ m → MaskWithin m (2 ^ m) c
 whole-within m c l h = record { low = l; high = h; few = ones-le m c h }
 
 -- a wider limit takes what a narrower one takes
-pub within-more : {i j end c : ℕ} → i ≤ j → Within i end c → Within j end c
+pub within-more : {i j end c : ℕ} → i ≤ j → MaskWithin i end c → MaskWithin j end c
 within-more l w = record { low = w .low; high = w .high; few = le-trans (w .few) l }
 
 -- the mask 1 is always one of them
-pub first-mask : (m i : ℕ) → 1 ≤ m → 1 ≤ i → Within i (2 ^ m) 1
+pub first-mask : (m i : ℕ) → 1 ≤ m → 1 ≤ i → MaskWithin i (2 ^ m) 1
 first-mask m i h l = record { low = le-refl 1; high = pow-lt h; few = omega (arith, ones-one) }

@@ -1,7 +1,7 @@
 -- Counts and totals of naturals below k.
 use mathlib.Core.Path.{_≡_, refl, sym, ap, ap₂, _∙_}
 use mathlib.Core.Bool.{Bool, true, false, not}
-use Prim.Native.Nat.{ℕ, zero, suc, _+_, _*_, _-_, _/_, _%_, _^_, _<_, _≤_, zero-le}
+use Prim.Native.Nat.{ℕ, zero, suc, _+_, _*_, _/_, _%_, _^_, _<_, _≤_, zero-le}
 use native.Mathlib.Nat.{add-assoc, add-zero, add-suc, le-refl, le-suc, le-trans, suc-mul, mul-comm, two-pow-succ, not-suc-le-zero, div-add-mod', mod-lt, zero-lt-suc, add-mul, mul-add, mul-assoc, mul-left-comm, mul-le-mul}
 use native.Mathlib.Omega.{arith}
 use lib.Pow.{pow-add}
@@ -42,6 +42,12 @@ count-not (suc k) p = step (p k) (count-not k p)
     step : (b : Bool) → countBelow k p + countBelow k (λ x. not (p x)) ≡ k → countBelow k p + one-if b + (countBelow k (λ x. not (p x)) + one-if (not b)) ≡ suc k
     step true h = omega arith
     step false h = omega arith
+
+-- two tests of which at most one passes are counted together by one
+pub count-either : (k : ℕ) (p q r : ℕ → Bool) → ((x : ℕ) → one-if (r x) ≡ one-if (p x) + one-if (q x)) → countBelow k r ≡ countBelow k p + countBelow k q
+unfolding countBelow
+count-either zero p q r h = refl
+count-either (suc k) p q r h = omega (arith, count-either k p q r h, h k)
 
 -- ---- totals
 pub total-cong : (k : ℕ) (f g : ℕ → ℕ) → ((x : ℕ) → x < k → f x ≡ g x) → totalBelow k f ≡ totalBelow k g

@@ -1,12 +1,17 @@
 -- The inner product of bit vectors: bilinear, and split at the top digit.
 use mathlib.Core.Path.{_≡_, refl, sym, ap, ap₂, _∙_}
-use Prim.Native.Nat.{ℕ, zero, suc, _+_, _*_, _-_, _%_, _/_, _^_, _<_, min}
+use mathlib.Core.Logic.{_⊎_, inl, inr}
+use Prim.Native.Nat.{ℕ, zero, suc, _+_, _*_, _%_, _/_, _^_, _<_, min}
 use native.Mathlib.Nat.{mod-lt, zero-lt-suc, one-mul, zero-mul, not-suc-le-zero, le-of-suc-le-suc, zero-add, mod-eq-of-lt, add-mod-mod, mod-add-mod, min-le-left, lt-of-le-of-lt}
+use native.Mathlib.Decide.{ℕ-discrete}
+use native.Mathlib.Omega.{arith}
 use lib.Arith.{bin-ind}
 use lib.Bits.{bitAnd, bitXor, and-step, and-block, xor-shr, xor-mod, and-comm}
 use lib.Count.{ones, onesIn, ones-cat}
-use Rattle.boolean.specs.Bits.{parity, dot}
-use Rattle.boolean.proofs.Cases.{eq5}
+use lib.Dec.{eqb, eqb→eq}
+use Rattle.boolean.specs.Bits.{parity, dot, affine}
+use Rattle.boolean.proofs.Cases.{eq5, all2}
+use Rattle.boolean.proofs.Xor.{xor-interchange}
 
 two-pos : zero < 2
 two-pos = zero-lt-suc 1
@@ -93,3 +98,32 @@ module _ (n w x : ℕ) (hw : w < 2 ^ n) (hx : x < 2 ^ n) where
   dot-11 =
       ap₂ dot (ap (λ (z : ℕ). z + w) (sym (one-mul (2 ^ n)))) (ap (λ (z : ℕ). z + x) (sym (one-mul (2 ^ n))))
       ∙ dot-block n 1 1 w x hw hx ∙ bit-cases (λ z. (1 + z) % 2 ≡ bitXor 1 z) refl refl (dot w x) (dot-bit w x)
+
+-- ---- the inner product of two numbers of two parts
+bits-add : (a b : ℕ) → a < 2 → b < 2 → (a + b) % 2 ≡ bitXor a b
+bits-add a b ha hb = eqb→eq ((a + b) % 2) (bitXor a b) (all2 (λ a b. eqb ((a + b) % 2) (bitXor a b)) tt a b ha hb)
+
+-- the XOR of the inner products of the parts
+pub dot-parts : (h u x v y : ℕ) → v < 2 ^ h → y < 2 ^ h → dot (u * 2 ^ h + v) (x * 2 ^ h + y) ≡ bitXor (dot u x) (dot v y)
+unfolding dot parity
+dot-parts h u x v y hv hy =
+    dot-block h u x v y hv hy ∙ sym (mod-add-mod (ones (bitAnd u x)) 2 (dot v y)) ∙ bits-add (dot u x) (dot v y) (dot-bit u x) (dot-bit v y)
+
+-- an affine function of XORs is the XOR of the affine functions
+pub affine-xor : (w b v c x : ℕ) → affine (bitXor w v) (bitXor b c) x ≡ bitXor (affine w b x) (affine v c x)
+unfolding affine
+affine-xor w b v c x = ap (λ (z : ℕ). bitXor z (bitXor b c)) (dot-xor w v x) ∙ xor-interchange (dot w x) (dot v x) b c
+
+-- of some truth values one is 1, or all are 0
+pub some-or-none : (f : ℕ → ℕ) → ((j : ℕ) → f j < 2) → (count : ℕ) → ((j : ℕ) × (j < count) × (f j ≡ 1)) ⊎ ((j : ℕ) → j < count → f j ≡ 0)
+some-or-none f bits zero = inr (λ j l. absurd (omega arith))
+some-or-none f bits (suc count) = pick (some-or-none f bits count) (ℕ-discrete (f count) 1)
+  where
+    pick : ((j : ℕ) × (j < count) × (f j ≡ 1)) ⊎ ((j : ℕ) → j < count → f j ≡ 0) → Dec (f count ≡ 1) → ((j : ℕ) × (j < suc count) × (f j ≡ 1)) ⊎ ((j : ℕ) → j < suc count → f j ≡ 0)
+    pick (inl t) d = inl (t .0, omega (arith, t .1), t .2)
+    pick (inr none) (yes e) = inl (count, omega arith, e)
+    pick (inr none) (no e) = inr (λ j l. last j l (ℕ-discrete j count))
+      where
+        last : (j : ℕ) → j < suc count → Dec (j ≡ count) → f j ≡ 0
+        last j l (yes q) = ap f q ∙ (let b = bits count in omega arith)
+        last j l (no q) = none j (omega arith)

@@ -1,14 +1,16 @@
 -- A test of every member of a list, and the loop that runs it by an index and stops at the first member that fails.
 use Prim.Native.Nat.{ℕ, zero, suc, _+_, _<_, _≤_, zero-le, suc-le-suc}
-use mathlib.Core.Path.{_≡_, refl, sym, _∙_}
+use mathlib.Core.Path.{_≡_, refl, sym, _∙_, ap₂}
 use mathlib.Core.List.{List, [], _∷_}
 use mathlib.Core.Bool.{Bool, true, false, _&&_, and-eq-true-iff}
 use native.Mathlib.Nat.{not-suc-le-zero, le-of-suc-le-suc, zero-lt-suc}
 use native.Mathlib.Numerals.{add-one}
 use native.Mathlib.Omega.{arith}
-use lib.ListN.{length, getD, drop, drop-of-length-le}
+use lib.ListN.{length, getD, drop, drop-of-length-le, replicate}
 use lib.Seq.{drop-cons}
+use lib.Dec.{ltb}
 use Rattle.boolean.specs.Sums.{every}
+use borrow.Author.Tests.{ltb-true}
 
 -- two tests
 pub both : (a b : Bool) → (a && b) ≡ true → (a ≡ true) × (b ≡ true)
@@ -54,3 +56,17 @@ module _ {A : Type 0} (p : A → Bool) (d : A) where
     pub rest-none : length xs ≤ i → true ≡ every p xs
     unfolding every
     rest-none h = sym (rw (drop-of-length-le xs h) refl) ∙ r .same
+
+-- numbers below 1 are zeros; and back
+pub zeros-are : (xs : List ℕ) → every (λ x. ltb x 1) xs ≡ true → xs ≡ replicate (length xs) 0
+unfolding every
+zeros-are [] h = refl
+zeros-are (x ∷ xs) h =
+    let t = both _ _ h in
+    let z : x ≡ 0 = omega (arith, ltb-true x 1 (t .0)) in
+    ap₂ (λ (a : ℕ) (l : List ℕ). a ∷ l) z (zeros-are xs (t .1))
+
+pub zeros-true : (n : ℕ) → every (λ x. ltb x 1) (replicate n 0) ≡ true
+unfolding every
+zeros-true zero = refl
+zeros-true (suc n) = zeros-true n

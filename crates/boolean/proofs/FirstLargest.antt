@@ -6,14 +6,14 @@ use Prim.Native.Nat.{ℕ, _<_}
 use native.Mathlib.Omega.{arith}
 use lib.Dec.{ltb}
 use Rattle.boolean.specs.Sums.{each}
-use Rattle.boolean.specs.Selection.{Candidate, best, higher, firstLargest, First, here, there}
-use Rattle.boolean.proofs.Selection.{best-takes, best-keeps, best-step, firstLargest-first}
+use Rattle.boolean.specs.Selection.{Candidate, best, higher, firstLargest, FirstIn, here, there}
+use Rattle.boolean.proofs.Selection.{best-takes, best-keeps, best-step, firstLargest-chooses}
 
 -- a largest figure of 0 is the first candidate's
 pub firstLargest-none : (c : Candidate) (cs : List Candidate) → firstLargest (c ∷ cs) .figure ≡ 0 → firstLargest (c ∷ cs) ≡ c
-firstLargest-none c cs z = go (firstLargest-first c cs) z
+firstLargest-none c cs z = go (firstLargest-chooses .early refl) z
   where
-    go : {r : Candidate} → First (λ r d. d .figure < r .figure) r (c ∷ cs) → r .figure ≡ 0 → r ≡ c
+    go : {r : Candidate} → FirstIn (λ r d. d .figure < r .figure) r (c ∷ cs) → r .figure ≡ 0 → r ≡ c
     go here e = refl
     go (there s f) e = absurd (omega arith)
 

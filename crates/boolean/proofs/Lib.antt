@@ -13,8 +13,10 @@ pub mod Counted
 pub mod Largest
 pub mod Selection
 pub mod FirstLargest
+pub mod FirstOf
 pub mod Blocks
 pub mod Lists
+pub mod Halves
 pub mod Kept
 pub mod Components
 pub mod Members
@@ -40,3 +42,4 @@ pub mod Degrees
 pub mod AffineForms
 pub mod Shifts
 pub mod Swapped
+pub mod Histories

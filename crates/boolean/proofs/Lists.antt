@@ -8,10 +8,11 @@ use native.Mathlib.Nat.{add-zero, zero-add, le-refl, le-of-suc-le-suc, not-suc-l
 use native.Mathlib.Numerals.{add-one}
 use native.Mathlib.Omega.{arith}
 use native.Mathlib.Decide.{ℕ-discrete}
-use lib.ListN.{length, getD, take, drop, length-append, length-drop}
-use lib.Seq.{ext-getD, take-at, take-all}
+use lib.ListN.{length, getD, take, drop, length-append, length-drop, replicate, take-append-drop}
+use lib.Seq.{ext-getD, take-at, take-all, drop-drop}
 use Rattle.boolean.specs.Sums.{countBelow, one-if, listFrom, listBelow, each}
 use Rattle.boolean.specs.Selection.{Ascending, SameMembers}
+use Rattle.boolean.specs.Functions.{at}
 use Rattle.boolean.proofs.Selection.{of-cons}
 
 shift : (i k : ℕ) → suc i + k ≡ i + suc k
@@ -211,3 +212,13 @@ part-is last old k h = take-at last (drop k old) k h
 -- what is past a place, as `&l[h..]` hands it on
 pub upper-part : {A : Type 0} (h : ℕ) (l : List A) → take (length l - h) (drop h l) ≡ drop h l
 upper-part h l = take-all (length l - h) (drop h l) (omega (arith, length-drop h l))
+
+-- a list of zeros, at each place and past its end
+pub zeroes : (n k : ℕ) → at (replicate n 0) k ≡ 0
+zeroes zero k = refl
+zeroes (suc n) zero = refl
+zeroes (suc n) (suc k) = zeroes n k
+
+-- what follows a place: so many entries, and the rest
+pub part-then : {A : Type 0} (start n : ℕ) (l : List A) → drop start l ≡ take n (drop start l) ++ drop (start + n) l
+part-then {A} start n l = sym (take-append-drop n (drop start l)) ∙ ap (λ (r : List A). take n (drop start l) ++ r) (drop-drop n start l)

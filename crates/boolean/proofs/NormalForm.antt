@@ -10,7 +10,7 @@ use lib.Arith.{lt-one as below-one}
 use lib.Bits.{and-block, and-le-r, bitAnd, bitXor, xor-self, xor-zero-r}
 use lib.Dec.{eqb}
 use lib.Pow.{pow-pos}
-use Rattle.boolean.specs.Bits.{dot, within}
+use Rattle.boolean.specs.Bits.{dot, onesWithin}
 use Rattle.boolean.specs.Functions.{Boolean, at, coefficient, component}
 use Rattle.boolean.specs.Sums.{xorBelow}
 use Rattle.boolean.proofs.Digits.{component-dot}
@@ -33,18 +33,18 @@ low n z = ap (λ (k : ℕ). k + z) (zero-mul (2 ^ n)) ∙ zero-add z
 
 -- whether the ones of x lie within u, split at the top digit
 module _ (n u x : ℕ) (hu : u < 2 ^ n) (hx : x < 2 ^ n) where
-  pub within-01 : within u (2 ^ n + x) ≡ false
-  unfolding within
+  pub within-01 : onesWithin u (2 ^ n + x) ≡ false
+  unfolding onesWithin
   within-01 =
       let e : bitAnd (2 ^ n + x) u ≡ bitAnd x u = ap₂ bitAnd (sym (top n x)) (sym (low n u)) ∙ and-block n 1 0 x u hx hu ∙ low n (bitAnd x u) in
       ne-eqb (bitAnd (2 ^ n + x) u) (2 ^ n + x) (λ q. omega (arith, and-le-r x u))
 
-  pub within-10 : within (2 ^ n + u) x ≡ within u x
-  unfolding within
+  pub within-10 : onesWithin (2 ^ n + u) x ≡ onesWithin u x
+  unfolding onesWithin
   within-10 = ap (λ (z : ℕ). eqb z x) (ap₂ bitAnd (sym (low n x)) (sym (top n u)) ∙ and-block n 0 1 x u hx hu ∙ low n (bitAnd x u))
 
-  pub within-11 : within (2 ^ n + u) (2 ^ n + x) ≡ within u x
-  unfolding within
+  pub within-11 : onesWithin (2 ^ n + u) (2 ^ n + x) ≡ onesWithin u x
+  unfolding onesWithin
   within-11 =
       ap (λ (z : ℕ). eqb z (2 ^ n + x)) (ap₂ bitAnd (sym (top n x)) (sym (top n u)) ∙ and-block n 1 1 x u hx hu ∙ top n (bitAnd x u))
       ∙ eqb-add (2 ^ n) (bitAnd x u) x
@@ -52,12 +52,12 @@ module _ (n u x : ℕ) (hu : u < 2 ^ n) (hx : x < 2 ^ n) where
 -- ---- the coefficient at u
 pub coefficient-cong : (n : ℕ) (f g : ℕ → ℕ) (u : ℕ) → ((x : ℕ) → x < 2 ^ n → f x ≡ g x) → coefficient n f u ≡ coefficient n g u
 unfolding coefficient
-coefficient-cong n f g u h = xorBelow-cong (2 ^ n) _ _ (λ x l. ap (λ (z : ℕ). cond (within u x) z 0) (h x l))
+coefficient-cong n f g u h = xorBelow-cong (2 ^ n) _ _ (λ x l. ap (λ (z : ℕ). cond (onesWithin u x) z 0) (h x l))
 
 pub coefficient-xor : (n : ℕ) (f g : ℕ → ℕ) (u : ℕ) → coefficient n (λ x. bitXor (f x) (g x)) u ≡ bitXor (coefficient n f u) (coefficient n g u)
 unfolding coefficient
 coefficient-xor n f g u =
-    xorBelow-cong (2 ^ n) _ _ (λ x l. both (within u x) (f x) (g x)) ∙ xorBelow-xor (2 ^ n) (λ x. cond (within u x) (f x) 0) (λ x. cond (within u x) (g x) 0)
+    xorBelow-cong (2 ^ n) _ _ (λ x l. both (onesWithin u x) (f x) (g x)) ∙ xorBelow-xor (2 ^ n) (λ x. cond (onesWithin u x) (f x) 0) (λ x. cond (onesWithin u x) (g x) 0)
   where
     both : (t : Bool) (a b : ℕ) → cond t (bitXor a b) 0 ≡ bitXor (cond t a 0) (cond t b 0)
     both true a b = refl
@@ -65,7 +65,7 @@ coefficient-xor n f g u =
 
 pub coefficient-lt : (k n : ℕ) (f : ℕ → ℕ) (u : ℕ) → ((x : ℕ) → x < 2 ^ n → f x < 2 ^ k) → coefficient n f u < 2 ^ k
 unfolding coefficient
-coefficient-lt k n f u h = xorBelow-lt k (2 ^ n) (λ x. cond (within u x) (f x) 0) (λ x l. pick (within u x) (h x l))
+coefficient-lt k n f u h = xorBelow-lt k (2 ^ n) (λ x. cond (onesWithin u x) (f x) 0) (λ x l. pick (onesWithin u x) (h x l))
   where
     pick : {a : ℕ} (t : Bool) → a < 2 ^ k → cond t a 0 < 2 ^ k
     pick true l = l
@@ -77,7 +77,7 @@ coefficient-boolean n f u h = coefficient-lt 1 n f u h
 -- of nothing
 pub coefficient-none : (n u : ℕ) → coefficient n (λ x. 0) u ≡ 0
 unfolding coefficient
-coefficient-none n u = xorBelow-zero (2 ^ n) _ (λ x l. pick (within u x))
+coefficient-none n u = xorBelow-zero (2 ^ n) _ (λ x l. pick (onesWithin u x))
   where
     pick : (t : Bool) → _≡_ {A = ℕ} (cond t 0 0) 0
     pick true = refl
@@ -91,7 +91,7 @@ dot-xorBelow (suc k) f c = dot-xor (xorBelow k f) (f k) c ∙ ap (λ (z : ℕ). 
 
 pub coefficient-component : (n : ℕ) (rows : List ℕ) (c u : ℕ) → dot (coefficient n (at rows) u) c ≡ coefficient n (component rows c) u
 unfolding coefficient
-coefficient-component n rows c u = dot-xorBelow (2 ^ n) _ c ∙ xorBelow-cong (2 ^ n) _ _ (λ x l. pick (within u x) (at rows x) (component rows c x) (sym (component-dot rows c x)))
+coefficient-component n rows c u = dot-xorBelow (2 ^ n) _ c ∙ xorBelow-cong (2 ^ n) _ _ (λ x l. pick (onesWithin u x) (at rows x) (component rows c x) (sym (component-dot rows c x)))
   where
     pick : (t : Bool) (a b : ℕ) → dot a c ≡ b → dot (cond t a 0) c ≡ cond t b 0
     pick true a b e = e
@@ -101,14 +101,14 @@ coefficient-component n rows c u = dot-xorBelow (2 ^ n) _ c ∙ xorBelow-cong (2
 pub coefficient-low : (n : ℕ) (f : ℕ → ℕ) (u : ℕ) → u < 2 ^ n → coefficient (suc n) f u ≡ coefficient n f u
 unfolding coefficient
 coefficient-low n f u h =
-    xorBelow-halves n (λ x. cond (within u x) (f x) 0)
+    xorBelow-halves n (λ x. cond (onesWithin u x) (f x) 0)
     ∙ ap (bitXor (coefficient n f u)) (xorBelow-zero (2 ^ n) _ (λ x l. ap (λ (t : Bool). cond t (f (2 ^ n + x)) 0) (within-01 n u x h l)))
     ∙ xor-zero-r (coefficient n f u)
 
 pub coefficient-high : (n : ℕ) (f : ℕ → ℕ) (u : ℕ) → u < 2 ^ n → coefficient (suc n) f (2 ^ n + u) ≡ bitXor (coefficient n f u) (coefficient n (λ x. f (2 ^ n + x)) u)
 unfolding coefficient
 coefficient-high n f u h =
-    xorBelow-halves n (λ x. cond (within (2 ^ n + u) x) (f x) 0)
+    xorBelow-halves n (λ x. cond (onesWithin (2 ^ n + u) x) (f x) 0)
     ∙ ap₂ bitXor (xorBelow-cong (2 ^ n) _ _ (λ x l. ap (λ (t : Bool). cond t (f x) 0) (within-10 n u x h l)))
     (xorBelow-cong (2 ^ n) _ _ (λ x l. ap (λ (t : Bool). cond t (f (2 ^ n + x)) 0) (within-11 n u x h l)))
 
@@ -126,7 +126,7 @@ coefficient-constant (suc n) t u h ne =
     (λ u l e. coefficient-high n (λ x. t) u l ∙ xor-self (coefficient n (λ x. t) u)) u h ne
 
 pub coefficient-zero : (f : ℕ → ℕ) → coefficient 0 f 0 ≡ f 0
-unfolding coefficient xorBelow within
+unfolding coefficient xorBelow onesWithin
 coefficient-zero f = refl
 
 -- ---- the rule is its own inverse

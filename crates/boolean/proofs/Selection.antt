@@ -4,11 +4,11 @@ use mathlib.Core.Logic.{_⊎_, inl, inr}
 use mathlib.Core.Bool.{Bool, true, false, _&&_, _||_, true≢false, false≢true}
 use mathlib.Core.List.{List, [], _∷_, _++_, List·Memᴰ, List·Memᴰ·head, List·Memᴰ·tail, List·Memᴰ·not-nil}
 use Prim.Native.Nat.{ℕ, _<_, _≤_}
-use native.Mathlib.Nat.{le-refl, le-antisymm}
+use native.Mathlib.Nat.{le-refl}
 use native.Mathlib.Omega.{arith}
-use borrow.Author.Tests.{ltb-true, ltb-false, eqb-true, eqb-false, lt-ltb, le-ltb}
+use borrow.Author.Tests.{ltb-true, ltb-false, eqb-true, eqb-false, le-ltb}
 use lib.Dec.{ltb, eqb}
-use Rattle.boolean.specs.Selection.{Candidate, best, lower, higher, firstBest, firstLeast, firstLargest, Ascending, SameMembers, ranked, First, here, there}
+use Rattle.boolean.specs.Selection.{Candidate, best, lower, higher, firstBest, firstLeast, firstLargest, Ascending, SameMembers, ranked, FirstIn, here, there}
 use Rattle.boolean.specs.Statements.{Ordered, ByFigure}
 
 -- a member of a list is its head or a member of the rest
@@ -59,7 +59,7 @@ module _ {C : Type 0} (beats : C → C → Bool) where
   best-stays b (c ∷ cs) h = best-keeps b c cs (h c (List·Memᴰ·head refl)) ∙ best-stays b cs (λ d m. h d (List·Memᴰ·tail m))
 
   -- it is r where r beats b and each candidate before it, and none beats r
-  pub best-is : (b r : C) {cs : List C} → beats r b ≡ true → First (λ r c. beats r c ≡ true) r cs → ((c : C) → List·Memᴰ c cs → beats c r ≡ false)
+  pub best-is : (b r : C) {cs : List C} → beats r b ≡ true → FirstIn (λ r c. beats r c ≡ true) r cs → ((c : C) → List·Memᴰ c cs → beats c r ≡ false)
       → best beats b cs ≡ r
   best-is b r t (here {cs}) h = best-takes b r cs t ∙ best-stays r cs (λ d m. h d (List·Memᴰ·tail m))
   best-is b r t (there {c} {cs} s f) h =
@@ -95,14 +95,14 @@ module _ {C : Type 0} {beats : C → C → Bool} {R S : C → C → Type 0} (o :
       of-cons (R (best beats b cs)) h (λ n. of-cons (R (best beats b cs)) (o .trans _ b d h (o .loses d b e)) (λ k. best-all b cs c (List·Memᴰ·tail k)) n) m)
 
   -- it is better than each candidate before it
-  pub best-first : (b : C) (cs : List C) → First S (best beats b cs) (b ∷ cs)
+  pub best-first : (b : C) (cs : List C) → FirstIn S (best beats b cs) (b ∷ cs)
   unfolding best
   best-first b [] = here
-  best-first b (c ∷ cs) = best-step beats (λ z. First S z (b ∷ c ∷ cs)) b c cs
+  best-first b (c ∷ cs) = best-step beats (λ z. FirstIn S z (b ∷ c ∷ cs)) b c cs
       (λ e. there (o .left _ c b (best-all c cs c (List·Memᴰ·head refl)) (o .wins c b e)) (best-first c cs))
       (λ e. insert (o .loses c b e) (best-first b cs))
     where
-      insert : {r : C} → R b c → First S r (b ∷ cs) → First S r (b ∷ c ∷ cs)
+      insert : {r : C} → R b c → FirstIn S r (b ∷ cs) → FirstIn S r (b ∷ c ∷ cs)
       insert q here = here
       insert {r} q (there s f) = there s (there (o .right r b c s q) f)
 
@@ -123,36 +123,6 @@ Lt a b = a .figure < b .figure
 pub least : Ordered lower Le Lt
 least = omega (arith, ltb-true, ltb-false)
 
-pub firstLeast-le : (cs : List Candidate) (c : Candidate) → List·Memᴰ c cs → firstLeast cs .figure ≤ c .figure
-unfolding firstLeast
-firstLeast-le [] c m = absurd (List·Memᴰ·not-nil m)
-firstLeast-le (b ∷ cs) c m = best-all least b cs c m
-
-pub firstLeast-mem : (c : Candidate) (cs : List Candidate) → List·Memᴰ (firstLeast (c ∷ cs)) (c ∷ cs)
-unfolding firstLeast
-firstLeast-mem = best-mem lower
-
-pub firstLeast-first : (c : Candidate) (cs : List Candidate) → First (λ r d. r .figure < d .figure) (firstLeast (c ∷ cs)) (c ∷ cs)
-unfolding firstLeast
-firstLeast-first = best-first least
-
-pub firstLeast-append : (c : Candidate) (cs ds : List Candidate) → firstLeast ((c ∷ cs) ++ ds) ≡ best lower (firstLeast (c ∷ cs)) ds
-unfolding firstLeast
-firstLeast-append = best-append lower
-
--- a loop starts from a candidate that every real one beats
-pub firstLeast-from : (b c : Candidate) (cs : List Candidate) → c .figure < b .figure → best lower b (c ∷ cs) ≡ firstLeast (c ∷ cs)
-unfolding firstLeast
-firstLeast-from b c cs h = best-takes lower b c cs (lt-ltb _ _ h)
-
--- lists whose figures are matched by the other's have one least figure
-pub least-figure-same : (c : Candidate) (cs : List Candidate) (d : Candidate) (ds : List Candidate)
-    → ((x : Candidate) → List·Memᴰ x (c ∷ cs) → (y : Candidate) × List·Memᴰ y (d ∷ ds) × (y .figure ≤ x .figure))
-    → ((y : Candidate) → List·Memᴰ y (d ∷ ds) → (x : Candidate) × List·Memᴰ x (c ∷ cs) × (x .figure ≤ y .figure))
-    → firstLeast (c ∷ cs) .figure ≡ firstLeast (d ∷ ds) .figure
-unfolding firstLeast
-least-figure-same c cs d ds p q = le-antisymm (best-below least c cs d ds q) (best-below least d ds c cs p)
-
 -- the first largest
 abbrev pub Ge : Candidate → Candidate → Type 0
 Ge a b = b .figure ≤ a .figure
@@ -162,27 +132,6 @@ Gt a b = b .figure < a .figure
 
 pub largest : Ordered higher Ge Gt
 largest = omega (arith, ltb-true, ltb-false)
-
-pub firstLargest-ge : (cs : List Candidate) (c : Candidate) → List·Memᴰ c cs → c .figure ≤ firstLargest cs .figure
-unfolding firstLargest
-firstLargest-ge [] c m = absurd (List·Memᴰ·not-nil m)
-firstLargest-ge (b ∷ cs) c m = best-all largest b cs c m
-
-pub firstLargest-mem : (c : Candidate) (cs : List Candidate) → List·Memᴰ (firstLargest (c ∷ cs)) (c ∷ cs)
-unfolding firstLargest
-firstLargest-mem = best-mem higher
-
-pub firstLargest-first : (c : Candidate) (cs : List Candidate) → First (λ r d. d .figure < r .figure) (firstLargest (c ∷ cs)) (c ∷ cs)
-unfolding firstLargest
-firstLargest-first = best-first largest
-
-pub firstLargest-append : (c : Candidate) (cs ds : List Candidate) → firstLargest ((c ∷ cs) ++ ds) ≡ best higher (firstLargest (c ∷ cs)) ds
-unfolding firstLargest
-firstLargest-append = best-append higher
-
-pub firstLargest-from : (b c : Candidate) (cs : List Candidate) → b .figure < c .figure → best higher b (c ∷ cs) ≡ firstLargest (c ∷ cs)
-unfolding firstLargest
-firstLargest-from b c cs h = best-takes higher b c cs (lt-ltb _ _ h)
 
 -- two starts of one figure give the same where some candidate beats them
 best-same : (b d : Candidate) (cs : List Candidate) → b .figure ≡ d .figure → (c : Candidate) → List·Memᴰ c cs → d .figure < c .figure
@@ -210,7 +159,7 @@ firstLargest-above b (x ∷ cs) e c m l =
     best-same b x cs (omega arith) c (of-cons (λ d. 0 < d .figure → List·Memᴰ d cs) (λ k. absurd (omega arith)) (λ n k. n) m l) (omega arith))
 
 -- the first best is r where r beats each candidate before it, and none beats r
-pub first-is : (beats : Candidate → Candidate → Bool) (r : Candidate) {cs : List Candidate} → First (λ r c. beats r c ≡ true) r cs
+pub first-is : (beats : Candidate → Candidate → Bool) (r : Candidate) {cs : List Candidate} → FirstIn (λ r c. beats r c ≡ true) r cs
     → ((c : Candidate) → List·Memᴰ c cs → beats c r ≡ false) → firstBest beats cs ≡ r
 first-is beats r (here {cs}) h = best-stays beats r cs (λ d m. h d (List·Memᴰ·tail m))
 first-is beats r (there {c} {cs} s f) h = best-is beats c r s f (λ d m. h d (List·Memᴰ·tail m))
@@ -317,35 +266,51 @@ module _ {beats : Candidate → Candidate → Bool} {R S : Candidate → Candida
   any-order cs visited a same =
       sym (first-is-ranked beats rank cs a ∙ ranked-order cs visited (ascending-one rank cs a) (λ x. (same x .1, same x .0)))
 
--- the first least
-pub firstLeast-ranked : (rank : Candidate → ℕ) (cs : List Candidate) → Ascending rank cs → firstLeast cs ≡ firstBest (ranked lower rank) cs
+-- ---- the first best of a list, whatever it is called: its laws, once for all comparisons
+pub record Chooses (beats : Candidate → Candidate → Bool) (R S : Candidate → Candidate → Type 0) (first : List Candidate → Candidate) : Type 0 where
+  -- it is at least as good as each candidate
+  pub all : (cs : List Candidate) (c : Candidate) → List·Memᴰ c cs → R (first cs) c
+  -- where there is one, it is one of them, and better than each before it
+  pub mem : {cs : List Candidate} {d : Candidate} {ds : List Candidate} → cs ≡ d ∷ ds → List·Memᴰ (first cs) cs
+  pub early : {cs : List Candidate} {d : Candidate} {ds : List Candidate} → cs ≡ d ∷ ds → FirstIn S (first cs) cs
+  -- a list in two parts
+  pub append : (c : Candidate) (cs ds : List Candidate) → first ((c ∷ cs) ++ ds) ≡ best beats (first (c ∷ cs)) ds
+  -- a loop starts from a candidate that the first one beats
+  pub from : (b c : Candidate) (cs : List Candidate) → beats c b ≡ true → best beats b (c ∷ cs) ≡ first (c ∷ cs)
+  -- with rising ranks the candidates may be visited in any order
+  pub visited : (rank : Candidate → ℕ) (cs ds : List Candidate) → Ascending rank cs → SameMembers ds cs → firstBest (ranked beats rank) ds ≡ first cs
+
+chooses : {beats : Candidate → Candidate → Bool} {R S : Candidate → Candidate → Type 0} → Ordered beats R S → ByFigure R S → Chooses beats R S (firstBest beats)
+chooses {beats} {R} {S} o f = record {
+  all = all;
+  mem = λ {cs} {d} {ds} e. subst (λ (l : List Candidate). List·Memᴰ (firstBest beats l) l) (sym e) (best-mem beats d ds);
+  early = λ {cs} {d} {ds} e. subst (λ (l : List Candidate). FirstIn S (firstBest beats l) l) (sym e) (best-first o d ds);
+  append = best-append beats;
+  from = best-takes beats;
+  visited = any-order o f;
+}
+  where
+    all : (cs : List Candidate) (c : Candidate) → List·Memᴰ c cs → R (firstBest beats cs) c
+    all [] c m = absurd (List·Memᴰ·not-nil m)
+    all (b ∷ cs) c m = best-all o b cs c m
+
+pub firstLeast-chooses : Chooses lower Le Lt firstLeast
 unfolding firstLeast
-firstLeast-ranked = first-is-ranked lower
+firstLeast-chooses = chooses least by-least
 
-pub firstLeast-any-order : (rank : Candidate → ℕ) (cs visited : List Candidate) → Ascending rank cs → SameMembers visited cs
-    → firstBest (ranked lower rank) visited ≡ firstLeast cs
-unfolding firstLeast
-firstLeast-any-order = any-order least by-least
-
--- the first largest
-pub firstLargest-ranked : (rank : Candidate → ℕ) (cs : List Candidate) → Ascending rank cs → firstLargest cs ≡ firstBest (ranked higher rank) cs
+pub firstLargest-chooses : Chooses higher Ge Gt firstLargest
 unfolding firstLargest
-firstLargest-ranked = first-is-ranked higher
-
-pub firstLargest-any-order : (rank : Candidate → ℕ) (cs visited : List Candidate) → Ascending rank cs → SameMembers visited cs
-    → firstBest (ranked higher rank) visited ≡ firstLargest cs
-unfolding firstLargest
-firstLargest-any-order = any-order largest by-largest
+firstLargest-chooses = chooses largest by-largest
 
 -- what is first along rising ranks stands to each candidate of a lower rank as to those before it
-pub first-ranked : {C : Type 0} (rank : C → ℕ) (S : C → C → Type 0) {r : C} {cs : List C} → Ascending rank cs → First S r cs
+pub first-ranked : {C : Type 0} (rank : C → ℕ) (S : C → C → Type 0) {r : C} {cs : List C} → Ascending rank cs → FirstIn S r cs
     → (c : C) → List·Memᴰ c cs → rank c < rank r → S r c
 first-ranked rank S {r} a here c m l = of-cons (λ z. rank z < rank r → S r z) (λ k. absurd (omega arith)) (λ n k. absurd (omega (arith, a .0 c n))) m l
 first-ranked rank S {r} a (there s f) c m l = of-cons (S r) s (λ n. first-ranked rank S (a .1) f c n l) m
 
 -- a member that stands so to each candidate of a lower rank is first
 pub ranked-first : {C : Type 0} (rank : C → ℕ) (S : C → C → Type 0) (r : C) (cs : List C) → Ascending rank cs → List·Memᴰ r cs
-    → ((c : C) → List·Memᴰ c cs → rank c < rank r → S r c) → First S r cs
+    → ((c : C) → List·Memᴰ c cs → rank c < rank r → S r c) → FirstIn S r cs
 ranked-first rank S r [] a m h = absurd (List·Memᴰ·not-nil m)
 ranked-first rank S r (c ∷ cs) a (List·Memᴰ·head e) h = rw (← e) here
 ranked-first rank S r (c ∷ cs) a (List·Memᴰ·tail m) h =

@@ -1,10 +1,11 @@
 -- The size of an integer, `natAbs`: of sums, differences, and transforms.
-use mathlib.Core.Path.{_≡_, refl, ap, _∙_}
+use mathlib.Core.Path.{_≡_, refl, ap, _∙_, sym}
 use mathlib.Core.Logic.{_⊎_, inl, inr}
 use mathlib.Core.Bool.{Bool, true, false, cond}
-use Prim.Native.Nat.{ℕ, zero, suc, _+_, _*_, _-_, _^_, _<_, _≤_}
-use native.Mathlib.Nat.{le-refl, le-trans, le-suc, le-of-eq, suc-mul}
+use Prim.Native.Nat.{ℕ, zero, suc, _+_, _*_, _-_, _^_, _<_, _≤_, zero-le}
+use native.Mathlib.Nat.{le-refl, le-trans, le-suc, le-of-eq, suc-mul, mul-zero}
 use native.Mathlib.Omega.{arith}
+use native.Mathlib.Decide.{ℕ-discrete}
 use lib.Dec.{ltb}
 use lib.IntN.{ℤ, pos, negsuc, _+ℤ_, _-ℤ_, _*ℤ_, negℤ, natAbs}
 use Rattle.boolean.specs.Bits.{dot}
@@ -62,6 +63,23 @@ pub sum-bound : (k m : ℕ) (f : ℕ → ℤ) → ((x : ℕ) → x < k → natAb
 unfolding sumBelow
 sum-bound zero m f h = omega arith
 sum-bound (suc k) m f h = omega (arith, abs-add (sumBelow k f) (f k), sum-bound k m f (λ x l. h x (le-trans l (le-suc k))), h k (le-refl (suc k)), suc-mul k m)
+
+-- where at most one term is not 0, the sum is no larger than the terms
+pub single-bound : (k M v : ℕ) (key : ℕ → ℕ) (F : ℕ → ℤ)
+    → ((x : ℕ) → x < k → natAbs (F x) ≤ M)
+    → ((x : ℕ) → x < k → (key x ≡ v → ⊥) → natAbs (F x) ≤ 0)
+    → ((x y : ℕ) → x < y → y < k → key x ≡ key y → ⊥)
+    → natAbs (sumBelow k F) ≤ M
+unfolding sumBelow
+single-bound zero M v key F b z d = zero-le
+single-bound (suc k) M v key F b z d =
+    pick (single-bound k M v key F (λ x l. b x (le-trans l (le-suc k))) (λ x l. z x (le-trans l (le-suc k))) (λ x y l m. d x y l (le-trans m (le-suc k)))) (ℕ-discrete (key k) v)
+  where
+    pick : natAbs (sumBelow k F) ≤ M → Dec (key k ≡ v) → natAbs (sumBelow k F +ℤ F k) ≤ M
+    pick rec (yes q) =
+        let none = sum-bound k 0 F (λ x l. z x (le-trans l (le-suc k)) (λ p. d x k l (le-refl (suc k)) (p ∙ sym q))) in
+        omega (arith, none, mul-zero k, abs-add (sumBelow k F) (F k), b k (le-refl (suc k)))
+    pick rec (no q) = omega (arith, rec, abs-add (sumBelow k F) (F k), z k (le-refl (suc k)) q)
 
 pub transform-bound : (n m : ℕ) (F : ℕ → ℤ) (w : ℕ) → ((x : ℕ) → x < 2 ^ n → natAbs (F x) ≤ m) → natAbs (transform n F w) ≤ 2 ^ n * m
 unfolding transform

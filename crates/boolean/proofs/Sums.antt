@@ -1,7 +1,7 @@
 -- Sums over the numbers below k.
 use mathlib.Core.Path.{_≡_, refl, sym, ap, ap₂, _∙_}
-use Prim.Native.Nat.{ℕ, zero, suc, _+_, _*_, _-_, _^_, _<_}
-use native.Mathlib.Nat.{add-zero, add-suc, le-refl, le-suc, le-trans, two-pow-succ}
+use Prim.Native.Nat.{ℕ, zero, suc, _+_, _*_, _^_, _<_}
+use native.Mathlib.Nat.{add-zero, add-suc, le-refl, le-suc, le-trans, two-pow-succ, suc-mul, zero-mul}
 use lib.IntN.{ℤ, pos, _+ℤ_, _*ℤ_, negℤ, +ℤ-idr, +ℤ-assoc, negℤ-+ℤ, *ℤ-zero}
 use Rattle.boolean.specs.Sums.{sumBelow}
 use Rattle.boolean.proofs.Ints.{add4, *ℤ-distl}
@@ -17,6 +17,13 @@ sum-split a zero f = ap (λ (z : ℕ). sumBelow z f) (add-zero a) ∙ sym (+ℤ-
 sum-split a (suc b) f =
     ap (λ (z : ℕ). sumBelow z f) (add-suc a b) ∙ ap (λ (z : ℤ). z +ℤ f (a + b)) (sum-split a b f)
     ∙ +ℤ-assoc (sumBelow a f) (sumBelow b (λ x. f (a + x))) (f (a + b))
+
+-- over a × b numbers, block by block
+pub sum-blocks : (a b : ℕ) (F : ℕ → ℤ) → sumBelow (a * b) F ≡ sumBelow a (λ x. sumBelow b (λ y. F (x * b + y)))
+unfolding sumBelow
+sum-blocks zero b F = ap (λ (z : ℕ). sumBelow z F) (zero-mul b)
+sum-blocks (suc a) b F =
+    ap (λ (z : ℕ). sumBelow z F) (suc-mul a b) ∙ sum-split (a * b) b F ∙ ap (λ (z : ℤ). z +ℤ sumBelow b (λ y. F (a * b + y))) (sum-blocks a b F)
 
 -- over all numbers of one digit more: the lower half and the upper
 pub sum-halves : (n : ℕ) (f : ℕ → ℤ) → sumBelow (2 ^ suc n) f ≡ sumBelow (2 ^ n) f +ℤ sumBelow (2 ^ n) (λ x. f (2 ^ n + x))

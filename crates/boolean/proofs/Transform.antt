@@ -1,12 +1,12 @@
 -- The Walsh-Hadamard transform of tables of integers: halving, Parseval, inversion, and the transform of a correlation.
 use mathlib.Core.Path.{_≡_, sym, ap, ap₂, _∙_, subst}
-use Prim.Native.Nat.{ℕ, zero, suc, _+_, _*_, _-_, _^_, _<_}
+use Prim.Native.Nat.{ℕ, zero, suc, _+_, _-_, _^_, _<_}
 use native.Mathlib.Nat.{zero-add, one-mul, zero-mul, two-pow-succ}
 use native.Mathlib.Omega.{arith}
 use native.Mathlib.Decide.{decLt}
 use lib.Arith.{lt-one as below-one}
 use lib.Bits.{bitXor, xor-block}
-use lib.IntN.{ℤ, pos, _+ℤ_, _-ℤ_, _*ℤ_, negℤ, +ℤ-idl}
+use lib.IntN.{ℤ, pos, _+ℤ_, _-ℤ_, _*ℤ_, negℤ, +ℤ-idl, +ℤ-invr}
 use Rattle.boolean.specs.Bits.{dot}
 use Rattle.boolean.specs.Functions.{sign, transform}
 use Rattle.boolean.specs.Sums.{sumBelow}
@@ -205,3 +205,10 @@ convolution zero F G w h =
     ap (λ (y : ℕ). transform 0 (λ s. cross 0 F G s) y) (below-one h) ∙ transform-zero (λ s. cross 0 F G s) ∙ cross-zero F G
     ∙ sym (ap (λ (y : ℕ). transform 0 F y *ℤ transform 0 G y) (below-one h) ∙ ap₂ (λ (a b : ℤ). a *ℤ b) (transform-zero F) (transform-zero G))
 convolution (suc n) F G w h = conv-step n (λ A B v l. convolution n A B v l) F G w h
+
+-- the signs of w·x cancel over all x, unless w is 0
+pub signs-cancel : (n : ℕ) (c : ℤ) (w : ℕ) → w < 2 ^ n → (w ≡ 0 → ⊥) → transform n (λ x. c) w ≡ pos 0
+signs-cancel zero c w l g = absurd (g (below-one l))
+signs-cancel (suc n) c w l g = half-cases n (λ w. (w ≡ 0 → ⊥) → transform (suc n) (λ x. c) w ≡ pos 0)
+    (λ w l g. transform-low n (λ x. c) w l ∙ ap (λ (z : ℤ). z +ℤ z) (signs-cancel n c w l g))
+    (λ w l g. transform-high n (λ x. c) w l ∙ +ℤ-invr (transform n (λ x. c) w)) w l g

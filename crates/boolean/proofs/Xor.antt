@@ -1,11 +1,11 @@
 -- XOR as a group's operation, and XORs over the numbers below k.
 use mathlib.Core.Path.{_≡_, refl, sym, ap, ap₂, _∙_}
-use Prim.Native.Nat.{ℕ, zero, suc, _+_, _/_, _%_, _^_, _<_}
+use Prim.Native.Nat.{ℕ, zero, suc, _+_, _/_, _%_, _^_, _<_, _*_}
 use native.Mathlib.Nat.{add-zero, add-suc, le-refl, le-suc, le-trans, mod-lt, two-pow-succ, zero-lt-suc}
 use native.Mathlib.Omega.{arith}
 use lib.Arith.{bin-ind}
 use lib.Pow.{pow-pos}
-use lib.Bits.{bitXor, xor-comm, xor-lt, xor-mod, xor-self, xor-shr, xor-zero-r}
+use lib.Bits.{bitXor, xor-comm, xor-lt, xor-mod, xor-self, xor-shr, xor-zero-r, xor-block}
 use Rattle.boolean.specs.Sums.{xorBelow}
 use Rattle.boolean.proofs.Cases.{eq3}
 
@@ -37,6 +37,11 @@ xor-equal v w e = sym (xor-cancel-left v w) ∙ ap (bitXor v) e ∙ xor-zero-r v
 
 pub xor-interchange : (a b c d : ℕ) → bitXor (bitXor a b) (bitXor c d) ≡ bitXor (bitXor a c) (bitXor b d)
 xor-interchange a b c d = xor-assoc a b (bitXor c d) ∙ ap (bitXor a) (xor-left-comm b c d) ∙ sym (xor-assoc a c (bitXor b d))
+
+-- the XOR of two numbers, k places up
+pub xor-placed : (k a b : ℕ) → bitXor a b * 2 ^ k ≡ bitXor (a * 2 ^ k) (b * 2 ^ k)
+xor-placed k a b =
+    sym (ap₂ bitXor (sym (add-zero (a * 2 ^ k))) (sym (add-zero (b * 2 ^ k))) ∙ xor-block k a b 0 0 (pow-pos k) (pow-pos k) ∙ add-zero (bitXor a b * 2 ^ k))
 
 -- ---- over the numbers below k
 pub xorBelow-cong : (k : ℕ) (f g : ℕ → ℕ) → ((x : ℕ) → x < k → f x ≡ g x) → xorBelow k f ≡ xorBelow k g

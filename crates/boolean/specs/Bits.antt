@@ -19,10 +19,10 @@ unfoldable pub affine : (w b x : ℕ) → ℕ
 unfolding dot
 affine w b x = bitXor (dot w x) b
 
--- bit j of v, the lowest being bit 1
+-- bit j of v, the lowest being bit 1 (j = 0, which no call reaches, reads as 1: natural numbers stop at 0)
 unfoldable pub bit : (j v : ℕ) → ℕ
 bit j v = v / 2 ^ (j - 1) % 2
 
 -- whether the ones of x lie within u
-unfoldable pub within : (u x : ℕ) → Bool
-within u x = eqb (bitAnd x u) x
+unfoldable pub onesWithin : (u x : ℕ) → Bool
+onesWithin u x = eqb (bitAnd x u) x

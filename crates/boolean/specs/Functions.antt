@@ -9,14 +9,14 @@ use lib.Count.{ones}
 use lib.Dec.{eqb}
 use lib.ListN.{length, getD, set}
 use lib.IntN.{ℤ, pos, negsuc, _-ℤ_, _*ℤ_, negℤ, natAbs}
-use Rattle.boolean.specs.Bits.{parity, dot, affine, bit, within}
+use Rattle.boolean.specs.Bits.{parity, dot, affine, bit, onesWithin}
 use Rattle.boolean.specs.Sums.{sumBelow, countBelow, xorBelow, largestBelow, listFrom, listBelow, each, keep}
 
 -- every value of f at an input of n bits is 0 or 1
 abbrev pub Boolean : (n : ℕ) (f : ℕ → ℕ) → Type 0
 Boolean n f = (x : ℕ) → x < 2 ^ n → f x < 2
 
--- a truth table, or the rows of a box, as a function: the entry at x
+-- a truth table, or the rows of a box, as a function: the entry at x, and 0 past the end
 abbrev pub at : (table : List ℕ) (x : ℕ) → ℕ
 at table x = getD table x 0
 
@@ -24,7 +24,7 @@ at table x = getD table x 0
 unfoldable pub swapped : (rows : List ℕ) (x y : ℕ) → List ℕ
 swapped rows x y = set (set rows x (at rows y)) y (at rows x)
 
--- the same of a list of integers
+-- the entry at w of a list of integers, and 0 past its end
 abbrev pub valueAt : (values : List ℤ) (w : ℕ) → ℤ
 valueAt values w = getD values w (pos 0)
 
@@ -79,8 +79,8 @@ changes n f d = countBelow (2 ^ n) (λ x. not (eqb (f x) (f (bitXor x d))))
 
 -- the normal form's coefficient at u: the XOR of f(x) over all x whose ones lie within u
 unfoldable pub coefficient : (n : ℕ) (f : ℕ → ℕ) (u : ℕ) → ℕ
-unfolding xorBelow within
-coefficient n f u = xorBelow (2 ^ n) (λ x. cond (within u x) (f x) 0)
+unfolding xorBelow onesWithin
+coefficient n f u = xorBelow (2 ^ n) (λ x. cond (onesWithin u x) (f x) 0)
 
 -- the normal form: the coefficients at 0, 1, .., 2^n − 1
 unfoldable pub normalForm : (n : ℕ) (f : ℕ → ℕ) → List ℕ
@@ -103,7 +103,7 @@ unfolding parity
 component rows c x = parity (bitAnd (at rows x) c)
 
 -- v is not 0, lies below the end and has at most k ones
-pub record Within (k end v : ℕ) : Type 0 where
+pub record MaskWithin (k end v : ℕ) : Type 0 where
   pub low : 1 ≤ v
   pub high : v < end
   pub few : ones v ≤ k

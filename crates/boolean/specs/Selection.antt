@@ -61,6 +61,6 @@ abbrev pub SameMembers : {C : Type 0} (xs ys : List C) → Type 0
 SameMembers {C} xs ys = (x : C) → List·Memᴰ x xs ↔ List·Memᴰ x ys
 
 -- r stands in the list, and S holds of it and each candidate before it
-pub data First {C : Type 0} (S : C → C → Type 0) (r : C) : List C → Type 0 where
-  here : {cs : List C} → First S r (r ∷ cs)
-  there : {c : C} {cs : List C} → S r c → First S r cs → First S r (c ∷ cs)
+pub data FirstIn {C : Type 0} (S : C → C → Type 0) (r : C) : List C → Type 0 where
+  here : {cs : List C} → FirstIn S r (r ∷ cs)
+  there : {c : C} {cs : List C} → S r c → FirstIn S r cs → FirstIn S r (c ∷ cs)

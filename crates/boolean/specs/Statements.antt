@@ -1,9 +1,9 @@
--- What the laws of selections and of functions say; no contract needs it.
+-- What the laws of selections, of functions and of histories say; no contract needs it.
 use Prim.Native.Nat.{ℕ, _-_, _^_, _<_}
 use mathlib.Core.Path.{_≡_}
 use mathlib.Core.Logic.{_⊎_}
 use mathlib.Core.Bool.{Bool, true, false}
-use mathlib.Core.List.{List}
+use mathlib.Core.List.{List, [], _∷_, _++_}
 use lib.Count.{ones}
 use lib.Dec.{leb}
 use lib.IntN.{ℤ, pos, negℤ}
@@ -38,6 +38,13 @@ Same n f g = (x : ℕ) → x < 2 ^ n → f x ≡ g x
 -- f is an affine function of n inputs
 abbrev pub IsAffine : (n : ℕ) (f : ℕ → ℕ) → Type 0
 IsAffine n f = (w b : ℕ) × (w < 2 ^ n) × (b < 2) × Same n f (affine w b)
+
+-- A value that its own calls made, as a design or a server. `Begun v` says that a first call gave v, and `Called o v w` that the call of
+-- operation o took v and gave w. So v came from a first call and then from calls of the operations, one after the other, with any
+-- arguments; any of them may have been refused.
+pub data MadeBy {A O : Type 0} (Begun : A → Type 0) (Called : O → A → A → Type 0) : List O → A → Type 0 where
+  begins : {v : A} → Begun v → MadeBy Begun Called [] v
+  goes-on : {os : List O} {v w : A} (o : O) → MadeBy Begun Called os v → Called o v w → MadeBy Begun Called (os ++ (o ∷ [])) w
 
 -- an integer is 2^(n−1) or −2^(n−1)
 abbrev pub Full : (n : ℕ) (z : ℤ) → Type 0

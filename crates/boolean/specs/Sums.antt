@@ -13,7 +13,7 @@ unfoldable pub sumBelow : (k : ℕ) (F : ℕ → ℤ) → ℤ
 sumBelow zero F = pos zero
 sumBelow (suc k) F = sumBelow k F +ℤ F k
 
--- the same of natural numbers
+-- f 0 + f 1 + .. + f (k − 1), of natural numbers
 unfoldable pub totalBelow : (k : ℕ) (f : ℕ → ℕ) → ℕ
 totalBelow zero f = zero
 totalBelow (suc k) f = totalBelow k f + f k
@@ -58,6 +58,11 @@ every p (x ∷ xs) = p x && every p xs
 unfoldable pub keep : {A : Type 0} (p : A → Bool) (xs : List A) → List A
 unfolding each
 keep p xs = each xs (λ x. elim (p x) [ true ↦ x ∷ [] | false ↦ [] ])
+
+-- the first member that passes the test, and none where no member does
+unfoldable pub firstOf : {A : Type 0} (p : A → Bool) (xs : List A) → List A
+firstOf p [] = []
+firstOf p (x ∷ xs) = elim (p x) [ true ↦ x ∷ [] | false ↦ firstOf p xs ]
 
 -- the largest of f 0, f 1, .., f (k − 1), and 0 where there are none
 unfoldable pub largestBelow : (k : ℕ) (f : ℕ → ℕ) → ℕ

@@ -9,23 +9,23 @@ use Rattle.refusals.specs.Table.{boxChecks, Box}
 use Rattle.refusals.specs.declared.Checked.the-variants.{Accepted}
 use Rattle.refusals.proofs.Checks.{passed, accepted, box}
 use Rattle.boolean.proofs.Lists.{length-listBelow, getD-listBelow}
-use Rattle.boxfile.specs.File.{rowAt, rowsOf, readChecks, fileChecks, fileFound}
+use Rattle.boxfile.specs.File.{rowAt, fileRows, readChecks, fileChecks, fileFound}
 
-pub length-rows : (file : List ℕ) (n : ℕ) → length (rowsOf file n) ≡ 2 ^ n
-unfolding rowsOf
+pub length-rows : (file : List ℕ) (n : ℕ) → length (fileRows file n) ≡ 2 ^ n
+unfolding fileRows
 length-rows file n = length-listBelow (2 ^ n) (λ x. rowAt file x)
 
-pub row-of-rows : (file : List ℕ) (n x : ℕ) → x < 2 ^ n → at (rowsOf file n) x ≡ rowAt file x
-unfolding rowsOf
+pub row-of-rows : (file : List ℕ) (n x : ℕ) → x < 2 ^ n → at (fileRows file n) x ≡ rowAt file x
+unfolding fileRows
 row-of-rows file n x l = getD-listBelow (2 ^ n) (λ x. rowAt file x) x 0 l
 
 -- the box of an accepted file is accepted
-pub box-of-file : (file : List ℕ) → fileFound file ≡ Accepted → Box (at file 0) (at file 1) (rowsOf file (at file 0))
+pub box-of-file : (file : List ℕ) → fileFound file ≡ Accepted → Box (at file 0) (at file 1) (fileRows file (at file 0))
 unfolding fileFound fileChecks readChecks
 box-of-file file h =
     let n = at file 0 in
     let m = at file 1 in
-    let rows = rowsOf file n in
+    let rows = fileRows file n in
     let p = passed (fileChecks file (2 ^ n)) h in
     let rows-many = eq-eqb (length rows) (2 ^ n) (length-rows file n) in
     box n m rows [] (accepted (boxChecks n m rows) (p .1 .0, (p .1 .1 .0, (rows-many, (p .1 .1 .1 .1 .0, tt)))))

@@ -17,18 +17,18 @@ unfoldable pub rowAt : (file : List ℕ) (x : ℕ) → ℕ
 rowAt file x = at file (4 * x + 2) + 256 * at file (4 * x + 3) + 65536 * at file (4 * x + 4) + 16777216 * at file (4 * x + 5)
 
 -- the rows of a box of n inputs
-unfoldable pub rowsOf : (file : List ℕ) (n : ℕ) → List ℕ
+unfoldable pub fileRows : (file : List ℕ) (n : ℕ) → List ℕ
 unfolding listBelow rowAt
-rowsOf file n = listBelow (2 ^ n) (λ x. rowAt file x)
+fileRows file n = listBelow (2 ^ n) (λ x. rowAt file x)
 
 -- the checks once n and m have been read; the rows go to an array of that room
 unfoldable pub readChecks : (file : List ℕ) (n m room : ℕ) → List Check
-unfolding rowsOf
+unfolding fileRows
 readChecks file n m room =
     (InputWidth unless inRange 1 8 n)
     ∷ (OutputWidth unless inRange 1 32 m)
     ∷ (FileLength unless eqb (length file) (2 + 4 * 2 ^ n))
-    ∷ (Value unless allBelow (2 ^ m) (rowsOf file n))
+    ∷ (Value unless allBelow (2 ^ m) (fileRows file n))
     ∷ (WrittenLength unless eqb room (2 ^ n))
     ∷ []
 
@@ -38,15 +38,18 @@ unfolding readChecks
 fileChecks file room = (FileLength unless leb 2 (length file)) ∷ readChecks file (at file 0) (at file 1) room
 
 -- what the answer says: n and m, or the number of the refusal
-abbrev pub boxFile : BoxFile → Reply
-boxFile (Read n m) = figures (n ∷ m ∷ [])
-boxFile (Declined e) = refusal (number e)
+abbrev pub saidBoxFile : BoxFile → Reply
+saidBoxFile (Read n m) = figures (n ∷ m ∷ [])
+saidBoxFile (Declined e) = refusal (number e)
 
 -- how many rows the file's n asks for: none where a box has no such n, and an empty file, whose n reads as 0, is one of these
 unfoldable pub roomOf : (file : List ℕ) → ℕ
 roomOf file = cond (inRange 1 8 (at file 0)) (2 ^ at file 0) 0
 
--- what the checks of a file find where its rows are given the room that they take: no reader of the file alone is refused by 7
+-- the checks of a file alone, as where its rows are given the room that they take: none is refused by 7; and what they find
+abbrev pub aloneChecks : (file : List ℕ) → List Check
+aloneChecks file = fileChecks file (2 ^ at file 0)
+
 unfoldable pub fileFound : (file : List ℕ) → Checked
 unfolding fileChecks
-fileFound file = first (fileChecks file (2 ^ at file 0))
+fileFound file = first (aloneChecks file)

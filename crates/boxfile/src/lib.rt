@@ -8,7 +8,7 @@ ghost use lib.ListN.{length};
 ghost use Rattle.boolean.specs.Functions.{at};
 ghost use Rattle.boolean.specs.Sums.{largestBelow};
 ghost use Rattle.refusals.specs.Table.{first, allBelow, Wrote};
-ghost use Rattle.boxfile.specs.File.{rowAt, rowsOf, readChecks, fileChecks, boxFile, roomOf, fileFound};
+ghost use Rattle.boxfile.specs.File.{rowAt, fileRows, readChecks, fileChecks, saidBoxFile, roomOf, fileFound};
 
 // The answer of reading a file: the widths of its box.
 pub enum BoxFile {
@@ -16,20 +16,13 @@ pub enum BoxFile {
     Declined(Refusal),
 }
 
-// A byte as a number.
-fn wide(x: u8) -> u32
-    ensures { λ r. ⌜ (r ≡ x) × (r < 256) ⌝ }
-{
-    x as u32
-}
-
 // The number that two bytes make, low byte first.
 pub fn two_bytes(file: &[u8], place: usize) -> u32
     requires { ⌜ place + 1 < length (now file) ⌝ }
     ensures { λ r. ⌜ (r ≡ at (now (file .entry)) place + 256 * at (now (file .entry)) (place + 1)) × (r < 65536) ⌝ }
 {
-    let low = wide(file[place]);
-    let high = wide(file[place + 1]);
+    let low = boolean::wide(file[place]);
+    let high = boolean::wide(file[place + 1]);
     low + 256 * high
 }
 
@@ -43,7 +36,7 @@ fn row_at(file: &[u8], x: usize) -> u32
     low + 65536 * high
 }
 
-// The largest row of a file of so many rows.
+// The largest row of a file of `size` rows.
 fn largest_row(file: &[u8], size: usize) -> u32
     requires { ⌜ length (now file) ≡ 2 + 4 * size ⌝ }
     ensures { λ r. ⌜ r ≡ largestBelow size (rowAt (now (file .entry))) ⌝ }
@@ -64,7 +57,7 @@ fn largest_row(file: &[u8], size: usize) -> u32
 // looks at many rows at a time.
 fn rows_below(file: &[u8], n: u32, size: usize, limit: usize) -> bool
     requires { ⌜ (size ≡ 2 ^ n) × (length (now file) ≡ 2 + 4 * size) ⌝ }
-    ensures { λ r. ⌜ r ≡ allBelow limit (rowsOf (now (file .entry)) n) ⌝ }
+    ensures { λ r. ⌜ r ≡ allBelow limit (fileRows (now (file .entry)) n) ⌝ }
 {
     let most = largest_row(file, size) as usize;
     most < limit
@@ -73,7 +66,7 @@ fn rows_below(file: &[u8], n: u32, size: usize, limit: usize) -> bool
 // The rows of the file, written to an array that is as long.
 fn write_rows(file: &[u8], n: u32, rows: &mut [u32])
     requires { ⌜ (length (now rows) ≡ 2 ^ n) × (length (now file) ≡ 2 + 4 * 2 ^ n) ⌝ }
-    ensures { λ _. ⌜ now (rows .exit) ≡ rowsOf (now (file .entry)) n ⌝ }
+    ensures { λ _. ⌜ now (rows .exit) ≡ fileRows (now (file .entry)) n ⌝ }
 {
     let mut x = 0;
     while x < rows.len() {
@@ -112,7 +105,7 @@ pub fn check_file(file: &[u8], room: usize) -> Checked
     if file.len() < 2 {
         return Checked::Refused(Refusal::FileLength);
     }
-    check_read(file, wide(file[0]), wide(file[1]), room)
+    check_read(file, boolean::wide(file[0]), boolean::wide(file[1]), room)
 }
 
 // Reads a box from the bytes of its file: the widths are the answer, and the rows go to the lent array.
@@ -120,17 +113,17 @@ pub fn read_box(file: &[u8], rows: &mut [u32]) -> BoxFile
     ensures { λ r. ⌜ Wrote
         (fileChecks (now (file .entry)) (length (now (rows .entry))))
         (at (now (file .entry)) 0 ∷ at (now (file .entry)) 1 ∷ [])
-        (rowsOf (now (file .entry)) (at (now (file .entry)) 0))
-        (now (rows .entry)) (boxFile r) (now (rows .exit)) ⌝ }
+        (fileRows (now (file .entry)) (at (now (file .entry)) 0))
+        (now (rows .entry)) (saidBoxFile r) (now (rows .exit)) ⌝ }
 {
     if let Checked::Refused(e) = check_file(file, rows.len()) {
         return BoxFile::Declined(e);
     }
-    let n = wide(file[0]);
+    let n = boolean::wide(file[0]);
     write_rows(file, n, rows);
     BoxFile::Read {
         n,
-        m: wide(file[1]),
+        m: boolean::wide(file[1]),
     }
 }
 

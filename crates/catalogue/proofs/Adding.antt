@@ -16,13 +16,14 @@ use Rattle.boxfile.specs.File.{fileFound}
 use Rattle.catalogue.specs.declared.Gap.{Gap}
 use Rattle.catalogue.specs.declared.Gap.the-variants.{Starts, Nowhere}
 use Rattle.catalogue.specs.Format.{part, count, records, valid, build}
-use Rattle.catalogue.specs.Work.{place, opened}
+use Rattle.catalogue.specs.Work.{placeFrom, opened}
 use Rattle.catalogue.specs.Calls.{gapFor, isGap, offeredChecks, addChecks, addedAt}
-use Rattle.catalogue.specs.Statements.{Bytes, Fits}
-use Rattle.catalogue.proofs.Built.{valid-says, built, records-fit, length-records, zeros-are, length-part, fits-inside}
+use Rattle.catalogue.specs.Statements.{AllBytes, LieInOrder}
+use Rattle.catalogue.proofs.Built.{valid-says, built, records-fit, length-records, length-part, fits-inside}
 use Rattle.catalogue.proofs.Bodies.{ends}
 use Rattle.catalogue.proofs.Edits.{add-is}
 use Rattle.catalogue.proofs.GapSearch.{Found, lowest-found}
+use Rattle.boolean.proofs.Every.{zeros-are}
 
 module _ (b file : List ℕ) where
   -- a file that is offered: the catalogue is valid and the file accepted
@@ -102,8 +103,8 @@ module _ (b file : List ℕ) where
       pub gap-room : start + length file ≤ length b
       gap-room = let g = gap-found in fits-inside (start + length file) (length b) (drop (g .before) (records b)) (g .room)
 
-      pub added-is : Bytes b → (n : ℕ) → n ≡ count b → n < 64
-          → sets (opened n index (place start (length file)) b) start file ≡ build (length b) (addedAt (gapFor b file) file (records b))
+      pub added-is : AllBytes b → (n : ℕ) → n ≡ count b → n < 64
+          → sets (opened n index (placeFrom start (length file)) b) start file ≡ build (length b) (addedAt (gapFor b file) file (records b))
       added-is small n en few =
           let g = gap-found in
           let rs = records b in
@@ -114,9 +115,9 @@ module _ (b file : List ℕ) where
           let ji : j ≡ index = omega (arith, g .counts) in
           let lk : length ps ≡ index = length-take-le j rs (g .among) ∙ ji in
           let ln : length (ps ++ ss) ≡ n = ap length join ∙ length-records b ∙ sym en in
-          let f : Fits 258 (length b) (ps ++ ss) = subst (Fits 258 (length b)) (sym join) (records-fit b whole) in
-          let room : Fits (ends 258 ps + length file) (length b) ss = subst (λ (k : ℕ). Fits (k + length file) (length b) ss) (g .begins) (g .room) in
-          ap₂ (λ (k : ℕ) (l : List ℕ). sets (opened n index (place k (length file)) l) k file) (g .begins) (built b small whole ∙ ap (build (length b)) (sym join))
+          let f : LieInOrder 258 (length b) (ps ++ ss) = subst (LieInOrder 258 (length b)) (sym join) (records-fit b whole) in
+          let room : LieInOrder (ends 258 ps + length file) (length b) ss = subst (λ (k : ℕ). LieInOrder (k + length file) (length b) ss) (g .begins) (g .room) in
+          ap₂ (λ (k : ℕ) (l : List ℕ). sets (opened n index (placeFrom k (length file)) l) k file) (g .begins) (built b small whole ∙ ap (build (length b)) (sym join))
           ∙ add-is (length b) ps ss file n index lk ln few f room
           ∙ ap₂ (λ (k i : ℕ). build (length b) (take i rs ++ (record { start = k; bytes = file } ∷ drop i rs))) (sym (g .begins)) ji
           ∙ ap (λ (h : Gap). build (length b) (addedAt h file rs)) (sym e)

@@ -7,7 +7,7 @@ use lib.ListN.{length, replicate, length-append, length-replicate, replicate-app
 use lib.Seq.{sets}
 use Rattle.catalogue.specs.Format.{part, Item, body}
 use Rattle.catalogue.specs.Work.{slidDown}
-use Rattle.catalogue.specs.Statements.{Fits}
+use Rattle.catalogue.specs.Statements.{LieInOrder}
 use Rattle.catalogue.proofs.Directories.{slid-down, sets-middle, cut-first}
 
 -- where the records end, and their bytes from a position up to there
@@ -29,12 +29,12 @@ body-cut pos size (r ∷ rs) ss =
     ∙ ap (λ (l : List ℕ). z ++ l) (sym (append-assoc (r .bytes) (front next rs) (body (ends next rs) size ss)))
     ∙ sym (append-assoc z (r .bytes ++ front next rs) (body (ends next rs) size ss))
 
-pub fits-rest : (pos size : ℕ) (rs ss : List Item) → Fits pos size (rs ++ ss) → Fits (ends pos rs) size ss
+pub fits-rest : (pos size : ℕ) (rs ss : List Item) → LieInOrder pos size (rs ++ ss) → LieInOrder (ends pos rs) size ss
 unfolding ends
 fits-rest pos size [] ss f = f
 fits-rest pos size (r ∷ rs) ss f = fits-rest (r .start + length (r .bytes)) size rs ss (f .2)
 
-pub length-front : (pos size : ℕ) (rs ss : List Item) → Fits pos size (rs ++ ss) → pos + length (front pos rs) ≡ ends pos rs
+pub length-front : (pos size : ℕ) (rs ss : List Item) → LieInOrder pos size (rs ++ ss) → pos + length (front pos rs) ≡ ends pos rs
 unfolding front ends
 length-front pos size [] ss f = omega arith
 length-front pos size (r ∷ rs) ss f =
@@ -46,12 +46,12 @@ length-front pos size (r ∷ rs) ss f =
     omega (arith, e, z, a, d, f .0)
 
 -- the records before and behind may be joined where those behind begin late enough
-pub fits-join : (pos size : ℕ) (rs ss : List Item) → (ss′ : List Item) → Fits pos size (rs ++ ss) → Fits (ends pos rs) size ss′ → Fits pos size (rs ++ ss′)
+pub fits-join : (pos size : ℕ) (rs ss : List Item) → (ss′ : List Item) → LieInOrder pos size (rs ++ ss) → LieInOrder (ends pos rs) size ss′ → LieInOrder pos size (rs ++ ss′)
 unfolding ends
 fits-join pos size [] ss ss′ f g = g
 fits-join pos size (r ∷ rs) ss ss′ f g = (f .0, f .1, fits-join (r .start + length (r .bytes)) size rs ss ss′ (f .2) g)
 
-pub fits-lower : (pos late size : ℕ) (ss : List Item) → pos ≤ late → Fits late size ss → Fits pos size ss
+pub fits-lower : (pos late size : ℕ) (ss : List Item) → pos ≤ late → LieInOrder late size ss → LieInOrder pos size ss
 fits-lower pos late size [] h f = omega (arith, f)
 fits-lower pos late size (r ∷ rs) h f = (omega (arith, f .0), f .1, f .2)
 
@@ -59,7 +59,7 @@ fits-lower pos late size (r ∷ rs) h f = (omega (arith, f .0), f .1, f .2)
 zeros-join : (m n : ℕ) (X : List ℕ) → replicate m 0 ++ (replicate n 0 ++ X) ≡ replicate (m + n) 0 ++ X
 zeros-join m n X = sym (append-assoc (replicate m 0) (replicate n 0) X) ∙ ap (λ (l : List ℕ). l ++ X) (replicate-append-replicate m n 0)
 
-pub gap-joins : (pos late size : ℕ) (ss : List Item) (gap : ℕ) → pos + gap ≡ late → Fits late size ss → replicate gap 0 ++ body late size ss ≡ body pos size ss
+pub gap-joins : (pos late size : ℕ) (ss : List Item) (gap : ℕ) → pos + gap ≡ late → LieInOrder late size ss → replicate gap 0 ++ body late size ss ≡ body pos size ss
 unfolding body
 gap-joins pos late size [] gap e f =
     let n : gap + (size - late) ≡ size - pos = omega (arith, f) in
@@ -72,14 +72,14 @@ gap-joins pos late size (r ∷ rs) gap e f =
 -- the bytes of the records behind a directory of 258 bytes
 module _ (D : List ℕ) (size : ℕ) (rs ss : List Item) (long : length D ≡ 258) where
   -- what stands before the records behind
-  before-length : (ss′ : List Item) → Fits 258 size (rs ++ ss′) → length (D ++ front 258 rs) ≡ ends 258 rs
+  before-length : (ss′ : List Item) → LieInOrder 258 size (rs ++ ss′) → length (D ++ front 258 rs) ≡ ends 258 rs
   before-length ss′ f = length-append D (front 258 rs) ∙ ap (λ (n : ℕ). n + length (front 258 rs)) long ∙ length-front 258 size rs ss′ f
 
   cut : (ss′ : List Item) → D ++ body 258 size (rs ++ ss′) ≡ (D ++ front 258 rs) ++ body (ends 258 rs) size ss′
   cut ss′ = ap (λ (l : List ℕ). D ++ l) (body-cut 258 size rs ss′) ∙ sym (append-assoc D (front 258 rs) (body (ends 258 rs) size ss′))
 
   -- a record whose bytes are cleared is gone
-  pub cleared-is : (r : Item) → Fits 258 size (rs ++ (r ∷ ss))
+  pub cleared-is : (r : Item) → LieInOrder 258 size (rs ++ (r ∷ ss))
       → sets (D ++ body 258 size (rs ++ (r ∷ ss))) (r .start) (replicate (length (r .bytes)) 0) ≡ D ++ body 258 size (rs ++ ss)
   unfolding body
   cleared-is r f =
@@ -99,7 +99,7 @@ module _ (D : List ℕ) (size : ℕ) (rs ss : List Item) (long : length D ≡ 25
       ∙ sym (cut ss)
 
   -- a file that is stored at the start of a gap is a record
-  pub filled-is : (file : List ℕ) → Fits 258 size (rs ++ ss) → Fits (ends 258 rs + length file) size ss
+  pub filled-is : (file : List ℕ) → LieInOrder 258 size (rs ++ ss) → LieInOrder (ends 258 rs + length file) size ss
       → sets (D ++ body 258 size (rs ++ ss)) (ends 258 rs) file ≡ D ++ body 258 size (rs ++ (record { start = ends 258 rs; bytes = file } ∷ ss))
   unfolding body
   filled-is file f g =
@@ -114,7 +114,7 @@ module _ (D : List ℕ) (size : ℕ) (rs ss : List Item) (long : length D ≡ 25
       ∙ sym (cut (record { start = e; bytes = file } ∷ ss))
 
   -- a record that is moved down over the gap before it
-  pub moved-is : (r : Item) → Fits 258 size (rs ++ (r ∷ ss))
+  pub moved-is : (r : Item) → LieInOrder 258 size (rs ++ (r ∷ ss))
       → slidDown (ends 258 rs) (r .start - ends 258 rs) (length (r .bytes)) (D ++ body 258 size (rs ++ (r ∷ ss))) ≡ D ++ body 258 size (rs ++ (record { start = ends 258 rs; bytes = r .bytes } ∷ ss))
   unfolding body
   moved-is r f =
@@ -132,7 +132,7 @@ module _ (D : List ℕ) (size : ℕ) (rs ss : List Item) (long : length D ≡ 25
       ∙ ap (λ (k : ℕ). P ++ (replicate k 0 ++ (r .bytes ++ body (e + n) size ss))) none
       ∙ sym (cut (record { start = e; bytes = r .bytes } ∷ ss))
 
-  pub gap-is : (r : Item) → Fits 258 size (rs ++ (r ∷ ss))
+  pub gap-is : (r : Item) → LieInOrder 258 size (rs ++ (r ∷ ss))
       → part (ends 258 rs) (r .start - ends 258 rs) (D ++ body 258 size (rs ++ (r ∷ ss))) ≡ replicate (r .start - ends 258 rs) 0
   unfolding body
   gap-is r f =

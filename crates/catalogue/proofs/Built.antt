@@ -5,35 +5,18 @@ use mathlib.Core.Bool.{true}
 use mathlib.Core.List.{List, [], _∷_, _++_, map, append-assoc}
 use native.Mathlib.Numerals.{add-one}
 use native.Mathlib.Omega.{arith}
-use borrow.Author.Tests.{leb-true, ltb-true, le-leb}
+use borrow.Author.Tests.{leb-true, le-leb}
 use lib.ListN.{length, take, drop, replicate, length-append, length-drop, length-replicate, take-append-drop, length-map}
 use lib.Seq.{drop-cons, drop-drop, take-add, take-at, drop-at, getD-drop, length-take-le}
-use Rattle.boolean.specs.Sums.{listFrom, listBelow, each, every}
+use Rattle.boolean.specs.Sums.{listFrom, listBelow, each}
 use Rattle.boolean.specs.Functions.{at}
-use Rattle.boolean.proofs.Every.{both, both-true}
-use Rattle.boolean.proofs.Lists.{length-listBelow}
+use Rattle.boolean.proofs.Every.{both, both-true, zeros-are, zeros-true}
+use Rattle.boolean.proofs.Lists.{length-listBelow, part-then}
 use Rattle.refusals.proofs.Bounds.{range-low, range-high, range-true}
-use Rattle.catalogue.specs.Format.{wordAt, word, part, allZero, Place, Item, accepted, count, placeAt, places, itemAt, records, stands, stand, valid, placeBytes, directory, body, placeOf, build}
-use Rattle.catalogue.specs.Statements.{Bytes, Fits}
-
--- Zeros.
-pub zeros-are : (xs : List ℕ) → allZero xs ≡ true → xs ≡ replicate (length xs) 0
-unfolding every
-zeros-are [] h = refl
-zeros-are (x ∷ xs) h =
-    let t = both _ _ h in
-    let z : x ≡ 0 = omega (arith, ltb-true x 1 (t .0)) in
-    ap₂ (λ (a : ℕ) (l : List ℕ). a ∷ l) z (zeros-are xs (t .1))
-
-pub zeros-true : (n : ℕ) → allZero (replicate n 0) ≡ true
-unfolding every
-zeros-true zero = refl
-zeros-true (suc n) = zeros-true n
+use Rattle.catalogue.specs.Format.{wordAt, word, part, allZero, Place, Item, accepted, count, placeAt, places, itemAt, records, stands, stand, valid, placeBytes, directory, body, placeOfItem, build}
+use Rattle.catalogue.specs.Statements.{AllBytes, LieInOrder}
 
 -- Parts.
-pub part-then : (pos n : ℕ) (b : List ℕ) → drop pos b ≡ part pos n b ++ drop (pos + n) b
-part-then pos n b = sym (take-append-drop n (drop pos b)) ∙ ap (λ (l : List ℕ). part pos n b ++ l) (drop-drop n pos b)
-
 pub length-part : (pos n : ℕ) (b : List ℕ) → pos + n ≤ length b → length (part pos n b) ≡ n
 length-part pos n b h = length-take-le n (drop pos b) (omega (arith, length-drop pos b))
 
@@ -78,14 +61,14 @@ body-is b pos (p ∷ ps) h =
     (ap (λ (n : ℕ). drop n b) there ∙ part-then o l b
     ∙ ap (λ (x : List ℕ). part o l b ++ x) (body-is b (o + l) ps (t .1) ∙ ap (λ (n : ℕ). body (o + n) (length b) (map (itemAt b) ps)) (sym size)))
 
-pub fits-of : (b : List ℕ) (pos : ℕ) (ps : List Place) → pos ≤ length b → stand b pos ps ≡ true → Fits pos (length b) (map (itemAt b) ps)
+pub fits-of : (b : List ℕ) (pos : ℕ) (ps : List Place) → pos ≤ length b → stand b pos ps ≡ true → LieInOrder pos (length b) (map (itemAt b) ps)
 fits-of b pos [] l h = l
 fits-of b pos (p ∷ ps) l h =
     let t = stand-cons b pos p ps h in
     let s = t .0 in
-    (s .past, s .file, subst (λ (n : ℕ). Fits (p .offset + n) (length b) (map (itemAt b) ps)) (sym (length-part _ _ b (s .inside))) (fits-of b (p .offset + p .size) ps (s .inside) (t .1)))
+    (s .past, s .file, subst (λ (n : ℕ). LieInOrder (p .offset + n) (length b) (map (itemAt b) ps)) (sym (length-part _ _ b (s .inside))) (fits-of b (p .offset + p .size) ps (s .inside) (t .1)))
 
-pub places-back : (b : List ℕ) (pos : ℕ) (ps : List Place) → stand b pos ps ≡ true → map placeOf (map (itemAt b) ps) ≡ ps
+pub places-back : (b : List ℕ) (pos : ℕ) (ps : List Place) → stand b pos ps ≡ true → map placeOfItem (map (itemAt b) ps) ≡ ps
 places-back b pos [] h = refl
 places-back b pos (p ∷ ps) h =
     let t = stand-cons b pos p ps h in
@@ -99,7 +82,7 @@ word-back lo hi h =
     let q : (lo + 256 * hi) / 256 ≡ hi = omega arith in
     ap₂ (λ (x y : ℕ). x ∷ y ∷ []) r q
 
-pub word-part : (b : List ℕ) (i : ℕ) → Bytes b → i + 1 < length b → part i 2 b ≡ word (wordAt b i)
+pub word-part : (b : List ℕ) (i : ℕ) → AllBytes b → i + 1 < length b → part i 2 b ≡ word (wordAt b i)
 unfolding wordAt
 word-part b i small h =
     let j : suc i < length b = omega arith in
@@ -110,14 +93,14 @@ word-part b i small h =
 pub parts-join : (i n m : ℕ) (b : List ℕ) → part i (n + m) b ≡ part i n b ++ part (i + n) m b
 parts-join i n m b = take-add n m (drop i b) ∙ ap (λ (l : List ℕ). part i n b ++ take m l) (drop-drop n i b)
 
-pub place-part : (b : List ℕ) (k : ℕ) → Bytes b → 4 * k + 5 < length b → part (4 * k + 2) 4 b ≡ placeBytes (placeAt b k)
+pub place-part : (b : List ℕ) (k : ℕ) → AllBytes b → 4 * k + 5 < length b → part (4 * k + 2) 4 b ≡ placeBytes (placeAt b k)
 unfolding placeBytes placeAt
 place-part b k small h =
     let e : 4 * k + 2 + 2 ≡ 4 * k + 4 = omega arith in
     parts-join (4 * k + 2) 2 2 b
     ∙ ap₂ (λ (x y : List ℕ). x ++ y) (word-part b (4 * k + 2) small (omega arith)) (ap (λ (n : ℕ). part n 2 b) e ∙ word-part b (4 * k + 4) small (omega arith))
 
-pub places-part : (b : List ℕ) (i k : ℕ) → Bytes b → 4 * (i + k) + 2 ≤ length b → part (4 * i + 2) (4 * k) b ≡ each (listFrom i k (λ k. placeAt b k)) placeBytes
+pub places-part : (b : List ℕ) (i k : ℕ) → AllBytes b → 4 * (i + k) + 2 ≤ length b → part (4 * i + 2) (4 * k) b ≡ each (listFrom i k (λ k. placeAt b k)) placeBytes
 unfolding listFrom each
 places-part b i zero small h = refl
 places-part b i (suc k) small h =
@@ -152,12 +135,12 @@ unfolding valid
 valid-true b v =
     both-true _ _ (range-true 258 65535 _ (v .low) (v .high)) (both-true _ _ (le-leb _ _ (v .most)) (both-true _ _ (v .unused) (v .standing-all)))
 
-pub places-from : (b : List ℕ) (n : ℕ) → Bytes b → 4 * n + 2 ≤ length b → part 2 (4 * n) b ≡ each (listBelow n (λ k. placeAt b k)) placeBytes
+pub places-from : (b : List ℕ) (n : ℕ) → AllBytes b → 4 * n + 2 ≤ length b → part 2 (4 * n) b ≡ each (listBelow n (λ k. placeAt b k)) placeBytes
 unfolding listBelow
 places-from b n small h = places-part b 0 n small (let g : 4 * (0 + n) + 2 ≤ length b = omega arith in g)
 
 -- the directory of a valid catalogue
-pub directory-is : (b : List ℕ) → Bytes b → Valid b → take 258 b ≡ directory (places b)
+pub directory-is : (b : List ℕ) → AllBytes b → Valid b → take 258 b ≡ directory (places b)
 unfolding directory places count
 directory-is b small v =
     let n = count b in
@@ -173,7 +156,7 @@ directory-is b small v =
     ∙ ap (λ (k : ℕ). replicate (4 * (64 - k)) 0) (sym long)))
 
 -- A valid catalogue is the build of its own records.
-pub built : (b : List ℕ) → Bytes b → valid b ≡ true → b ≡ build (length b) (records b)
+pub built : (b : List ℕ) → AllBytes b → valid b ≡ true → b ≡ build (length b) (records b)
 unfolding build records
 built b small h =
     let v = valid-says b h in
@@ -181,7 +164,7 @@ built b small h =
     ∙ ap₂ (λ (x y : List ℕ). x ++ y) (directory-is b small v ∙ ap directory (sym (places-back b 258 (places b) (v .standing-all))))
     (body-is b 258 (places b) (v .standing-all))
 
-pub records-fit : (b : List ℕ) → valid b ≡ true → Fits 258 (length b) (records b)
+pub records-fit : (b : List ℕ) → valid b ≡ true → LieInOrder 258 (length b) (records b)
 unfolding records
 records-fit b h = let v = valid-says b h in fits-of b 258 (places b) (v .low) (v .standing-all)
 
@@ -190,11 +173,11 @@ unfolding records places
 length-records b = length-map (places b) (itemAt b) ∙ length-listBelow (count b) (λ k. placeAt b k)
 
 -- Back: the build of records that fit.
-pub fits-inside : (pos size : ℕ) (rs : List Item) → Fits pos size rs → pos ≤ size
+pub fits-inside : (pos size : ℕ) (rs : List Item) → LieInOrder pos size rs → pos ≤ size
 fits-inside pos size [] f = f
 fits-inside pos size (r ∷ rs) f = omega (arith, f .0, fits-inside _ size rs (f .2))
 
-pub length-body : (pos size : ℕ) (rs : List Item) → Fits pos size rs → length (body pos size rs) ≡ size - pos
+pub length-body : (pos size : ℕ) (rs : List Item) → LieInOrder pos size rs → length (body pos size rs) ≡ size - pos
 unfolding body
 length-body pos size [] f = length-replicate (size - pos) 0
 length-body pos size (r ∷ rs) f =
@@ -233,8 +216,8 @@ places-of b i (p ∷ ps) t h =
     add-zero-back n = omega arith
 
 -- records that fit stand at their places, and are found there
-pub stand-of : (b : List ℕ) (pos : ℕ) (rs : List Item) → drop pos b ≡ body pos (length b) rs → Fits pos (length b) rs
-    → (stand b pos (map placeOf rs) ≡ true) × (map (itemAt b) (map placeOf rs) ≡ rs)
+pub stand-of : (b : List ℕ) (pos : ℕ) (rs : List Item) → drop pos b ≡ body pos (length b) rs → LieInOrder pos (length b) rs
+    → (stand b pos (map placeOfItem rs) ≡ true) × (map (itemAt b) (map placeOfItem rs) ≡ rs)
 unfolding stand body
 stand-of b pos [] h f = (ap allZero h ∙ zeros-true (length b - pos), refl)
 stand-of b pos (r ∷ rs) h f =
@@ -250,40 +233,40 @@ stand-of b pos (r ∷ rs) h f =
     let file-part : part o l b ≡ file = ap (take l) at-file ∙ take-at file rest l refl in
     let after : drop (o + l) b ≡ rest = sym (drop-drop l o b) ∙ ap (drop l) at-file ∙ drop-at file rest l refl in
     let next = stand-of b (o + l) rs after (f .2) in
-    let s = stands-true b pos (placeOf r) (record { past = f .0; inside = inside; gap = ap allZero zero-part ∙ zeros-true (o - pos); file = ap accepted file-part ∙ f .1 }) in
+    let s = stands-true b pos (placeOfItem r) (record { past = f .0; inside = inside; gap = ap allZero zero-part ∙ zeros-true (o - pos); file = ap accepted file-part ∙ f .1 }) in
     (both-true _ _ s (next .0), ap₂ (λ (x : List ℕ) (y : List Item). record { start = o; bytes = x } ∷ y) file-part (next .1))
 
-module _ (size : ℕ) (rs : List Item) (few : length rs ≤ 64) (fits : Fits 258 size rs) where
-  few-places : length (map placeOf rs) ≤ 64
-  few-places = omega (arith, length-map rs placeOf)
+module _ (size : ℕ) (rs : List Item) (few : length rs ≤ 64) (fits : LieInOrder 258 size rs) where
+  few-places : length (map placeOfItem rs) ≤ 64
+  few-places = omega (arith, length-map rs placeOfItem)
 
   pub build-length : length (build size rs) ≡ size
   unfolding build
   build-length =
       let in-size = fits-inside 258 size rs fits in
-      omega (arith, length-append (directory (map placeOf rs)) (body 258 size rs), length-directory (map placeOf rs) few-places, length-body 258 size rs fits, in-size)
+      omega (arith, length-append (directory (map placeOfItem rs)) (body 258 size rs), length-directory (map placeOfItem rs) few-places, length-body 258 size rs fits, in-size)
 
   pub build-count : count (build size rs) ≡ length rs
   unfolding build
-  build-count = count-of (map placeOf rs) (body 258 size rs) ∙ length-map rs placeOf
+  build-count = count-of (map placeOfItem rs) (body 258 size rs) ∙ length-map rs placeOfItem
 
-  behind-count : drop (4 * 0 + 2) (build size rs) ≡ each (map placeOf rs) placeBytes ++ (replicate (4 * (64 - length (map placeOf rs))) 0 ++ body 258 size rs)
+  behind-count : drop (4 * 0 + 2) (build size rs) ≡ each (map placeOfItem rs) placeBytes ++ (replicate (4 * (64 - length (map placeOfItem rs))) 0 ++ body 258 size rs)
   unfolding build directory word
-  behind-count = append-assoc (each (map placeOf rs) placeBytes) _ _
+  behind-count = append-assoc (each (map placeOfItem rs) placeBytes) _ _
 
-  pub build-places : places (build size rs) ≡ map placeOf rs
+  pub build-places : places (build size rs) ≡ map placeOfItem rs
   unfolding places listBelow
   build-places =
-      ap (λ (n : ℕ). listFrom 0 n (λ k. placeAt (build size rs) k)) (build-count ∙ sym (length-map rs placeOf))
-      ∙ places-of (build size rs) 0 (map placeOf rs) _ behind-count
+      ap (λ (n : ℕ). listFrom 0 n (λ k. placeAt (build size rs) k)) (build-count ∙ sym (length-map rs placeOfItem))
+      ∙ places-of (build size rs) 0 (map placeOfItem rs) _ behind-count
 
   pub build-body : drop 258 (build size rs) ≡ body 258 size rs
   unfolding build
-  build-body = drop-at (directory (map placeOf rs)) (body 258 size rs) 258 (length-directory (map placeOf rs) few-places)
+  build-body = drop-at (directory (map placeOfItem rs)) (body 258 size rs) 258 (length-directory (map placeOfItem rs) few-places)
 
-  build-stand : (stand (build size rs) 258 (map placeOf rs) ≡ true) × (map (itemAt (build size rs)) (map placeOf rs) ≡ rs)
+  build-stand : (stand (build size rs) 258 (map placeOfItem rs) ≡ true) × (map (itemAt (build size rs)) (map placeOfItem rs) ≡ rs)
   build-stand =
-      stand-of (build size rs) 258 rs (build-body ∙ ap (λ (n : ℕ). body 258 n rs) (sym build-length)) (subst (λ (n : ℕ). Fits 258 n rs) (sym build-length) fits)
+      stand-of (build size rs) 258 rs (build-body ∙ ap (λ (n : ℕ). body 258 n rs) (sym build-length)) (subst (λ (n : ℕ). LieInOrder 258 n rs) (sym build-length) fits)
 
   -- The records of a build are those that it was made of, and it is valid where its length is a catalogue's.
   pub build-records : records (build size rs) ≡ rs
@@ -295,11 +278,11 @@ module _ (size : ℕ) (rs : List Item) (few : length rs ≤ 64) (fits : Fits 258
       let n = length rs in
       let in-size = fits-inside 258 size rs fits in
       let b = build size rs in
-      let m : length (map placeOf rs) ≡ n = length-map rs placeOf in
-      let e : 4 * n + 2 ≡ 4 * 0 + 2 + 4 * length (map placeOf rs) = omega (arith, m) in
+      let m : length (map placeOfItem rs) ≡ n = length-map rs placeOfItem in
+      let e : 4 * n + 2 ≡ 4 * 0 + 2 + 4 * length (map placeOfItem rs) = omega (arith, m) in
       let gone : drop (4 * n + 2) b ≡ replicate (4 * (64 - n)) 0 ++ body 258 size rs =
-      ap (λ (k : ℕ). drop k b) e ∙ sym (drop-drop (4 * length (map placeOf rs)) (4 * 0 + 2) b) ∙ ap (drop (4 * length (map placeOf rs))) behind-count
-      ∙ drop-at (each (map placeOf rs) placeBytes) _ (4 * length (map placeOf rs)) (length-each (map placeOf rs))
+      ap (λ (k : ℕ). drop k b) e ∙ sym (drop-drop (4 * length (map placeOfItem rs)) (4 * 0 + 2) b) ∙ ap (drop (4 * length (map placeOfItem rs))) behind-count
+      ∙ drop-at (each (map placeOfItem rs) placeBytes) _ (4 * length (map placeOfItem rs)) (length-each (map placeOfItem rs))
       ∙ ap (λ (k : ℕ). replicate (4 * (64 - k)) 0 ++ body 258 size rs) m in
       let zero-part : part (4 * n + 2) (4 * (64 - n)) b ≡ replicate (4 * (64 - n)) 0 = ap (take (4 * (64 - n))) gone ∙ take-at _ _ (4 * (64 - n)) (length-replicate (4 * (64 - n)) 0) in
       valid-true b

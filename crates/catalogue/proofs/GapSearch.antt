@@ -12,7 +12,7 @@ use Rattle.boolean.specs.Sums.{listFrom, listBelow}
 use Rattle.catalogue.specs.declared.Gap.the-variants.{Starts, Nowhere}
 use Rattle.catalogue.specs.Format.{Place, Item, count, placeAt, places, itemAt, records, stand, valid}
 use Rattle.catalogue.specs.Calls.{lowest}
-use Rattle.catalogue.specs.Statements.{Fits}
+use Rattle.catalogue.specs.Statements.{LieInOrder}
 use Rattle.catalogue.proofs.Built.{Stands, stand-cons, valid-says, length-part}
 use Rattle.catalogue.proofs.Bodies.{ends}
 
@@ -107,9 +107,9 @@ pub record Found (need size k pos : ℕ) (rs : List Item) (index start : ℕ) : 
   pub counts : index ≡ k + before
   pub among : before ≤ length rs
   pub begins : start ≡ ends pos (take before rs)
-  pub room : Fits (start + need) size (drop before rs)
+  pub room : LieInOrder (start + need) size (drop before rs)
 
-pub lowest-found : (need size k pos : ℕ) (rs : List Item) (index start : ℕ) → Fits pos size rs → lowest need size k pos rs ≡ Starts index start → Found need size k pos rs index start
+pub lowest-found : (need size k pos : ℕ) (rs : List Item) (index start : ℕ) → LieInOrder pos size rs → lowest need size k pos rs ≡ Starts index start → Found need size k pos rs index start
 unfolding lowest ends
 lowest-found need size k pos [] index start f e = by (leb (pos + need) size) refl e
   where

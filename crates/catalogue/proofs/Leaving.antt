@@ -1,5 +1,5 @@
 -- What the writing calls leave: records that fit, so that the buffer is a valid catalogue with them. Assumes nothing.
-use Prim.Native.Nat.{ℕ, suc, _+_, _^_, _≤_, _<_}
+use Prim.Native.Nat.{ℕ, suc, _+_, _≤_, _<_}
 use mathlib.Core.Path.{_≡_, refl, sym, ap, _∙_, subst}
 use mathlib.Core.Bool.{Bool, true, false}
 use mathlib.Core.List.{List, [], _∷_, _++_, map}
@@ -10,16 +10,15 @@ use borrow.Author.Tests.{leb-true, lt-leb}
 use lib.Dec.{leb}
 use lib.ListN.{length, take, drop, length-append, take-append-drop}
 use lib.Seq.{split-at}
-use Rattle.boolean.specs.Functions.{at}
-use Rattle.refusals.specs.declared.Checked.{Checked}
-use Rattle.refusals.specs.declared.Checked.the-variants.{Accepted, Refused}
+use Rattle.refusals.specs.Table.{isAccepted}
+use Rattle.refusals.specs.declared.Checked.the-variants.{Accepted}
 use Rattle.refusals.proofs.Checks.{passed}
-use Rattle.boxfile.specs.File.{fileChecks, fileFound}
+use Rattle.boxfile.specs.File.{fileChecks, aloneChecks, fileFound}
 use Rattle.catalogue.specs.declared.Gap.{Gap}
 use Rattle.catalogue.specs.declared.Gap.the-variants.{Starts, Nowhere}
-use Rattle.catalogue.specs.Format.{Item, isAccepted, accepted, count, records, valid, build}
+use Rattle.catalogue.specs.Format.{Item, accepted, count, records, valid, build}
 use Rattle.catalogue.specs.Calls.{noItem, recordAt, without, lowest, gapFor, isGap, addedAt, withoutGaps, removed, added, compacted}
-use Rattle.catalogue.specs.Statements.{Fits, Holds, taken}
+use Rattle.catalogue.specs.Statements.{LieInOrder, Holds, bytesTaken}
 use Rattle.catalogue.proofs.Built.{Valid, valid-says, records-fit, length-records, build-length, build-records, build-valid}
 use Rattle.catalogue.proofs.Bodies.{ends, fits-rest, fits-join, fits-lower}
 use Rattle.catalogue.proofs.Adding.{Accepts, gap-found}
@@ -27,11 +26,7 @@ use Rattle.catalogue.proofs.Adding.{Accepts, gap-found}
 -- A file that is accepted has a byte.
 pub accepted-some : (file : List ℕ) → fileFound file ≡ Accepted → 0 < length file
 unfolding fileFound fileChecks
-accepted-some file h = let t = leb-true 2 (length file) (passed (fileChecks file (2 ^ at file 0)) h .0) in omega arith
-
-pub is-accepted : (k : Checked) → isAccepted k ≡ true → k ≡ Accepted
-is-accepted Accepted h = refl
-is-accepted (Refused e) h = absurd (let z : _≡_ {A = Bool} false true = h in let y : _≡_ {A = ℕ} 0 1 = cc in omega arith)
+accepted-some file h = let t = leb-true 2 (length file) (passed (aloneChecks file) h .0) in omega arith
 
 -- The record of an index, with those before it and those behind it, and what is left without it.
 pub record Cut (b : List ℕ) (k : ℕ) : Type 0 where
@@ -52,13 +47,13 @@ cut-at b k h =
     }
 
 -- The records without one of them fit.
-pub fits-without : (size : ℕ) (ps ss : List Item) (r : Item) → Fits 258 size (ps ++ (r ∷ ss)) → Fits 258 size (ps ++ ss)
+pub fits-without : (size : ℕ) (ps ss : List Item) (r : Item) → LieInOrder 258 size (ps ++ (r ∷ ss)) → LieInOrder 258 size (ps ++ ss)
 fits-without size ps ss r f =
     let g = fits-rest 258 size ps (r ∷ ss) f in
     fits-join 258 size ps (r ∷ ss) ss f (fits-lower (ends 258 ps) (r .start + length (r .bytes)) size ss (omega (arith, g .0)) (g .2))
 
 -- Records that are packed fit where they fitted.
-pub fits-without-gaps : (pos low size : ℕ) (rs : List Item) → low ≤ pos → Fits pos size rs → Fits low size (withoutGaps low rs)
+pub fits-without-gaps : (pos low size : ℕ) (rs : List Item) → low ≤ pos → LieInOrder pos size rs → LieInOrder low size (withoutGaps low rs)
 unfolding withoutGaps
 fits-without-gaps pos low size [] h f = omega (arith, f)
 fits-without-gaps pos low size (r ∷ rs) h f = (le-refl low, f .1, fits-without-gaps (r .start + length (r .bytes)) (low + length (r .bytes)) size rs (omega (arith, f .0)) (f .2))
@@ -75,8 +70,8 @@ without-gaps-bytes pos [] = refl
 without-gaps-bytes pos (r ∷ rs) = ap (λ (l : List (List ℕ)). r .bytes ∷ l) (without-gaps-bytes (pos + length (r .bytes)) rs)
 
 -- Of packed records the only gap is behind the last one.
-pub lowest-without-gaps : (need size k pos : ℕ) (rs : List Item) → 0 < need → isGap (lowest need size k pos (withoutGaps pos rs)) ≡ leb (pos + taken rs + need) size
-unfolding lowest withoutGaps taken
+pub lowest-without-gaps : (need size k pos : ℕ) (rs : List Item) → 0 < need → isGap (lowest need size k pos (withoutGaps pos rs)) ≡ leb (pos + bytesTaken rs + need) size
+unfolding lowest withoutGaps bytesTaken
 lowest-without-gaps need size k pos [] h = by (leb (pos + need) size) refl
   where
     by : (t : Bool) → leb (pos + need) size ≡ t → isGap (elim t [ true ↦ Starts k pos | false ↦ Nowhere ]) ≡ leb (pos + 0 + need) size
@@ -85,12 +80,12 @@ lowest-without-gaps need size k pos [] h = by (leb (pos + need) size) refl
 lowest-without-gaps need size k pos (r ∷ rs) h =
     let n = length (r .bytes) in
     let none : leb (pos + need) pos ≡ false = lt-leb (pos + need) pos (omega arith) in
-    let z : pos + n + taken rs + need ≡ pos + (n + taken rs) + need = omega arith in
+    let z : pos + n + bytesTaken rs + need ≡ pos + (n + bytesTaken rs) + need = omega arith in
     ap (λ (t : Bool). isGap (elim t [ true ↦ Starts k pos | false ↦ lowest need size (k + 1) (pos + n) (withoutGaps (pos + n) rs) ])) none
     ∙ lowest-without-gaps need size (k + 1) (pos + n) rs h ∙ ap (λ (x : ℕ). leb x size) z
 
 -- What is left is valid, and has the records that its equation names.
-pub leaves : (size : ℕ) (rs : List Item) → length rs ≤ 64 → Fits 258 size rs → size ≤ 65535 → Holds (build size rs) rs
+pub leaves : (size : ℕ) (rs : List Item) → length rs ≤ 64 → LieInOrder 258 size rs → size ≤ 65535 → Holds (build size rs) rs
 leaves size rs few fits high = record { whole = build-valid size rs few fits high; holds = build-records size rs few fits }
 
 module _ (b : List ℕ) (whole : valid b ≡ true) where
@@ -98,11 +93,11 @@ module _ (b : List ℕ) (whole : valid b ≡ true) where
   v = valid-says b whole
 
   module _ (k : ℕ) (x : Cut b k) where
-    pub fits-cut : Fits 258 (length b) (x .before ++ (recordAt b k ∷ x .behind))
-    fits-cut = subst (Fits 258 (length b)) (x .cut) (records-fit b whole)
+    pub fits-cut : LieInOrder 258 (length b) (x .before ++ (recordAt b k ∷ x .behind))
+    fits-cut = subst (LieInOrder 258 (length b)) (x .cut) (records-fit b whole)
 
-    fits-rest-of : Fits 258 (length b) (without k (records b))
-    fits-rest-of = subst (Fits 258 (length b)) (sym (x .rest)) (fits-without (length b) (x .before) (x .behind) (recordAt b k) fits-cut)
+    fits-rest-of : LieInOrder 258 (length b) (without k (records b))
+    fits-rest-of = subst (LieInOrder 258 (length b)) (sym (x .rest)) (fits-without (length b) (x .before) (x .behind) (recordAt b k) fits-cut)
 
     pub fewer-left : length (without k (records b)) < 64
     fewer-left =
@@ -122,7 +117,7 @@ module _ (b : List ℕ) (whole : valid b ≡ true) where
   pub without-gaps-few : length (withoutGaps 258 (records b)) ≤ 64
   without-gaps-few = omega (arith, length-without-gaps 258 (records b), length-records b, v .most)
 
-  pub without-gaps-fit : Fits 258 (length b) (withoutGaps 258 (records b))
+  pub without-gaps-fit : LieInOrder 258 (length b) (withoutGaps 258 (records b))
   without-gaps-fit = fits-without-gaps 258 258 (length b) (records b) (le-refl 258) (records-fit b whole)
 
   pub leaves-compacted : Holds (compacted b) (withoutGaps 258 (records b))
@@ -132,7 +127,7 @@ module _ (b file : List ℕ) (t : Accepts b file) where
   pub added-is-at : addedAt (gapFor b file) file (records b) ≡ take (t .index) (records b) ++ (record { start = t .start; bytes = file } ∷ drop (t .index) (records b))
   added-is-at = ap (λ (g : Gap). addedAt g file (records b)) (t .gap)
 
-  pub added-fit : Fits 258 (length b) (addedAt (gapFor b file) file (records b))
+  pub added-fit : LieInOrder 258 (length b) (addedAt (gapFor b file) file (records b))
   unfolding accepted
   added-fit =
       let g = gap-found b file (t .whole) (t .gap) in
@@ -143,10 +138,10 @@ module _ (b file : List ℕ) (t : Accepts b file) where
       let ji : g .before ≡ t .index = omega (arith, g .counts) in
       let join : ps ++ ss ≡ rs = take-append-drop (g .before) rs in
       let low : ends 258 ps ≤ t .start = omega (arith, g .begins) in
-      let fits : Fits 258 (length b) (ps ++ (r ∷ ss)) =
-      fits-join 258 (length b) ps ss (r ∷ ss) (subst (Fits 258 (length b)) (sym join) (records-fit b (t .whole))) (low, ap isAccepted (t .good), g .room) in
-      subst (Fits 258 (length b)) (sym added-is-at)
-      (subst (λ (i : ℕ). Fits 258 (length b) (take i rs ++ (r ∷ drop i rs))) ji fits)
+      let fits : LieInOrder 258 (length b) (ps ++ (r ∷ ss)) =
+      fits-join 258 (length b) ps ss (r ∷ ss) (subst (LieInOrder 258 (length b)) (sym join) (records-fit b (t .whole))) (low, ap isAccepted (t .good), g .room) in
+      subst (LieInOrder 258 (length b)) (sym added-is-at)
+      (subst (λ (i : ℕ). LieInOrder 258 (length b) (take i rs ++ (r ∷ drop i rs))) ji fits)
 
   pub added-few : length (addedAt (gapFor b file) file (records b)) ≤ 64
   added-few =

@@ -11,18 +11,18 @@ use lib.ListN.{length, getD, take, drop, length-drop}
 use lib.Seq.{getD-drop}
 use Rattle.refusals.specs.Table.{first}
 use Rattle.refusals.specs.declared.Checked.the-variants.{Accepted}
-use Rattle.refusals.proofs.Checks.{found, skip, end}
+use Rattle.refusals.proofs.Checks.{found, skip, end, is-accepted}
 use Rattle.catalogue.specs.declared.Gap.{Gap}
 use Rattle.catalogue.specs.declared.Gap.the-variants.{Starts, Nowhere}
 use Rattle.catalogue.specs.Format.{Item, accepted, count, placeAt, records, valid}
 use Rattle.catalogue.specs.Calls.{indexChecks, noItem, recordAt, removed, lowest, gapFor}
-use Rattle.catalogue.specs.Rules.{Within}
-use Rattle.catalogue.specs.Statements.{Fits, Free}
+use Rattle.catalogue.specs.Rules.{InRecord}
+use Rattle.catalogue.specs.Statements.{LieInOrder, Free}
 use Rattle.catalogue.proofs.Built.{records-fit, length-records}
 use Rattle.catalogue.proofs.Bodies.{ends}
 use Rattle.catalogue.proofs.Indexed.{Indexed, indexed, lies}
 use Rattle.catalogue.proofs.Adding.{Accepts, gap-found, gap-room}
-use Rattle.catalogue.proofs.Leaving.{accepted-some, is-accepted, cut-at, fits-cut, leaves-removed, length-removed}
+use Rattle.catalogue.proofs.Leaving.{accepted-some, cut-at, fits-cut, leaves-removed, length-removed}
 
 -- where the record of an index begins and ends, in a list of records
 abbrev begin : List Item → ℕ → ℕ
@@ -54,7 +54,7 @@ crossing start size p need s n before out = by (leb (start + size) p) refl (leb 
     by false e false f = let l = leb-false start p f in absurd (out start (le-refl start) (omega arith) (omega arith) before)
 
 -- the search stops no later than at free bytes
-reaches : (need size k pos p : ℕ) (rs : List Item) → 0 < need → Fits pos size rs → pos ≤ p → p + need ≤ size → Clear p need rs → Reaches p (lowest need size k pos rs)
+reaches : (need size k pos p : ℕ) (rs : List Item) → 0 < need → LieInOrder pos size rs → pos ≤ p → p + need ≤ size → Clear p need rs → Reaches p (lowest need size k pos rs)
 unfolding lowest
 reaches need size k pos p [] n f low inside out = by (leb (pos + need) size) refl
   where
@@ -72,18 +72,18 @@ reaches need size k pos p (r ∷ rs) n f low inside out =
         rec (crossing (r .start) (length (r .bytes)) p need (some-bytes (r .bytes) (f .1)) n (omega arith) (λ i. out 0 i (zero-lt-suc _)))
 
 -- records that fit, by index: none begins before the first position, and those before an index end where it lies
-fits-begin : (pos size : ℕ) (rs : List Item) → Fits pos size rs → (k : ℕ) → k < length rs → pos ≤ begin rs k
+fits-begin : (pos size : ℕ) (rs : List Item) → LieInOrder pos size rs → (k : ℕ) → k < length rs → pos ≤ begin rs k
 fits-begin pos size [] f k l = absurd (not-suc-le-zero l)
 fits-begin pos size (r ∷ rs) f zero l = f .0
 fits-begin pos size (r ∷ rs) f (suc k) l = omega (arith, f .0, fits-begin (r .start + length (r .bytes)) size rs (f .2) k (le-of-suc-le-suc l))
 
-ends-past : (pos size n : ℕ) (rs : List Item) → Fits pos size rs → pos ≤ ends pos (take n rs)
+ends-past : (pos size n : ℕ) (rs : List Item) → LieInOrder pos size rs → pos ≤ ends pos (take n rs)
 unfolding ends
 ends-past pos size zero rs f = le-refl pos
 ends-past pos size (suc n) [] f = le-refl pos
 ends-past pos size (suc n) (r ∷ rs) f = omega (arith, f .0, ends-past (r .start + length (r .bytes)) size n rs (f .2))
 
-fits-past : (pos size n : ℕ) (rs : List Item) → Fits pos size rs → (k : ℕ) → k < n → k < length rs → past rs k ≤ ends pos (take n rs)
+fits-past : (pos size n : ℕ) (rs : List Item) → LieInOrder pos size rs → (k : ℕ) → k < n → k < length rs → past rs k ≤ ends pos (take n rs)
 unfolding ends
 fits-past pos size n [] f k m l = absurd (not-suc-le-zero l)
 fits-past pos size zero (r ∷ rs) f k m l = absurd (not-suc-le-zero m)
@@ -91,11 +91,11 @@ fits-past pos size (suc n) (r ∷ rs) f zero m l = ends-past (r .start + length 
 fits-past pos size (suc n) (r ∷ rs) f (suc k) m l = fits-past (r .start + length (r .bytes)) size n rs (f .2) k (le-of-suc-le-suc m) (le-of-suc-le-suc l)
 
 -- a record of a list that fits begins at the first position or later, and its bytes are in none of the others
-fits-until : (pos size : ℕ) (ps ss : List Item) (r : Item) → Fits pos size (ps ++ (r ∷ ss)) → pos ≤ r .start
+fits-until : (pos size : ℕ) (ps ss : List Item) (r : Item) → LieInOrder pos size (ps ++ (r ∷ ss)) → pos ≤ r .start
 fits-until pos size [] ss r f = f .0
 fits-until pos size (p ∷ ps) ss r f = omega (arith, f .0, fits-until (p .start + length (p .bytes)) size ps ss r (f .2))
 
-clear-without : (pos size : ℕ) (ps ss : List Item) (r : Item) → Fits pos size (ps ++ (r ∷ ss)) → Clear (r .start) (length (r .bytes)) (ps ++ ss)
+clear-without : (pos size : ℕ) (ps ss : List Item) (r : Item) → LieInOrder pos size (ps ++ (r ∷ ss)) → Clear (r .start) (length (r .bytes)) (ps ++ ss)
 clear-without pos size [] ss r f k i l x y low high = omega (arith, fits-begin (r .start + length (r .bytes)) size ss (f .2) k l)
 clear-without pos size (p ∷ ps) ss r f zero i l x y low high = omega (arith, fits-until (p .start + length (p .bytes)) size ps ss r (f .2))
 clear-without pos size (p ∷ ps) ss r f (suc k) i l x y low high =
@@ -138,7 +138,7 @@ gap-free b file t =
     let low : 258 ≤ t .start = le-trans (ends-past 258 (length b) (g .before) rs fit) (omega (arith, g .begins)) in
     record { above = low; inside = gap-room b file (t .whole) (t .gap); none = out }
   where
-    out : (k i : ℕ) → k < count b → Within b k i → t .start ≤ i → i < t .start + length file → ⊥
+    out : (k i : ℕ) → k < count b → InRecord b k i → t .start ≤ i → i < t .start + length file → ⊥
     out k i l w x y = by (leb (suc k) (gap-found b file (t .whole) (t .gap) .before)) refl
       where
         by : (u : Bool) → leb (suc k) (gap-found b file (t .whole) (t .gap) .before) ≡ u → ⊥

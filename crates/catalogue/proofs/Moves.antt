@@ -8,9 +8,10 @@ use native.Mathlib.Omega.{arith}
 use lib.ListN.{length, getD, take, drop, set, replicate, length-append, length-replicate, take-append-drop, drop-of-length-le}
 use lib.Seq.{sets, length-sets, take-suc, drop-cons, take-all, set-at, getD-at, take-at, drop-at, sets-eq, length-take-le}
 use Rattle.boolean.proofs.Stored.{sets-append}
+use Rattle.boolean.proofs.Lists.{part-then}
 use Rattle.catalogue.specs.Format.{part}
 use Rattle.catalogue.specs.Work.{slidDown, slidUp}
-use Rattle.catalogue.proofs.Built.{part-then, length-part}
+use Rattle.catalogue.proofs.Built.{length-part}
 
 -- so many of the new bytes are stored
 pub record Storing (old : List ℕ) (from : ℕ) (new : List ℕ) (i : ℕ) (b : List ℕ) : Type 0 where

@@ -8,10 +8,10 @@ use native.Mathlib.Omega.{arith}
 use lib.ListN.{length, getD, replicate, length-map, length-append}
 use lib.Seq.{sets, getD-at}
 use Rattle.boolean.proofs.Lists.{getD-listBelow}
-use Rattle.catalogue.specs.Format.{Place, Item, part, word, count, placeAt, places, records, valid, directory, body, placeOf, build}
+use Rattle.catalogue.specs.Format.{Place, Item, part, word, count, placeAt, places, records, valid, directory, body, placeOfItem, build}
 use Rattle.catalogue.specs.Work.{slidDown}
 use Rattle.catalogue.specs.Calls.{withoutGaps}
-use Rattle.catalogue.specs.Statements.{Bytes, Fits}
+use Rattle.catalogue.specs.Statements.{AllBytes, LieInOrder}
 use Rattle.catalogue.proofs.Built.{built, records-fit, length-records, length-directory, fits-inside, build-count, build-places, build-length}
 use Rattle.catalogue.proofs.Directories.{moved-place}
 use Rattle.catalogue.proofs.Bodies.{ends, moved-is, gap-is, fits-rest, fits-join, fits-lower}
@@ -23,11 +23,11 @@ pub record Packing (old : List ℕ) (n to k : ℕ) (b : List ℕ) : Type 0 where
   pub reached : length done ≡ k
   pub all : length (done ++ left) ≡ n
   pub to-is : to ≡ ends 258 done
-  pub fits : Fits 258 (length old) (done ++ left)
+  pub fits : LieInOrder 258 (length old) (done ++ left)
   pub is : b ≡ build (length old) (done ++ left)
   pub same : withoutGaps 258 (records old) ≡ done ++ withoutGaps (ends 258 done) left
 
-pub packing-start : (b : List ℕ) (n : ℕ) → Bytes b → valid b ≡ true → n ≡ count b → Packing b n 258 0 b
+pub packing-start : (b : List ℕ) (n : ℕ) → AllBytes b → valid b ≡ true → n ≡ count b → Packing b n 258 0 b
 unfolding ends
 packing-start b n small h e = record {
   done = [];
@@ -41,19 +41,19 @@ packing-start b n small h e = record {
 }
 
 -- the place of a record in a build
-pub place-in : (size : ℕ) (ps ss : List Item) (r : Item) (k : ℕ) → length ps ≡ k → length (ps ++ (r ∷ ss)) ≤ 64 → Fits 258 size (ps ++ (r ∷ ss))
-    → placeAt (build size (ps ++ (r ∷ ss))) k ≡ placeOf r
+pub place-in : (size : ℕ) (ps ss : List Item) (r : Item) (k : ℕ) → length ps ≡ k → length (ps ++ (r ∷ ss)) ≤ 64 → LieInOrder 258 size (ps ++ (r ∷ ss))
+    → placeAt (build size (ps ++ (r ∷ ss))) k ≡ placeOfItem r
 unfolding places
 place-in size ps ss r k lk few f =
     let rs = ps ++ (r ∷ ss) in
     let b = build size rs in
-    let d = placeOf r in
+    let d = placeOfItem r in
     let n = build-count size rs few f in
     let a = length-append ps (r ∷ ss) in
     let m : k < count b = omega (arith, n, a, lk) in
     sym (getD-listBelow (count b) (λ i. placeAt b i) k d m)
-    ∙ ap (λ (l : List Place). getD l k d) (build-places size rs few f ∙ map-append placeOf ps (r ∷ ss))
-    ∙ getD-at (map placeOf ps) (placeOf r) (map placeOf ss) d k (length-map ps placeOf ∙ lk)
+    ∙ ap (λ (l : List Place). getD l k d) (build-places size rs few f ∙ map-append placeOfItem ps (r ∷ ss))
+    ∙ getD-at (map placeOfItem ps) (placeOfItem r) (map placeOfItem ss) d k (length-map ps placeOfItem ∙ lk)
 
 -- where the records end with one more
 ends-more : (pos : ℕ) (ps : List Item) (r : Item) → ends pos (ps ++ (r ∷ [])) ≡ r .start + length (r .bytes)
@@ -62,13 +62,13 @@ ends-more pos [] r = refl
 ends-more pos (p ∷ ps) r = ends-more (p .start + length (p .bytes)) ps r
 
 -- a record moved down to the end of those before it, and its place written anew
-module _ (size : ℕ) (ps ss : List Item) (r : Item) (few : length (ps ++ (r ∷ ss)) ≤ 64) (f : Fits 258 size (ps ++ (r ∷ ss))) where
-  D-long : length (directory (map placeOf (ps ++ (r ∷ ss)))) ≡ 258
-  D-long = length-directory (map placeOf (ps ++ (r ∷ ss))) (omega (arith, length-map (ps ++ (r ∷ ss)) placeOf))
+module _ (size : ℕ) (ps ss : List Item) (r : Item) (few : length (ps ++ (r ∷ ss)) ≤ 64) (f : LieInOrder 258 size (ps ++ (r ∷ ss))) where
+  D-long : length (directory (map placeOfItem (ps ++ (r ∷ ss)))) ≡ 258
+  D-long = length-directory (map placeOfItem (ps ++ (r ∷ ss))) (omega (arith, length-map (ps ++ (r ∷ ss)) placeOfItem))
 
   pub settled-gap : part (ends 258 ps) (r .start - ends 258 ps) (build size (ps ++ (r ∷ ss))) ≡ replicate (r .start - ends 258 ps) 0
   unfolding build
-  settled-gap = gap-is (directory (map placeOf (ps ++ (r ∷ ss)))) size ps ss D-long r f
+  settled-gap = gap-is (directory (map placeOfItem (ps ++ (r ∷ ss)))) size ps ss D-long r f
 
   pub settled-is : (k : ℕ) → length ps ≡ k
       → sets (slidDown (ends 258 ps) (r .start - ends 258 ps) (length (r .bytes)) (build size (ps ++ (r ∷ ss)))) (4 * k + 2) (word (ends 258 ps))
@@ -76,11 +76,11 @@ module _ (size : ℕ) (ps ss : List Item) (r : Item) (few : length (ps ++ (r ∷
   unfolding build
   settled-is k lk =
       let q : Item = record { start = ends 258 ps; bytes = r .bytes } in
-      let D = directory (map placeOf (ps ++ (r ∷ ss))) in
+      let D = directory (map placeOfItem (ps ++ (r ∷ ss))) in
       let B = body 258 size (ps ++ (q ∷ ss)) in
-      ap (λ (l : List ℕ). sets l (4 * k + 2) (word (ends 258 ps))) (moved-is D size ps ss D-long r f ∙ ap (λ (l : List Place). directory l ++ B) (map-append placeOf ps (r ∷ ss)))
-      ∙ moved-place (map placeOf ps) (map placeOf ss) B (placeOf r) (ends 258 ps) k (length-map ps placeOf ∙ lk)
-      ∙ ap (λ (l : List Place). directory l ++ B) (sym (map-append placeOf ps (q ∷ ss)))
+      ap (λ (l : List ℕ). sets l (4 * k + 2) (word (ends 258 ps))) (moved-is D size ps ss D-long r f ∙ ap (λ (l : List Place). directory l ++ B) (map-append placeOfItem ps (r ∷ ss)))
+      ∙ moved-place (map placeOfItem ps) (map placeOfItem ss) B (placeOfItem r) (ends 258 ps) k (length-map ps placeOfItem ∙ lk)
+      ∙ ap (λ (l : List Place). directory l ++ B) (sym (map-append placeOfItem ps (q ∷ ss)))
 
 pub packing-length : {old : List ℕ} {n to k : ℕ} {b : List ℕ} (s : Packing old n to k b) → n ≤ 64 → length b ≡ length old
 packing-length {old} s most = ap length (s .is) ∙ build-length (length old) (s .done ++ s .left) (omega (arith, s .all)) (s .fits)
@@ -115,18 +115,18 @@ module _ {old : List ℕ} {n to k : ℕ} {b : List ℕ} (s : Packing old n to k 
   few : length rs ≤ 64
   few = omega (arith, ap length joined, s .all)
 
-  fit : Fits 258 (length old) rs
-  fit = subst (Fits 258 (length old)) joined (s .fits)
+  fit : LieInOrder 258 (length old) rs
+  fit = subst (LieInOrder 258 (length old)) joined (s .fits)
 
   now-is : b ≡ build (length old) rs
   now-is = s .is ∙ ap (build (length old)) joined
 
   -- what the two reads find
-  pub packing-place : placeAt b k ≡ placeOf here
+  pub packing-place : placeAt b k ≡ placeOfItem here
   unfolding rs
   packing-place = ap (λ (l : List ℕ). placeAt l k) now-is ∙ place-in (length old) (s .done) (x .rest) here k (s .reached) few fit
 
-  behind : Fits (ends 258 (s .done)) (length old) (here ∷ x .rest)
+  behind : LieInOrder (ends 258 (s .done)) (length old) (here ∷ x .rest)
   unfolding rs
   behind = fits-rest 258 (length old) (s .done) (here ∷ x .rest) fit
 
@@ -160,7 +160,7 @@ module _ {old : List ℕ} {n to k : ℕ} {b : List ℕ} (s : Packing old n to k 
         reached = omega (arith, a, s .reached);
         all = ap length group ∙ c ∙ sym d ∙ ap length (sym joined) ∙ s .all;
         to-is = ap (λ (i : ℕ). i + length (here .bytes)) (s .to-is) ∙ sym more;
-        fits = subst (Fits 258 (length old)) (sym group)
+        fits = subst (LieInOrder 258 (length old)) (sym group)
             (fits-join 258 (length old) (s .done) (here ∷ x .rest) (q ∷ x .rest) fit
             (le-refl (ends 258 (s .done)), lower .1, fits-lower (ends 258 (s .done) + length (here .bytes)) (here .start + length (here .bytes)) (length old) (x .rest) (omega (arith, lower .0)) (lower .2)));
         is = e

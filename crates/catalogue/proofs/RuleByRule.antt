@@ -1,6 +1,7 @@
 -- The computing test holds exactly of the buffers that keep the rules. Assumes nothing.
 use Prim.Native.Nat.{ℕ, zero, suc, _+_, _-_, _*_, _≤_, _<_}
 use mathlib.Core.Path.{_≡_, refl, sym, ap, _∙_, subst}
+use mathlib.Core.Logic.{_↔_}
 use mathlib.Core.Bool.{Bool, true, false}
 use mathlib.Core.List.{List, [], _∷_}
 use native.Mathlib.Nat.{not-suc-le-zero, le-of-suc-le-suc, zero-lt-suc}
@@ -10,17 +11,19 @@ use borrow.Author.Tests.{leb-true, leb-false}
 use lib.Dec.{leb}
 use lib.ListN.{length, getD, drop, length-drop}
 use lib.Seq.{getD-take, getD-drop}
+use Rattle.refusals.specs.Table.{isAccepted}
 use Rattle.boolean.specs.Sums.{listFrom, listBelow}
 use Rattle.boolean.specs.Functions.{at}
 use Rattle.boolean.proofs.Lists.{length-listBelow, getD-listBelow}
 use Rattle.boolean.proofs.Every.{both-true}
 use Rattle.refusals.proofs.Bounds.{below-at, below-true}
 use Rattle.refusals.specs.declared.Checked.the-variants.{Accepted}
+use Rattle.refusals.proofs.Checks.{is-accepted}
 use Rattle.boxfile.specs.File.{fileFound}
-use Rattle.catalogue.specs.Format.{Place, part, allZero, isAccepted, accepted, count, placeAt, places, stand, valid}
-use Rattle.catalogue.specs.Rules.{offset, size, Within, Rules}
+use Rattle.catalogue.specs.Format.{Place, part, allZero, accepted, count, placeAt, places, stand, valid}
+use Rattle.catalogue.specs.Rules.{offset, size, InRecord, Rules}
 use Rattle.catalogue.proofs.Built.{Stands, stands-true, stand-cons, Valid, valid-says, valid-true, length-part}
-use Rattle.catalogue.proofs.Leaving.{is-accepted, accepted-some}
+use Rattle.catalogue.proofs.Leaving.{accepted-some}
 
 -- zeros by index
 zero-at : (xs : List ℕ) → allZero xs ≡ true → (i : ℕ) → at xs i ≡ 0
@@ -113,7 +116,7 @@ module _ (b : List ℕ) (h : valid b ≡ true) where
       let few = v .most in
       sym (part-at b (4 * count b + 2) (4 * (64 - count b)) i l (omega arith)) ∙ zero-at (part (4 * count b + 2) (4 * (64 - count b)) b) (v .unused) (i - (4 * count b + 2))
 
-  gap : (i : ℕ) → 258 ≤ i → i < length b → ((k : ℕ) → k < count b → Within b k i → ⊥) → at b i ≡ 0
+  gap : (i : ℕ) → 258 ≤ i → i < length b → ((k : ℕ) → k < count b → InRecord b k i → ⊥) → at b i ≡ 0
   gap i l m out =
       stand-between b d 258 (places b) (v .standing-all) i l
       (λ k o x y. out k (short k o) (subst (λ (p : Place). p .offset ≤ i) (is k (short k o)) x, subst (λ (p : Place). i < p .offset + p .size) (is k (short k o)) y))
@@ -150,10 +153,10 @@ module _ (b : List ℕ) (r : Rules b) where
 
   -- the bytes from an end on that are in no record from k on are zero
   Clear : ℕ → ℕ → Type 0
-  Clear k end = (i : ℕ) → end ≤ i → i < length b → ((j : ℕ) → k ≤ j → j < count b → Within b j i → ⊥) → at b i ≡ 0
+  Clear k end = (i : ℕ) → end ≤ i → i < length b → ((j : ℕ) → k ≤ j → j < count b → InRecord b j i → ⊥) → at b i ≡ 0
 
   -- the bytes before record k are in no record from k on
-  before : (k i : ℕ) → i < offset b k → (j : ℕ) → k ≤ j → j < count b → Within b j i → ⊥
+  before : (k i : ℕ) → i < offset b k → (j : ℕ) → k ≤ j → j < count b → InRecord b j i → ⊥
   before k i l j p q w = by (ℕ-discrete j k)
     where
       by : Dec (j ≡ k) → ⊥
@@ -179,7 +182,7 @@ module _ (b : List ℕ) (r : Rules b) where
   unfolding Clear
   clear-next k end here out i p q none = out i (omega arith) q (λ j x y w. by j x y w (ℕ-discrete j k))
     where
-      by : (j : ℕ) → k ≤ j → j < count b → Within b j i → Dec (j ≡ k) → ⊥
+      by : (j : ℕ) → k ≤ j → j < count b → InRecord b j i → Dec (j ≡ k) → ⊥
       by j x y w (yes z) = let t = ap (λ (a : ℕ). offset b a + size b a) z in omega (arith, w .1)
       by j x y w (no z) = none j (omega arith) y w
 
@@ -212,3 +215,7 @@ module _ (b : List ℕ) (r : Rules b) where
     standing-all = stand-from (count b) 0 258 (omega arith) (r .shortest) (λ j p q. r .above j q)
         (λ i p q none. r .between i p q (λ j y w. none j (omega arith) y w));
   })
+
+-- so the test holds exactly of the buffers that keep the rules
+pub is-catalogue : (b : List ℕ) → (valid b ≡ true) ↔ Rules b
+is-catalogue b = (rules b, rules-valid b)

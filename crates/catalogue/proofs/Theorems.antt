@@ -1,35 +1,37 @@
 -- What a customer may rely on of a catalogue, from what a call's checks find. Assumes nothing.
 use Prim.Native.Nat.{ℕ, zero, suc, _+_, _-_, _≤_, _<_, zero-le}
 use mathlib.Core.Path.{_≡_, refl, sym, ap, ap₂, _∙_, subst}
-use mathlib.Core.Bool.{Bool, true, false, _&&_}
+use mathlib.Core.Bool.{Bool, true, false, _&&_, true≢false}
 use mathlib.Core.List.{List, [], _∷_, _++_, map}
-use mathlib.Core.Logic.{_⊎_, inl, inr}
+use mathlib.Core.Logic.{_⊎_, _↔_, inl, inr}
 use native.Mathlib.Nat.{not-suc-le-zero, le-of-suc-le-suc}
 use native.Mathlib.Omega.{arith}
-use borrow.Author.Tests.{ltb-true, ltb-false, lt-ltb}
+use borrow.Author.Tests.{ltb-true, ltb-false, lt-ltb, leb-true, le-leb}
 use lib.Dec.{leb, ltb}
 use denote.Ref.{RefT}
 use lib.ListN.{length, getD, take, drop, replicate, length-append, take-append-drop, replicate-append-replicate}
 use lib.Seq.{take-at, drop-at, getD-at, length-take-le, drop-drop}
 use Rattle.boolean.specs.Sums.{each}
 use Rattle.boolean.specs.Functions.{at}
+use Rattle.boolean.proofs.Every.{both, both-true}
 use Rattle.refusals.specs.Table.{first, Box}
 use Rattle.refusals.specs.declared.Refusal.{Refusal}
 use Rattle.refusals.specs.declared.Refusal.the-variants.{NoRoom}
+use Rattle.refusals.specs.declared.Checked.{Checked}
 use Rattle.refusals.specs.declared.Checked.the-variants.{Accepted, Refused}
-use Rattle.refusals.proofs.Checks.{passed, found, skip, end}
-use Rattle.boxfile.specs.File.{fileFound, rowsOf}
+use Rattle.refusals.proofs.Checks.{passed, found, skip, end, is-accepted, after-accepted, after-refused}
+use Rattle.boxfile.specs.File.{fileFound, fileRows}
 use Rattle.boxfile.proofs.FileRows.{box-of-file}
 use Rattle.catalogue.specs.declared.Gap.{Gap}
 use Rattle.catalogue.specs.declared.Gap.the-variants.{Starts, Nowhere}
 use Rattle.catalogue.specs.Format.{Item, word, placeAt, itemAt, accepted, count, records, valid, directory, body, build}
 use Rattle.catalogue.specs.Calls.{catalogueChecks, indexChecks, noItem, recordAt, PartOf, Handed, without, removed, lowest, gapFor, isGap, gapIndex}
 use Rattle.catalogue.specs.Calls.{offeredChecks, addChecks, addedAt, added, withoutGaps, compacted}
-use Rattle.catalogue.specs.Statements.{Bytes, Fits, Holds, Free, gapStart, taken, roomFound}
+use Rattle.catalogue.specs.Statements.{AllBytes, LieInOrder, Holds, Free, gapStart, bytesTaken, roomFound}
 use Rattle.catalogue.proofs.Built.{built, records-fit, length-records, valid-says, build-length, build-count}
-use Rattle.catalogue.proofs.Indexed.{indexed, handed-accepted, handed-refused}
+use Rattle.catalogue.proofs.Indexed.{indexed}
 use Rattle.catalogue.proofs.Adding.{Accepts, accepts, offered, offered-whole, offered-good, gap-index, add-full, add-nowhere, add-accepted}
-use Rattle.catalogue.proofs.Leaving.{is-accepted, accepted-some, leaves, cut-at, fewer-left, leaves-removed, length-without-gaps, without-gaps-bytes, lowest-without-gaps}
+use Rattle.catalogue.proofs.Leaving.{accepted-some, leaves, cut-at, fewer-left, leaves-removed, length-without-gaps, without-gaps-bytes, lowest-without-gaps}
 use Rattle.catalogue.proofs.Leaving.{without-gaps-few, without-gaps-fit, leaves-compacted, added-is-at, added-fit, added-few, leaves-added}
 use Rattle.catalogue.proofs.RuleByRule.{rules}
 use Rattle.catalogue.proofs.LowestGap.{Reaches, free-reached, gap-free, removed-free, free-fewer}
@@ -97,14 +99,14 @@ removed-serves b file index h good short = by (gapFor (removed b index) file) re
 module _ (lent part : RefT (List ℕ)) (index : ℕ) (handed : Handed lent index part) where
   pub fetched-part : first (indexChecks (lent .now) index) ≡ Accepted → PartOf lent (itemAt (lent .now) (placeAt (lent .now) index)) part
   fetched-part h =
-      subst (λ (item : Item). PartOf lent item part) (handed-accepted h (recordAt (lent .now) index) ∙ indexed (lent .now) index h .is) handed
+      subst (λ (item : Item). PartOf lent item part) (sym (after-accepted h (recordAt (lent .now) index) noItem) ∙ indexed (lent .now) index h .is) handed
 
   pub fetched-none : {e : Refusal} → first (indexChecks (lent .now) index) ≡ Refused e → PartOf lent noItem part
-  fetched-none h = subst (λ (item : Item). PartOf lent item part) (handed-refused h (recordAt (lent .now) index)) handed
+  fetched-none h = subst (λ (item : Item). PartOf lent item part) (sym (after-refused h (recordAt (lent .now) index) noItem)) handed
 
 -- ---- A fetched record is a box file that is accepted, and its box is one that every call takes.
 
-fits-accepted : (pos size : ℕ) (rs : List Item) → Fits pos size rs → (k : ℕ) → k < length rs → accepted (getD rs k noItem .bytes) ≡ true
+fits-accepted : (pos size : ℕ) (rs : List Item) → LieInOrder pos size rs → (k : ℕ) → k < length rs → accepted (getD rs k noItem .bytes) ≡ true
 fits-accepted pos size [] f k h = absurd (not-suc-le-zero h)
 fits-accepted pos size (r ∷ rs) f zero h = f .1
 fits-accepted pos size (r ∷ rs) f (suc k) h = fits-accepted (r .start + length (r .bytes)) size rs (f .2) k (le-of-suc-le-suc h)
@@ -117,7 +119,7 @@ fetched-accepted b index h =
 
 pub fetched-box : (b : List ℕ) (index : ℕ) → first (indexChecks b index) ≡ Accepted →
     let file = recordAt b index .bytes in
-    Box (at file 0) (at file 1) (rowsOf file (at file 0))
+    Box (at file 0) (at file 1) (fileRows file (at file 0))
 fetched-box b index h = box-of-file (recordAt b index .bytes) (fetched-accepted b index h)
 
 -- ---- Adding, where it is accepted.
@@ -170,7 +172,7 @@ module _ (b file : List ℕ) (h : first (addChecks b file) ≡ Accepted) where
       ∙ take-append-drop (t .index) rs
 
   -- removing the same index restores the buffer
-  pub add-then-remove : Bytes b → removed (added b file) (gapIndex (gapFor b file)) ≡ b
+  pub add-then-remove : AllBytes b → removed (added b file) (gapIndex (gapFor b file)) ≡ b
   add-then-remove small =
       ap₂ build (build-length (length b) (addedAt (gapFor b file) file (records b)) (added-few b file t) (added-fit b file t)) added-others
       ∙ sym (built b small (t .whole))
@@ -194,7 +196,7 @@ no-room b file ok h = by (ltb (count b) 64) refl (gapFor b file) refl
 
 -- ---- Right after compaction an accepted file is added exactly if fewer than 64 records stand and the free bytes in all are enough; else the answer is 14.
 pub add-after-compaction : (b file : List ℕ) → first (offeredChecks b file) ≡ Accepted
-    → first (addChecks (compacted b) file) ≡ roomFound (ltb (count b) 64 && leb (258 + taken (records b) + length file) (length b))
+    → first (addChecks (compacted b) file) ≡ roomFound (ltb (count b) 64 && leb (258 + bytesTaken (records b) + length file) (length b))
 unfolding gapFor
 add-after-compaction b file ok = by (ltb (count b) 64) refl (lowest (length file) (length c) 0 258 (records c)) refl
   where
@@ -213,16 +215,48 @@ add-after-compaction b file ok = by (ltb (count b) 64) refl (lowest (length file
     same-count : count c ≡ count b
     same-count = build-count (length b) (withoutGaps 258 (records b)) (without-gaps-few b whole) (without-gaps-fit b whole) ∙ length-without-gaps 258 (records b) ∙ length-records b
 
-    gap : isGap (lowest (length file) (length c) 0 258 (records c)) ≡ leb (258 + taken (records b) + length file) (length b)
+    gap : isGap (lowest (length file) (length c) 0 258 (records c)) ≡ leb (258 + bytesTaken (records b) + length file) (length b)
     gap = ap₂ (λ (n : ℕ) (rs : List Item). isGap (lowest (length file) n 0 258 rs)) (build-length (length b) (withoutGaps 258 (records b)) (without-gaps-few b whole) (without-gaps-fit b whole)) (left .holds)
         ∙ lowest-without-gaps (length file) (length b) 0 258 (records b) (accepted-some file (offered-good b file ok))
 
     by : (t : Bool) → ltb (count b) 64 ≡ t → (g : Gap) → lowest (length file) (length c) 0 258 (records c) ≡ g
-        → first (addChecks c file) ≡ roomFound (ltb (count b) 64 && leb (258 + taken (records b) + length file) (length b))
-    by false e g h = add-full c file still (omega (arith, same-count, ltb-false (count b) 64 e)) ∙ ap (λ (x : Bool). roomFound (x && leb (258 + taken (records b) + length file) (length b))) (sym e)
+        → first (addChecks c file) ≡ roomFound (ltb (count b) 64 && leb (258 + bytesTaken (records b) + length file) (length b))
+    by false e g h = add-full c file still (omega (arith, same-count, ltb-false (count b) 64 e)) ∙ ap (λ (x : Bool). roomFound (x && leb (258 + bytesTaken (records b) + length file) (length b))) (sym e)
     by true e (Starts i s) h =
         add-accepted c file still (omega (arith, same-count, ltb-true (count b) 64 e)) h
         ∙ ap₂ (λ (x y : Bool). roomFound (x && y)) (sym e) (sym (ap isGap h) ∙ gap)
     by true e Nowhere h =
         add-nowhere c file still (omega (arith, same-count, ltb-true (count b) 64 e)) h
         ∙ ap₂ (λ (x y : Bool). roomFound (x && y)) (sym e) (sym (ap isGap h) ∙ gap)
+
+-- ---- The same in words: "right after it, adding an accepted file fails only with 64 records or too few free bytes in all."
+room-iff : (t : Bool) → (roomFound t ≡ Accepted) ↔ (t ≡ true)
+room-iff true = (λ h. refl, λ h. refl)
+room-iff false = (λ h. absurd (not-refused (sym h)), λ h. absurd (true≢false (sym h)))
+  where
+    is-accepted : Checked → Bool
+    is-accepted Accepted = true
+    is-accepted (Refused e) = false
+
+    not-refused : Accepted ≡ Refused NoRoom → ⊥
+    not-refused h = true≢false (ap is-accepted h)
+
+room-or-none : (t : Bool) → (roomFound t ≡ Accepted) ⊎ (roomFound t ≡ Refused NoRoom)
+room-or-none true = inl refl
+room-or-none false = inr refl
+
+pub added-after-compaction : (b file : List ℕ) → first (offeredChecks b file) ≡ Accepted
+    → ((first (addChecks (compacted b) file) ≡ Accepted) ↔ ((count b < 64) × (258 + bytesTaken (records b) + length file ≤ length b)))
+    × ((first (addChecks (compacted b) file) ≡ Accepted) ⊎ (first (addChecks (compacted b) file) ≡ Refused NoRoom))
+added-after-compaction b file ok =
+    let few = ltb (count b) 64 in
+    let room = leb (258 + bytesTaken (records b) + length file) (length b) in
+    subst (λ (k : Checked). ((k ≡ Accepted) ↔ ((count b < 64) × (258 + bytesTaken (records b) + length file ≤ length b))) ×
+    ((k ≡ Accepted) ⊎ (k ≡ Refused NoRoom)))
+    (sym (add-after-compaction b file ok)) (
+      (
+        λ h. let t = both few room (room-iff (few && room) .0 h) in (ltb-true (count b) 64 (t .0), leb-true _ (length b) (t .1)),
+        λ t. room-iff (few && room) .1 (both-true few room (lt-ltb (count b) 64 (t .0)) (le-leb _ (length b) (t .1))),
+      ),
+      room-or-none (few && room),
+    )

@@ -1,33 +1,30 @@
 -- What the calls on a catalogue reply, and what they leave.
-use Prim.Native.Nat.{ℕ, _+_, _^_}
+use Prim.Native.Nat.{ℕ, _+_}
 use mathlib.Core.Path.{_≡_}
 use mathlib.Core.Bool.{Bool, true, false}
 use mathlib.Core.List.{List, [], _∷_, _++_}
 use denote.Ref.{RefT}
 use lib.Dec.{ltb, leb}
 use lib.ListN.{getD, length, take, drop}
-use Rattle.boolean.specs.Functions.{at}
-use Rattle.refusals.specs.Table.{Check, _unless_, first, Reply, figures, refusal, number, replyAfter}
+use Rattle.refusals.specs.Table.{Check, _unless_, first, Reply, figures, refusal, number, replyAfter, after}
 use Rattle.refusals.specs.declared.Refusal.the-variants.{Catalogue, NoRoom, NoRecord}
-use Rattle.refusals.specs.declared.Checked.{Checked}
-use Rattle.refusals.specs.declared.Checked.the-variants.{Accepted, Refused}
-use Rattle.boxfile.specs.File.{fileChecks}
+use Rattle.boxfile.specs.File.{fileChecks, aloneChecks}
 use Rattle.catalogue.specs.declared.Gap.{Gap}
 use Rattle.catalogue.specs.declared.Gap.the-variants.{Starts, Nowhere}
 use Rattle.catalogue.specs.declared.Told.{Told}
 use Rattle.catalogue.specs.declared.Told.the-variants.{Number, Declined}
 use Rattle.catalogue.specs.declared.Fetched.{Fetched}
 use Rattle.catalogue.specs.declared.Fetched.the-variants.{Lies, Unfetched}
-use Rattle.catalogue.specs.Format.{Item, count, records, valid, build}
+use Rattle.catalogue.specs.Format.{Item, count, records, valid, build, recordsStart}
 
 -- what the answers say: one number, or where a record lies and its length; or the number of the refusal
-abbrev pub told : Told → Reply
-told (Number n) = figures (n ∷ [])
-told (Declined e) = refusal (number e)
+abbrev pub saidTold : Told → Reply
+saidTold (Number n) = figures (n ∷ [])
+saidTold (Declined e) = refusal (number e)
 
-abbrev pub fetched : Fetched → Reply
-fetched (Lies offset size) = figures (offset ∷ size ∷ [])
-fetched (Unfetched e) = refusal (number e)
+abbrev pub saidFetched : Fetched → Reply
+saidFetched (Lies offset size) = figures (offset ∷ size ∷ [])
+saidFetched (Unfetched e) = refusal (number e)
 
 -- the check of a catalogue, which every call makes first
 unfoldable pub catalogueChecks : List ℕ → List Check
@@ -41,6 +38,7 @@ checkReply b = replyAfter (first (catalogueChecks b)) (count b ∷ [])
 unfoldable pub indexChecks : (b : List ℕ) (index : ℕ) → List Check
 indexChecks b index = (Catalogue unless valid b) ∷ (NoRecord unless ltb index (count b)) ∷ []
 
+-- no record: what `recordAt` has past the last one, which the checks refuse, and the empty part that a refused call hands back
 abbrev pub noItem : Item
 noItem = record { start = 0; bytes = [] }
 
@@ -49,21 +47,16 @@ unfoldable pub recordAt : (b : List ℕ) (index : ℕ) → Item
 unfolding records
 recordAt b index = getD (records b) index noItem
 
--- what is handed back: the record; where the call is refused, the empty part at the catalogue's start
-unfoldable pub handedBack : (found : Checked) (item : Item) → Item
-handedBack Accepted item = item
-handedBack (Refused e) item = noItem
-
 -- a part of a lent slice, and no copy. A contract sees a slice as a `RefT`: `ptr` is the block of memory in which it lies and where it
--- begins there, `now` is what it holds. The part lies in the same block, so many bytes behind the slice's start, and has these bytes.
+-- begins there, `now` is what it holds. The part lies in the same block, the record's start behind the slice's, and has the record's bytes.
 pub record PartOf (lent : RefT (List ℕ)) (item : Item) (part : RefT (List ℕ)) : Type 0 where
   pub block : part .ptr .0 ≡ lent .ptr .0
   pub place : part .ptr .1 ≡ lent .ptr .1 + item .start
   pub content : part .now ≡ item .bytes
 
--- the outcome of fetching: the part that is handed back
+-- the outcome of fetching: the part that is handed back is the record, and where the call is refused the empty one at the catalogue's start
 abbrev pub Handed : (lent : RefT (List ℕ)) (index : ℕ) (part : RefT (List ℕ)) → Type 0
-Handed lent index part = PartOf lent (handedBack (first (indexChecks (lent .now) index)) (recordAt (lent .now) index)) part
+Handed lent index part = PartOf lent (after (first (indexChecks (lent .now) index)) (recordAt (lent .now) index) noItem) part
 
 -- where the record lies, and its length
 abbrev pub fetchReply : (b : List ℕ) (index : ℕ) → Reply
@@ -77,7 +70,7 @@ without index rs = take index rs ++ drop (index + 1) rs
 abbrev pub removed : (b : List ℕ) (index : ℕ) → List ℕ
 removed b index = build (length b) (without index (records b))
 
--- Adding. The lowest gap of so many bytes, from a position on: the gap before the next record, or else one behind it; k is that record's
+-- Adding. The lowest gap of `need` bytes, from a position on: the gap before the next record, or else one behind it; k is that record's
 -- index.
 unfoldable pub lowest : (need size k pos : ℕ) (rs : List Item) → Gap
 lowest need size k pos [] = elim (leb (pos + need) size) [ true ↦ Starts k pos | false ↦ Nowhere ]
@@ -87,13 +80,13 @@ lowest need size k pos (r ∷ rs) =
 -- the gap that a file is put into
 unfoldable pub gapFor : (b file : List ℕ) → Gap
 unfolding lowest records
-gapFor b file = lowest (length file) (length b) 0 258 (records b)
+gapFor b file = lowest (length file) (length b) 0 recordsStart (records b)
 
 abbrev pub isGap : Gap → Bool
 isGap (Starts index start) = true
 isGap Nowhere = false
 
--- the index of the new record
+-- the index of the new record (without a gap the call is refused by 14: that 0 is never answered)
 abbrev pub gapIndex : Gap → ℕ
 gapIndex (Starts index start) = index
 gapIndex Nowhere = 0
@@ -101,7 +94,7 @@ gapIndex Nowhere = 0
 -- the checks of a file that is offered to a catalogue: the catalogue, then the file's own
 unfoldable pub offeredChecks : (b file : List ℕ) → List Check
 unfolding fileChecks
-offeredChecks b file = (Catalogue unless valid b) ∷ fileChecks file (2 ^ at file 0)
+offeredChecks b file = (Catalogue unless valid b) ∷ aloneChecks file
 
 -- the checks of adding: those, then 64 records or no gap
 unfoldable pub addChecks : (b file : List ℕ) → List Check
@@ -123,4 +116,4 @@ withoutGaps pos [] = []
 withoutGaps pos (r ∷ rs) = record { start = pos; bytes = r .bytes } ∷ withoutGaps (pos + length (r .bytes)) rs
 
 abbrev pub compacted : List ℕ → List ℕ
-compacted b = build (length b) (withoutGaps 258 (records b))
+compacted b = build (length b) (withoutGaps recordsStart (records b))

@@ -1,14 +1,12 @@
 -- Document 02 §7: a catalogue of box files in one buffer, as it is read and as it is written.
 use Prim.Native.Nat.{ℕ, _+_, _-_, _*_, _/_, _%_}
-use mathlib.Core.Bool.{Bool, true, false, _&&_}
+use mathlib.Core.Bool.{Bool, _&&_}
 use mathlib.Core.List.{List, [], _∷_, _++_, map}
 use lib.Dec.{leb}
 use lib.ListN.{length, take, drop, replicate}
 use Rattle.boolean.specs.Sums.{listBelow, each}
 use Rattle.boolean.specs.Functions.{at}
-use Rattle.refusals.specs.Table.{inRange, allBelow}
-use Rattle.refusals.specs.declared.Checked.{Checked}
-use Rattle.refusals.specs.declared.Checked.the-variants.{Accepted, Refused}
+use Rattle.refusals.specs.Table.{inRange, allBelow, isAccepted}
 use Rattle.boxfile.specs.File.{fileFound}
 
 -- a number in two bytes, low byte first: as it is read, and as it is written
@@ -18,7 +16,11 @@ wordAt b i = at b i + 256 * at b (i + 1)
 unfoldable pub word : ℕ → List ℕ
 word v = v % 256 ∷ v / 256 ∷ []
 
--- so many bytes from a start on
+-- where the first record may begin: behind the count and the directory of 64 places
+abbrev pub recordsStart : ℕ
+recordsStart = 258
+
+-- `size` bytes from a start on
 abbrev pub part : (start size : ℕ) (b : List ℕ) → List ℕ
 part start size b = take size (drop start b)
 
@@ -34,10 +36,6 @@ pub record Place : Type 0 where
 pub record Item : Type 0 where
   pub start : ℕ
   pub bytes : List ℕ
-
-abbrev pub isAccepted : Checked → Bool
-isAccepted Accepted = true
-isAccepted (Refused e) = false
 
 -- a box file that is accepted
 unfoldable pub accepted : List ℕ → Bool
@@ -83,9 +81,9 @@ stand b end (p ∷ ps) = stands b end p && stand b (p .offset + p .size) ps
 unfoldable pub valid : List ℕ → Bool
 unfolding count places stand
 valid b =
-    inRange 258 65535 (length b)
+    inRange recordsStart 65535 (length b)
     && (leb (count b) 64
-    && (allZero (part (4 * count b + 2) (4 * (64 - count b)) b) && stand b 258 (places b)))
+    && (allZero (part (4 * count b + 2) (4 * (64 - count b)) b) && stand b recordsStart (places b)))
 
 -- Writing: the directory of some places, the bytes from a position on, and the whole buffer.
 unfoldable pub placeBytes : Place → List ℕ
@@ -100,9 +98,9 @@ unfoldable pub body : (pos size : ℕ) (rs : List Item) → List ℕ
 body pos size [] = replicate (size - pos) 0
 body pos size (r ∷ rs) = replicate (r .start - pos) 0 ++ (r .bytes ++ body (r .start + length (r .bytes)) size rs)
 
-abbrev pub placeOf : Item → Place
-placeOf r = record { offset = r .start; size = length (r .bytes) }
+abbrev pub placeOfItem : Item → Place
+placeOfItem r = record { offset = r .start; size = length (r .bytes) }
 
 unfoldable pub build : (size : ℕ) (rs : List Item) → List ℕ
 unfolding directory body
-build size rs = directory (map placeOf rs) ++ body 258 size rs
+build size rs = directory (map placeOfItem rs) ++ body recordsStart size rs

@@ -15,8 +15,8 @@ offset b k = placeAt b k .offset
 abbrev pub size : (b : List ℕ) (k : ℕ) → ℕ
 size b k = placeAt b k .size
 
-abbrev pub Within : (b : List ℕ) (k i : ℕ) → Type 0
-Within b k i = (offset b k ≤ i) × (i < offset b k + size b k)
+abbrev pub InRecord : (b : List ℕ) (k i : ℕ) → Type 0
+InRecord b k i = (offset b k ≤ i) × (i < offset b k + size b k)
 
 pub record Rules (b : List ℕ) : Type 0 where
   -- 258 to 65,535 bytes
@@ -34,6 +34,6 @@ pub record Rules (b : List ℕ) : Type 0 where
   pub above : (k : ℕ) → k < count b → 258 ≤ offset b k
   pub inside : (k : ℕ) → k < count b → offset b k + size b k ≤ length b
   -- they do not overlap
-  pub apart : (j k i : ℕ) → j < k → k < count b → Within b j i → Within b k i → ⊥
+  pub apart : (j k i : ℕ) → j < k → k < count b → InRecord b j i → InRecord b k i → ⊥
   -- all bytes behind the directory that are in no record are zero
-  pub between : (i : ℕ) → 258 ≤ i → i < length b → ((k : ℕ) → k < count b → Within b k i → ⊥) → at b i ≡ 0
+  pub between : (i : ℕ) → 258 ≤ i → i < length b → ((k : ℕ) → k < count b → InRecord b k i → ⊥) → at b i ≡ 0

@@ -6,8 +6,8 @@ use lib.Seq.{sets}
 use Rattle.catalogue.specs.Format.{Place, part, word}
 
 -- a place from its two numbers
-abbrev pub place : (offset size : ℕ) → Place
-place offset size = record { offset = offset; size = size }
+abbrev pub placeFrom : (offset size : ℕ) → Place
+placeFrom offset size = record { offset = offset; size = size }
 
 -- bytes moved down, or up, over a gap of zeros
 abbrev pub slidDown : (to gap size : ℕ) (b : List ℕ) → List ℕ

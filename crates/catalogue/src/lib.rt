@@ -8,11 +8,14 @@ ghost use mathlib.Core.Bool.{true};
 ghost use Prim.Native.Nat.{_+_, _*_, _<_, _≤_};
 ghost use lib.Seq.{sets};
 ghost use lib.ListN.{length, replicate};
-ghost use Rattle.refusals.specs.Table.{first, written, Wrote};
-ghost use Rattle.catalogue.specs.Format.{wordAt, word, part, count, places, stands, stand, valid, records};
-ghost use Rattle.catalogue.specs.Work.{place, slidDown, slidUp, closed, opened};
-ghost use Rattle.catalogue.specs.Calls.{told, fetched, catalogueChecks, checkReply, indexChecks, Handed, fetchReply, removed};
+ghost use Rattle.refusals.specs.Table.{first, saidWritten, Wrote};
+ghost use Rattle.catalogue.specs.Format.{wordAt, word, recordsStart, part, count, places, stands, stand, valid, records};
+ghost use Rattle.catalogue.specs.Work.{placeFrom, slidDown, slidUp, closed, opened};
+ghost use Rattle.catalogue.specs.Calls.{saidTold, saidFetched, catalogueChecks, checkReply, indexChecks, Handed, fetchReply, removed};
 ghost use Rattle.catalogue.specs.Calls.{lowest, gapFor, gapIndex, offeredChecks, addChecks, added, compacted};
+
+// Where the first record may begin: behind the count and the directory of 64 places.
+const RECORDS_START: usize = 258;
 
 // The answer of a call that gives one number.
 pub enum Told {
@@ -43,7 +46,7 @@ fn word_at(b: &[u8], i: usize) -> usize
 // Whether a record stands at this place, past the end of what stands before it.
 fn record_stands(b: &[u8], end: usize, offset: usize, size: usize) -> bool
     requires { ⌜ (end ≤ length (now b)) × (offset < 65536) × (size < 65536) ⌝ }
-    ensures { λ r. ⌜ r ≡ stands (now (b .entry)) end (place offset size) ⌝ }
+    ensures { λ r. ⌜ r ≡ stands (now (b .entry)) end (placeFrom offset size) ⌝ }
 {
     if offset < end {
         return false;
@@ -63,10 +66,10 @@ fn record_stands(b: &[u8], end: usize, offset: usize, size: usize) -> bool
 
 // Whether records stand at all places in use, and the bytes behind the last one are zero.
 fn records_stand(b: &[u8], n: usize) -> bool
-    requires { ⌜ (258 ≤ length (now b)) × (n ≤ 64) × (n ≡ count (now b)) ⌝ }
-    ensures { λ r. ⌜ r ≡ stand (now (b .entry)) 258 (places (now (b .entry))) ⌝ }
+    requires { ⌜ (recordsStart ≤ length (now b)) × (n ≤ 64) × (n ≡ count (now b)) ⌝ }
+    ensures { λ r. ⌜ r ≡ stand (now (b .entry)) recordsStart (places (now (b .entry))) ⌝ }
 {
-    let mut end = 258;
+    let mut end = RECORDS_START;
     let mut k = 0;
     while k < n {
         let offset = word_at(b, 4 * k + 2);
@@ -84,7 +87,7 @@ fn records_stand(b: &[u8], n: usize) -> bool
 fn is_valid(b: &[u8]) -> bool
     ensures { λ r. ⌜ r ≡ valid (now (b .entry)) ⌝ }
 {
-    if b.len() < 258 {
+    if b.len() < RECORDS_START {
         return false;
     }
     if 65535 < b.len() {
@@ -95,7 +98,7 @@ fn is_valid(b: &[u8]) -> bool
         return false;
     }
     let unused = 4 * n + 2;
-    if !refusals::values_below(&b[unused..258], 1) {
+    if !refusals::values_below(&b[unused..RECORDS_START], 1) {
         return false;
     }
     records_stand(b, n)
@@ -103,7 +106,7 @@ fn is_valid(b: &[u8]) -> bool
 
 // Checks a catalogue: the number of its records.
 pub fn check(catalogue: &[u8]) -> Told
-    ensures { λ r. ⌜ told r ≡ checkReply (now (catalogue .entry)) ⌝ }
+    ensures { λ r. ⌜ saidTold r ≡ checkReply (now (catalogue .entry)) ⌝ }
 {
     if !is_valid(catalogue) {
         return Told::Declined(Refusal::Catalogue);
@@ -126,7 +129,7 @@ fn check_index(b: &[u8], index: u32) -> Checked
 
 // Where a record lies, its index from 0 in the directory's order.
 pub fn fetch_status(catalogue: &[u8], index: u32) -> Fetched
-    ensures { λ r. ⌜ fetched r ≡ fetchReply (now (catalogue .entry)) index ⌝ }
+    ensures { λ r. ⌜ saidFetched r ≡ fetchReply (now (catalogue .entry)) index ⌝ }
 {
     if let Checked::Refused(e) = check_index(catalogue, index) {
         return Fetched::Unfetched(e);
@@ -162,7 +165,7 @@ fn put_word(b: &mut [u8], i: usize, v: usize)
     b[i + 1] = (v / 256) as u8;
 }
 
-// Clears so many bytes.
+// Clears the bytes of a part.
 fn clear(b: &mut [u8], start: usize, size: usize)
     requires { ⌜ start + size ≤ length (now b) ⌝ }
     ensures { λ _. ⌜ now (b .exit) ≡ sets (now (b .entry)) start (replicate size 0) ⌝ }
@@ -218,7 +221,7 @@ fn slide_up(b: &mut [u8], from: usize, size: usize, gap: usize)
 
 // Takes place k out of the directory of n places.
 fn close_place(b: &mut [u8], n: usize, k: usize)
-    requires { ⌜ (k < n) × (n ≤ 64) × (258 ≤ length (now b)) ⌝ }
+    requires { ⌜ (k < n) × (n ≤ 64) × (recordsStart ≤ length (now b)) ⌝ }
     ensures { λ _. ⌜ now (b .exit) ≡ closed n k (now (b .entry)) ⌝ }
 {
     let place = 4 * k + 2;
@@ -229,9 +232,9 @@ fn close_place(b: &mut [u8], n: usize, k: usize)
 
 // Puts a place into the directory of n places, as place k.
 fn open_place(b: &mut [u8], n: usize, k: usize, offset: usize, size: usize)
-    requires { ⌜ (k ≤ n) × (n < 64) × (258 ≤ length (now b)) × (offset < 65536) × (size < 65536)
+    requires { ⌜ (k ≤ n) × (n < 64) × (recordsStart ≤ length (now b)) × (offset < 65536) × (size < 65536)
         × (part (4 * n + 2) 4 (now b) ≡ replicate 4 0) ⌝ }
-    ensures { λ _. ⌜ now (b .exit) ≡ opened n k (place offset size) (now (b .entry)) ⌝ }
+    ensures { λ _. ⌜ now (b .exit) ≡ opened n k (placeFrom offset size) (now (b .entry)) ⌝ }
 {
     let place = 4 * k + 2;
     slide_up(b, place, 4 * (n - k), 4);
@@ -246,7 +249,7 @@ pub fn remove(catalogue: &mut [u8], index: u32) -> Written
         (indexChecks (now (catalogue .entry)) index)
         []
         (removed (now (catalogue .entry)) index)
-        (now (catalogue .entry)) (written r) (now (catalogue .exit)) ⌝ }
+        (now (catalogue .entry)) (saidWritten r) (now (catalogue .exit)) ⌝ }
 {
     if let Checked::Refused(e) = check_index(catalogue, index) {
         return Written::Declined(e);
@@ -263,9 +266,9 @@ pub fn remove(catalogue: &mut [u8], index: u32) -> Written
 // The lowest gap that is long enough.
 fn find_gap(b: &[u8], n: usize, need: usize) -> Gap
     requires { ⌜ (valid (now b) ≡ true) × (n ≡ count (now b)) ⌝ }
-    ensures { λ r. ⌜ r ≡ lowest need (length (now (b .entry))) 0 258 (records (now (b .entry))) ⌝ }
+    ensures { λ r. ⌜ r ≡ lowest need (length (now (b .entry))) 0 recordsStart (records (now (b .entry))) ⌝ }
 {
-    let mut start = 258;
+    let mut start = RECORDS_START;
     let mut k = 0;
     while k < n {
         let offset = word_at(b, 4 * k + 2);
@@ -298,7 +301,7 @@ pub fn add(catalogue: &mut [u8], file: &[u8]) -> Told
         (addChecks (now (catalogue .entry)) (now (file .entry)))
         (gapIndex (gapFor (now (catalogue .entry)) (now (file .entry))) ∷ [])
         (added (now (catalogue .entry)) (now (file .entry)))
-        (now (catalogue .entry)) (told r) (now (catalogue .exit)) ⌝ }
+        (now (catalogue .entry)) (saidTold r) (now (catalogue .exit)) ⌝ }
 {
     if let Checked::Refused(e) = check_offered(catalogue, file) {
         return Told::Declined(e);
@@ -322,7 +325,7 @@ fn pack(b: &mut [u8], n: usize)
     requires { ⌜ (valid (now b) ≡ true) × (n ≡ count (now b)) ⌝ }
     ensures { λ _. ⌜ now (b .exit) ≡ compacted (now (b .entry)) ⌝ }
 {
-    let mut to = 258;
+    let mut to = RECORDS_START;
     let mut k = 0;
     while k < n {
         let offset = word_at(b, 4 * k + 2);
@@ -340,7 +343,7 @@ pub fn compact(catalogue: &mut [u8]) -> Written
         (catalogueChecks (now (catalogue .entry)))
         []
         (compacted (now (catalogue .entry)))
-        (now (catalogue .entry)) (written r) (now (catalogue .exit)) ⌝ }
+        (now (catalogue .entry)) (saidWritten r) (now (catalogue .exit)) ⌝ }
 {
     if !is_valid(catalogue) {
         return Written::Declined(Refusal::Catalogue);

@@ -1,30 +1,24 @@
--- An affine function added to a column: what it does to a row, to each component, to the box and to its nonlinearity.
+-- An affine function added to a column: what it does to a row, to each component and to the box.
 use mathlib.Core.Path.{_≡_, refl, sym, ap, ap₂, _∙_, subst}
 use mathlib.Core.Logic.{_≢_}
 use mathlib.Core.List.{List}
 use Prim.Native.Nat.{ℕ, _+_, _*_, _-_, _^_, _<_, _≤_}
-use native.Mathlib.Nat.{le-trans, le-of-eq, le-antisymm, mul-zero, mul-one}
+use native.Mathlib.Nat.{le-trans, le-of-eq, mul-zero, mul-one}
 use native.Mathlib.Omega.{arith}
 use native.Mathlib.Decide.{decLt}
 use lib.Pow.{pow-pos, pow-mono, shl-lt}
 use lib.Bits.{bitXor, xor-lt, xor-zero-r}
 use lib.ListN.{length, List·getD-eq-default}
 use Rattle.boolean.specs.Bits.{affine, bit, dot}
-use Rattle.boolean.specs.Functions.{at, component, distance}
-use Rattle.boolean.specs.Selection.{Candidate}
+use Rattle.boolean.specs.Functions.{at, component}
 use Rattle.boolean.proofs.Lists.{length-listBelow, getD-listBelow}
 use Rattle.boolean.proofs.Dots.{bit-cases, dot-xor}
-use Rattle.boolean.proofs.Xor.{xor-cancel}
-use Rattle.boolean.proofs.Digits.{bit-lt, affine-lt, bit-xor, bit-placed, bit-placed-other, dot-placed, affine-times, component-dot, component-lt}
-use Rattle.boolean.proofs.Distances.{distance-cong, distance-shift}
-use Rattle.refusals.specs.Table.{Box, contentAfter}
+use Rattle.boolean.proofs.Digits.{affine-lt, bit-xor, bit-placed, bit-placed-other, dot-placed, component-dot}
+use Rattle.refusals.specs.Table.{Box, first, after}
 use Rattle.refusals.specs.declared.Checked.{Checked}
 use Rattle.refusals.specs.declared.Checked.the-variants.{Accepted, Refused}
-use Rattle.linear.specs.Nonlinearity.{nonlinearity}
-use Rattle.linear.specs.Statements.{IsPair}
-use Rattle.linear.proofs.Theorems.{nonlinearity-least, nonlinearity-reached}
 use Rattle.columns.proofs.Accepted.{accepts}
-use Rattle.columns.specs.Addition.{addedRow, addedRows, Addition, additionChecked, standing}
+use Rattle.columns.specs.Addition.{addedRow, addedRows, additionChecks, Addition, additionChecked, standingRows}
 
 -- ---- one row: column j of the row at x, with the affine function (w, b)
 module _ (j w b x row : ℕ) (hb : b < 2) where
@@ -75,7 +69,18 @@ module _ (j w b : ℕ) (rows : List ℕ) where
     component-seen e = component-added ∙ ap (λ (t : ℕ). bitXor (component rows c x) (affine w b x * t)) e
         ∙ ap (bitXor (component rows c x)) (mul-one (affine w b x))
 
--- ---- what an accepted addition has
+-- ---- an accepted addition: bit j of every row is XORed with the affine function, and the other bits stay
+pub added-bits : (n m : ℕ) (rows : List ℕ) (j w b room : ℕ) → first (additionChecks n m rows j w b room) ≡ Accepted → (x : ℕ) → x < 2 ^ n
+    → (bit j (at (addedRows j w b rows) x) ≡ bitXor (bit j (at rows x)) (affine w b x))
+    × ((k : ℕ) → 1 ≤ k → ¬ (k ≡ j) → bit k (at (addedRows j w b rows) x) ≡ bit k (at rows x))
+added-bits n m rows j w b room h x l =
+    let t = accepts n m rows j w b room h in
+    let row = row-added j w b rows x (omega (arith, t .sound .size)) in (
+      ap (bit j) row ∙ bit-added j w b x (at rows x) (t .b-bit),
+      λ k low unlike. ap (bit k) row ∙ bit-kept j w b x (at rows x) (t .b-bit) k low (t .j-low) unlike,
+    )
+
+-- what its arguments are
 pub record Fits (n m : ℕ) (a : Addition) : Type 0 where
   pub column-low : 1 ≤ a .column
   pub column-high : a .column ≤ m
@@ -119,56 +124,15 @@ module _ (n m : ℕ) (rows : List ℕ) (box : Box n m rows) (a : Addition) (fits
         below = λ x. added-below x (decLt x (length rows));
       }
 
-  -- ---- of the same nonlinearity: a component's distances move among its pairs
-  module _ (i c v e : ℕ) (p : IsPair n m i c v e) where
-    moved : IsPair n m i c (bitXor v (a .mask * bit (a .column) c)) (bitXor e (a .constant * bit (a .column) c))
-    moved =
-        let t = bit-lt (a .column) c in
-        record {
-          mask = p .mask;
-          w-high = xor-lt n v _ (p .w-high) (times-lt (2 ^ n) (a .mask) _ (fits .mask-high) t);
-          b-high = xor-lt 1 e _ (p .b-high) (times-lt 2 (a .constant) _ (fits .constant-high) t);
-        }
-
-    distance-added : distance n (component (rowsWith a rows) c) v e ≡ distance n (component rows c) (bitXor v (a .mask * bit (a .column) c)) (bitXor e (a .constant * bit (a .column) c))
-    distance-added =
-        let t = bit-lt (a .column) c in
-        distance-cong n _ _ v e (λ x l.
-        component-added (a .column) (a .mask) (a .constant) rows (fits .constant-high) c x (omega (arith, box .size))
-        ∙ ap (bitXor (component rows c x)) (affine-times (a .mask) (a .constant) x (bit (a .column) c) t))
-        ∙ distance-shift n (component rows c) (a .mask * bit (a .column) c) (a .constant * bit (a .column) c) v e (λ x l. component-lt rows c x)
-        (times-lt 2 (a .constant) _ (fits .constant-high) t) (p .b-high)
-
-  pub addition-keeps-nonlinearity : (i : ℕ) → 1 ≤ i → nonlinearity n m (rowsWith a rows) i .figure ≡ nonlinearity n m rows i .figure
-  addition-keeps-nonlinearity i i-low = le-antisymm below above
-    where
-      above : nonlinearity n m rows i .figure ≤ nonlinearity n m (rowsWith a rows) i .figure
-      above =
-          let t = nonlinearity-reached n m (rowsWith a rows) i (box .m-low) i-low in
-          le-trans (nonlinearity-least n m rows i (t .0) _ _ (moved i (t .0) (t .1) (t .2) (t .3)))
-          (le-of-eq (sym (ap (λ (p : Candidate). p .figure) (t .4) ∙ distance-added i (t .0) (t .1) (t .2) (t .3))))
-
-      below : nonlinearity n m (rowsWith a rows) i .figure ≤ nonlinearity n m rows i .figure
-      below =
-          let t = nonlinearity-reached n m rows i (box .m-low) i-low in
-          let p = moved i (t .0) (t .1) (t .2) (t .3) in
-          le-trans (nonlinearity-least n m (rowsWith a rows) i (t .0) _ _ p)
-          (le-of-eq (distance-added i (t .0) _ _ p ∙ ap₂ (distance n (component rows (t .0))) (xor-cancel (t .1) _) (xor-cancel (t .2) _)
-          ∙ sym (ap (λ (p : Candidate). p .figure) (t .4))))
-
 -- ---- any addition, refused ones included: the standing rows are the new rows of an addition that fits, or the old ones
-pub standing-cases : (n m : ℕ) (rows : List ℕ) (a : Addition) (P : List ℕ → Type 0) → (Fits n m a → P (rowsWith a rows)) → P rows → P (standing n m rows a)
-unfolding standing
+pub standing-cases : (n m : ℕ) (rows : List ℕ) (a : Addition) (P : List ℕ → Type 0) → (Fits n m a → P (rowsWith a rows)) → P rows → P (standingRows n m rows a)
+unfolding standingRows
 standing-cases n m rows a P p q = go (additionChecked n m rows a) (accepted-fits n m rows a)
   where
-    go : (k : Checked) → (k ≡ Accepted → Fits n m a) → P (contentAfter k (rowsWith a rows) rows)
+    go : (k : Checked) → (k ≡ Accepted → Fits n m a) → P (after k (rowsWith a rows) rows)
     go Accepted f = p (f refl)
     go (Refused e) f = q
 
 module _ (n m : ℕ) (rows : List ℕ) (box : Box n m rows) (a : Addition) where
-  pub standing-keeps-box : Box n m (standing n m rows a)
+  pub standing-keeps-box : Box n m (standingRows n m rows a)
   standing-keeps-box = standing-cases n m rows a (Box n m) (addition-keeps-box n m rows box a) box
-
-  pub standing-keeps-nonlinearity : (i : ℕ) → 1 ≤ i → nonlinearity n m (standing n m rows a) i .figure ≡ nonlinearity n m rows i .figure
-  standing-keeps-nonlinearity i i-low =
-      standing-cases n m rows a (λ l. nonlinearity n m l i .figure ≡ nonlinearity n m rows i .figure) (λ fits. addition-keeps-nonlinearity n m rows box a fits i i-low) refl

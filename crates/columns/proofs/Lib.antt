@@ -1,4 +1,4 @@
 pub mod Rows
 pub mod Accepted
 pub mod Additions
-pub mod Demand3
+pub mod Standing

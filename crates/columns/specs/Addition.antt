@@ -7,7 +7,7 @@ use lib.ListN.{length}
 use Rattle.boolean.specs.Bits.{affine}
 use Rattle.boolean.specs.Sums.{listBelow}
 use Rattle.boolean.specs.Functions.{at}
-use Rattle.refusals.specs.Table.{Check, _unless_, inRange, boxChecks, first, contentAfter, Wrote, written}
+use Rattle.refusals.specs.Table.{Check, _unless_, inRange, boxChecks, first, after, Wrote, saidWritten}
 use Rattle.refusals.specs.declared.Refusal.the-variants.{Parameter, WrittenLength}
 use Rattle.refusals.specs.declared.Checked.{Checked}
 use Rattle.refusals.specs.declared.Written.{Written}
@@ -33,9 +33,9 @@ additionChecks n m rows j w b room =
     ∷ [])
 
 -- the outcome of a call of `columns::add_to_column`
-abbrev pub Called : (n m : ℕ) (rows : List ℕ) (j w b : ℕ) (lent : List ℕ) (answer : Written) (left : List ℕ) → Type 0
-Called n m rows j w b lent answer left =
-    Wrote (additionChecks n m rows j w b (length lent)) [] (addedRows j w b rows) lent (written answer) left
+abbrev pub AdditionCalled : (n m : ℕ) (rows : List ℕ) (j w b : ℕ) (lent : List ℕ) (answer : Written) (left : List ℕ) → Type 0
+AdditionCalled n m rows j w b lent answer left =
+    Wrote (additionChecks n m rows j w b (length lent)) [] (addedRows j w b rows) lent (saidWritten answer) left
 
 -- an addition in a list of them: its column, its mask and constant, and the array that it is lent
 pub record Addition : Type 0 where
@@ -50,12 +50,12 @@ unfolding first additionChecks
 additionChecked n m rows a = first (additionChecks n m rows (a .column) (a .mask) (a .constant) (length (a .lent)))
 
 -- the rows that stand after an addition: its new rows where it is accepted, and else those it was given
-unfoldable pub standing : (n m : ℕ) (rows : List ℕ) (a : Addition) → List ℕ
+unfoldable pub standingRows : (n m : ℕ) (rows : List ℕ) (a : Addition) → List ℕ
 unfolding additionChecked addedRows
-standing n m rows a = contentAfter (additionChecked n m rows a) (addedRows (a .column) (a .mask) (a .constant) rows) rows
+standingRows n m rows a = after (additionChecked n m rows a) (addedRows (a .column) (a .mask) (a .constant) rows) rows
 
 -- the rows that stand after a list of additions, each given the rows that stand
-unfoldable pub standingAfter : (n m : ℕ) (rows : List ℕ) (additions : List Addition) → List ℕ
-unfolding standing
-standingAfter n m rows [] = rows
-standingAfter n m rows (a ∷ additions) = standingAfter n m (standing n m rows a) additions
+unfoldable pub rowsAfterAll : (n m : ℕ) (rows : List ℕ) (additions : List Addition) → List ℕ
+unfolding standingRows
+rowsAfterAll n m rows [] = rows
+rowsAfterAll n m rows (a ∷ additions) = rowsAfterAll n m (standingRows n m rows a) additions

@@ -1,19 +1,9 @@
--- What the theorems of demand 3 speak of.
+-- Calls of `columns::add_to_column` one after the other, of which theorems speak.
 use Prim.Native.Nat.{ℕ}
-use mathlib.Core.Path.{_≡_}
 use mathlib.Core.List.{List, [], _∷_}
-use Rattle.refusals.specs.Table.{figures, first, limitChecks}
 use Rattle.refusals.specs.declared.Refusal.{Refusal}
-use Rattle.refusals.specs.declared.Checked.the-variants.{Accepted}
 use Rattle.refusals.specs.declared.Written.the-variants.{Done, Declined}
-use Rattle.linear.specs.Nonlinearity.{nonlinearityReply}
-use Rattle.columns.specs.Addition.{Addition, Called}
-
--- What is reported of the rows that stand later: the table is accepted with the same limit, and d is the first figure.
-pub record ReportedAgain (n m : ℕ) (rows : List ℕ) (i d : ℕ) : Type 0 where
-  pub accepted : first (limitChecks n m rows i) ≡ Accepted
-  pub witness : List ℕ
-  pub reply : nonlinearityReply n m rows i ≡ figures (d ∷ witness)
+use Rattle.columns.specs.Addition.{Addition, AdditionCalled}
 
 -- Calls of `columns::add_to_column` for a list of additions, one after the other, all with n and m, and the rows that stand after the last.
 -- Each is given the rows that stand, the first of them these. After a call that is done, what it left in the array that it was lent stands,
@@ -21,8 +11,8 @@ pub record ReportedAgain (n m : ℕ) (rows : List ℕ) (i d : ℕ) : Type 0 wher
 pub data Calls (n m : ℕ) : (rows : List ℕ) (additions : List Addition) (last : List ℕ) → Type 0 where
   none : {rows : List ℕ} → Calls n m rows [] rows
   done : {rows left last : List ℕ} {a : Addition} {more : List Addition}
-      → Called n m rows (a .column) (a .mask) (a .constant) (a .lent) Done left → Calls n m left more last
+      → AdditionCalled n m rows (a .column) (a .mask) (a .constant) (a .lent) Done left → Calls n m left more last
       → Calls n m rows (a ∷ more) last
   declined : {rows left last : List ℕ} {a : Addition} {more : List Addition} (e : Refusal)
-      → Called n m rows (a .column) (a .mask) (a .constant) (a .lent) (Declined e) left → Calls n m rows more last
+      → AdditionCalled n m rows (a .column) (a .mask) (a .constant) (a .lent) (Declined e) left → Calls n m rows more last
       → Calls n m rows (a ∷ more) last

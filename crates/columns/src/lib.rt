@@ -6,7 +6,7 @@ ghost use mathlib.Core.Path.{_≡_};
 ghost use Prim.Native.Nat.{_^_, _≤_, _<_};
 ghost use lib.ListN.{length};
 ghost use Rattle.refusals.specs.Table.{first};
-ghost use Rattle.columns.specs.Addition.{addedRow, addedRows, additionChecks, Called};
+ghost use Rattle.columns.specs.Addition.{addedRow, addedRows, additionChecks, AdditionCalled};
 
 // The row at input x, with bit j XORed with w·x XOR b.
 fn added_row(j: u32, w: u32, b: u32, x: usize, row: u32) -> u32
@@ -62,7 +62,7 @@ pub fn add_to_column(
     b: u32,
     out: &mut [u32],
 ) -> Written
-    ensures { λ r. ⌜ Called n m (now (rows .entry)) j w b (now (out .entry)) r (now (out .exit)) ⌝ }
+    ensures { λ r. ⌜ AdditionCalled n m (now (rows .entry)) j w b (now (out .entry)) r (now (out .exit)) ⌝ }
 {
     if let Checked::Refused(e) = check_addition(n, m, rows, j, w, b, out.len()) {
         return Written::Declined(e);

@@ -3,33 +3,30 @@ use mathlib.Core.Path.{_≡_, sym, ap, ap₂, _∙_, subst}
 use mathlib.Core.Logic.{_⊎_}
 use mathlib.Core.Bool.{true}
 use mathlib.Core.List.{List}
-use Prim.Native.Nat.{ℕ, zero, suc, _+_, _*_, _-_, _/_, _%_, _^_, _<_, _≤_, zero-le}
-use native.Mathlib.Nat.{le-of-eq, le-refl, le-suc, le-trans, mod-add-mod, mod-lt, mul-le-mul, mul-one, mul-zero, suc-mul, two-pow-succ, zero-mul}
+use Prim.Native.Nat.{ℕ, zero, suc, _+_, _*_, _-_, _/_, _%_, _^_, _<_, _≤_}
+use native.Mathlib.Nat.{le-of-eq, le-refl, le-trans, mod-lt, mul-le-mul, mul-one, two-pow-succ}
 use native.Mathlib.Omega.{arith}
-use native.Mathlib.Decide.{ℕ-discrete}
 use borrow.Author.Tests.{ltb-true}
-use lib.Arith.{lt-one}
-use lib.Bits.{bitAnd, bitXor, xor-lt}
-use lib.Count.{ones}
-use lib.Dec.{eqb, eqb→eq, ltb}
-use lib.IntN.{ℤ, pos, _+ℤ_, _*ℤ_, negℤ, natAbs, +ℤ-invr}
+use lib.Bits.{bitXor, xor-lt}
+use lib.Dec.{ltb}
+use lib.IntN.{ℤ, pos, _*ℤ_, negℤ, natAbs}
 use lib.ListN.{length}
 use lib.Pow.{high, low, pow-add, pow-pos, shr-lt, split}
-use Rattle.boolean.specs.Bits.{parity, dot}
+use Rattle.boolean.specs.Bits.{dot}
 use Rattle.boolean.specs.Functions.{Bent, Boolean, approximation, at, component, sameValue, sign, square, transform, walsh}
 use Rattle.boolean.specs.Sums.{distinct, sumBelow}
 use Rattle.boolean.proofs.Approximations.{approximation-cong}
 use Rattle.boolean.proofs.Bent.{bent-of-squares}
-use Rattle.boolean.proofs.Cases.{all2, all5, same-value}
+use Rattle.boolean.proofs.Cases.{all5, same-value}
 use Rattle.boolean.proofs.Columns.{component-column}
 use Rattle.boolean.proofs.Counts.{even-is-square, pow-square}
 use Rattle.boolean.proofs.Distinct.{distinct-at}
-use Rattle.boolean.proofs.Dots.{dot-bit, dot-block, dot-xor}
+use Rattle.boolean.proofs.Dots.{dot-bit, dot-xor, dot-parts}
 use Rattle.boolean.proofs.Every.{both, every-at}
 use Rattle.boolean.proofs.Lists.{getD-listBelow}
-use Rattle.boolean.proofs.Sizes.{abs-add, sum-bound, transform-bound}
-use Rattle.boolean.proofs.Sums.{sum-cong, sum-split}
-use Rattle.boolean.proofs.Transform.{half-cases, transform-high, transform-low}
+use Rattle.boolean.proofs.Sizes.{transform-bound, single-bound}
+use Rattle.boolean.proofs.Sums.{sum-cong, sum-blocks}
+use Rattle.boolean.proofs.Transform.{signs-cancel}
 use Rattle.boolean.proofs.Walsh.{walsh-cong, walsh-transform}
 use Rattle.boolean.proofs.Xor.{xor-cancel}
 use Rattle.refusals.specs.Table.{allBelow}
@@ -38,52 +35,11 @@ use Rattle.linear.proofs.Theorems.{covering-bound, covering-equality}
 use Rattle.constructions.specs.BentForm.{bentForm, bentTable, isPermutation}
 use Rattle.constructions.proofs.Avalanche.{table-column}
 
--- ---- sums
--- over a × b numbers, block by block
-pub sum-blocks : (a b : ℕ) (F : ℕ → ℤ) → sumBelow (a * b) F ≡ sumBelow a (λ x. sumBelow b (λ y. F (x * b + y)))
-unfolding sumBelow
-sum-blocks zero b F = ap (λ (z : ℕ). sumBelow z F) (zero-mul b)
-sum-blocks (suc a) b F =
-    ap (λ (z : ℕ). sumBelow z F) (suc-mul a b) ∙ sum-split (a * b) b F ∙ ap (λ (z : ℤ). z +ℤ sumBelow b (λ y. F (a * b + y))) (sum-blocks a b F)
-
--- where at most one term is not 0, the sum is no larger than the terms
-pub single-bound : (k M v : ℕ) (key : ℕ → ℕ) (F : ℕ → ℤ)
-    → ((x : ℕ) → x < k → natAbs (F x) ≤ M)
-    → ((x : ℕ) → x < k → (key x ≡ v → ⊥) → natAbs (F x) ≤ 0)
-    → ((x y : ℕ) → x < y → y < k → key x ≡ key y → ⊥)
-    → natAbs (sumBelow k F) ≤ M
-unfolding sumBelow
-single-bound zero M v key F b z d = zero-le
-single-bound (suc k) M v key F b z d =
-    pick (single-bound k M v key F (λ x l. b x (le-trans l (le-suc k))) (λ x l. z x (le-trans l (le-suc k))) (λ x y l m. d x y l (le-trans m (le-suc k)))) (ℕ-discrete (key k) v)
-  where
-    pick : natAbs (sumBelow k F) ≤ M → Dec (key k ≡ v) → natAbs (sumBelow k F +ℤ F k) ≤ M
-    pick rec (yes q) =
-        let none = sum-bound k 0 F (λ x l. z x (le-trans l (le-suc k)) (λ p. d x k l (le-refl (suc k)) (p ∙ sym q))) in
-        omega (arith, none, mul-zero k, abs-add (sumBelow k F) (F k), b k (le-refl (suc k)))
-    pick rec (no q) = omega (arith, rec, abs-add (sumBelow k F) (F k), z k (le-refl (suc k)) q)
-
--- the signs of w·x cancel over all x, unless w is 0
-pub signs-cancel : (n : ℕ) (c : ℤ) (w : ℕ) → w < 2 ^ n → (w ≡ 0 → ⊥) → transform n (λ x. c) w ≡ pos 0
-signs-cancel zero c w l g = absurd (g (lt-one l))
-signs-cancel (suc n) c w l g = half-cases n (λ w. (w ≡ 0 → ⊥) → transform (suc n) (λ x. c) w ≡ pos 0)
-    (λ w l g. transform-low n (λ x. c) w l ∙ ap (λ (z : ℤ). z +ℤ z) (signs-cancel n c w l g))
-    (λ w l g. transform-high n (λ x. c) w l ∙ +ℤ-invr (transform n (λ x. c) w)) w l g
-
 -- a sign has size 1
 sign-small : (b : ℕ) → natAbs (sign b) ≤ 1
 unfolding sign
 sign-small zero = le-refl 1
 sign-small (suc b) = le-refl 1
-
--- ---- the inner product of two numbers of two parts
-bits-add : (a b : ℕ) → a < 2 → b < 2 → (a + b) % 2 ≡ bitXor a b
-bits-add a b ha hb = eqb→eq ((a + b) % 2) (bitXor a b) (all2 (λ a b. eqb ((a + b) % 2) (bitXor a b)) tt a b ha hb)
-
--- the XOR of the inner products of the parts
-pub dot-parts : (h u x v y : ℕ) → v < 2 ^ h → y < 2 ^ h → dot (u * 2 ^ h + v) (x * 2 ^ h + y) ≡ bitXor (dot u x) (dot v y)
-unfolding dot parity
-dot-parts h u x v y hv hy = dot-block h u x v y hv hy ∙ sym (mod-add-mod (ones (bitAnd u x)) 2 (dot v y)) ∙ bits-add (dot u x) (dot v y) (dot-bit u x) (dot-bit v y)
 
 -- the signs of four bits, two and two, grouped another way
 signs-regroup : (A B P G : ℕ) → A < 2 → B < 2 → P < 2 → G < 2 → sign (bitXor A B) *ℤ sign (bitXor P G) ≡ sign (bitXor P B) *ℤ sign (bitXor A G)

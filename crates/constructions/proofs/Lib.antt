@@ -7,3 +7,4 @@ pub mod Bijection
 pub mod WorstCell
 pub mod BentFlat
 pub mod Theorems
+pub mod Replies

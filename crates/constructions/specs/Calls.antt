@@ -4,7 +4,7 @@ use mathlib.Core.Bool.{_&&_}
 use mathlib.Core.List.{List, [], _∷_}
 use lib.Dec.{ltb, eqb}
 use lib.ListN.{length}
-use Rattle.refusals.specs.Table.{Check, _unless_, inRange, allBelow, Wrote, written}
+use Rattle.refusals.specs.Table.{Check, _unless_, inRange, allBelow, Wrote, saidWritten}
 use Rattle.refusals.specs.declared.Refusal.the-variants.{InputWidth, ReadLength, Value, Permutation, Parameter, WrittenLength}
 use Rattle.refusals.specs.declared.Written.{Written}
 use Rattle.constructions.specs.Enlargement.{enlargedTable, enlargedRows}
@@ -48,14 +48,14 @@ bentChecks n permutation table room =
 -- the outcome of a call of `constructions::enlarge_column`
 abbrev pub ColumnCalled : (n : ℕ) (table : List ℕ) (k a : ℕ) (lent : List ℕ) (answer : Written) (left : List ℕ) → Type 0
 ColumnCalled n table k a lent answer left =
-    Wrote (columnChecks n table k a (length lent)) [] (enlargedTable n table k a) lent (written answer) left
+    Wrote (columnChecks n table k a (length lent)) [] (enlargedTable n table k a) lent (saidWritten answer) left
 
 -- the outcome of a call of `constructions::enlarge_box`
 abbrev pub BoxCalled : (n : ℕ) (rows table : List ℕ) (k : ℕ) (lent : List ℕ) (answer : Written) (left : List ℕ) → Type 0
 BoxCalled n rows table k lent answer left =
-    Wrote (enlargeChecks n rows table k (length lent)) [] (enlargedRows n rows table k) lent (written answer) left
+    Wrote (enlargeChecks n rows table k (length lent)) [] (enlargedRows n rows table k) lent (saidWritten answer) left
 
 -- the outcome of a call of `constructions::bent_function`
 abbrev pub BentCalled : (n : ℕ) (permutation table lent : List ℕ) (answer : Written) (left : List ℕ) → Type 0
 BentCalled n permutation table lent answer left =
-    Wrote (bentChecks n permutation table (length lent)) [] (bentTable n permutation table) lent (written answer) left
+    Wrote (bentChecks n permutation table (length lent)) [] (bentTable n permutation table) lent (saidWritten answer) left

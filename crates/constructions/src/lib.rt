@@ -3,11 +3,10 @@ use refusals::Checked;
 use refusals::Refusal;
 use refusals::Written;
 ghost use mathlib.Core.Path.{_≡_};
-ghost use mathlib.Core.Bool.{not, _&&_};
+ghost use mathlib.Core.Bool.{_&&_};
 ghost use Prim.Native.Nat.{suc, _+_, _*_, _/_, _%_, _^_, _≤_, _<_};
 ghost use lib.Dec.{eqb};
 ghost use lib.ListN.{length};
-ghost use Rattle.boolean.specs.Sums.{every, distinct};
 ghost use Rattle.boolean.specs.Functions.{at};
 ghost use Rattle.refusals.specs.Table.{first, inRange};
 ghost use Rattle.constructions.specs.Enlargement.{enlarged, enlargedTable, enlargedRows};
@@ -15,7 +14,7 @@ ghost use Rattle.constructions.specs.BentForm.{isPermutation, bentForm, 
 ghost use Rattle.constructions.specs.Calls.{columnChecks, enlargeChecks, bentChecks, ColumnCalled, BoxCalled, BentCalled};
 ghost use Rattle.constructions.specs.Work.{sourceOf, Enlarges, EnlargesColumn, EnlargesBox, MakesBent};
 
-// Whether an array with so many entries is as long as a table of n inputs.
+// Whether an array of this length is as long as a table of n inputs.
 fn has_inputs(count: usize, n: u32) -> bool
     requires { ⌜ n ≤ 16 ⌝ }
     ensures { λ r. ⌜ r ≡ eqb count (2 ^ n) ⌝ }
@@ -182,35 +181,6 @@ fn even_width(n: u32) -> bool
     n % 2 == 0
 }
 
-// Whether no entry equals this one.
-fn none_equal(entries: &[u8], entry: u8) -> bool
-    ensures { λ r. ⌜ r ≡ every (λ y. not (eqb entry y)) (now (entries .entry)) ⌝ }
-{
-    let mut y = 0;
-    while y < entries.len() {
-        if entry == entries[y] {
-            return false;
-        }
-        y += 1;
-    }
-    true
-}
-
-// Whether no two entries are equal: no later entry equals the one at x, for each x.
-fn all_distinct(entries: &[u8]) -> bool
-    ensures { λ r. ⌜ r ≡ distinct (now (entries .entry)) ⌝ }
-{
-    let mut x = 0;
-    while x < entries.len() {
-        let later = x + 1;
-        if !none_equal(&entries[later..], entries[x]) {
-            return false;
-        }
-        x += 1;
-    }
-    true
-}
-
 // Whether the entries, of which there are as many, are the numbers below the size in some order.
 fn is_permutation(size: usize, entries: &[u8]) -> bool
     ensures { λ r. ⌜ r ≡ isPermutation size (now (entries .entry)) ⌝ }
@@ -218,7 +188,7 @@ fn is_permutation(size: usize, entries: &[u8]) -> bool
     if !refusals::values_below(entries, size) {
         return false;
     }
-    all_distinct(entries)
+    boolean::bytes_distinct(entries)
 }
 
 // The value of the bent form at z, whose upper half of bits is x, and whose lower half is y.

@@ -6,17 +6,16 @@ use mathlib.Core.List.{List, [], _∷_, _++_}
 use native.Mathlib.Nat.{not-suc-le-zero, le-of-suc-le-suc}
 use native.Mathlib.Omega.{arith}
 use lib.ListN.{length, getD, set, take, drop, replicate, length-set}
-use lib.Seq.{take-append-seam, take-set-lt, length-take-le, set-append-left}
+use lib.Seq.{take-set-lt, length-take-le, set-append-left}
+use Rattle.refusals.specs.Table.{filled}
+use Rattle.refusals.proofs.FilledRows.{filled-rows}
 use Rattle.boolean.specs.Sums.{listBelow, listFrom}
 use Rattle.design.specs.declared.Snapshot.{Snapshot}
 use Rattle.design.specs.declared.Design.{Design}
-use Rattle.design.specs.Model.{Mark, unset, keeps, State, begun, noBox, SoundMark, SoundMarks, SoundState, boxed, without}
-use Rattle.design.specs.Calls.{markHeld, marksHeld, state, filled, snapshotOf, snapshotsOf, designOf, Sound}
+use Rattle.design.specs.Model.{Mark, unset, keeps, DesignState, newDesign, noBox, SoundMark, SoundMarks, SoundState, boxed, without}
+use Rattle.design.specs.Calls.{markHeld, marksHeld, stateOfDesign, snapshotOf, snapshotsOf, designOf, SoundDesign}
 
 -- ---- rows, and then zeros
-pub filled-rows : (n : ℕ) (rows : List ℕ) → length rows ≡ 2 ^ n → take (2 ^ n) (filled rows) ≡ rows
-filled-rows n rows h = ap (λ (k : ℕ). take k (filled rows)) (sym h) ∙ take-append-seam rows (drop (length rows) (replicate 256 0))
-
 filled-set : (rows : List ℕ) (i v : ℕ) → i < length rows → set (filled rows) i v ≡ filled (set rows i v)
 filled-set rows i v h =
     set-append-left rows (drop (length rows) (replicate 256 0)) i v h
@@ -61,20 +60,20 @@ module _ (n m : ℕ) where
   marks-held (x ∷ xs) h =
       ap (λ (y : Mark). y ∷ marksHeld n (snapshotsOf xs)) (mark-held x (h .0)) ∙ ap (λ (l : List Mark). x ∷ l) (marks-held xs (h .1))
 
-stands-none : state (designOf noBox) ≡ noBox
-unfolding state designOf noBox begun listBelow listFrom snapshotsOf marksHeld markHeld
+stands-none : stateOfDesign (designOf noBox) ≡ noBox
+unfolding stateOfDesign designOf noBox newDesign listBelow listFrom snapshotsOf marksHeld markHeld
 stands-none = refl
 
-pub stands-for : (s : State) → SoundState s → state (designOf s) ≡ s
-unfolding state designOf
+pub stands-for : (s : DesignState) → SoundState s → stateOfDesign (designOf s) ≡ s
+unfolding stateOfDesign designOf
 stands-for s (boxed t) =
     ap (λ (l : List ℕ). record { n = s .n; m = s .m; rows = l; marks = marksHeld (s .n) (snapshotsOf (s .marks)) }) (filled-rows (s .n) (s .rows) (t .box .size))
     ∙ ap (λ (l : List Mark). record { n = s .n; m = s .m; rows = s .rows; marks = l }) (marks-held (s .n) (s .m) (s .marks) (t .kept))
-stands-for s (without e) = ap (λ (r : State). state (designOf r)) e ∙ stands-none ∙ sym e
+stands-for s (without e) = ap (λ (r : DesignState). stateOfDesign (designOf r)) e ∙ stands-none ∙ sym e
 
-pub sound-of : (s : State) → SoundState s → Sound (designOf s)
+pub sound-of : (s : DesignState) → SoundState s → SoundDesign (designOf s)
 sound-of s t = let e = stands-for s t in record { sound = rw e t; only = ap designOf (sym e) }
 
 -- ---- and a sound design has nothing beside it
-pub holds-only : (d e : Design) → Sound d → Sound e → state d ≡ state e → d ≡ e
+pub holds-only : (d e : Design) → SoundDesign d → SoundDesign e → stateOfDesign d ≡ stateOfDesign e → d ≡ e
 holds-only d e s t h = s .only ∙ ap designOf h ∙ sym (t .only)

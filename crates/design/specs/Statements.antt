@@ -2,14 +2,15 @@
 use Prim.Native.Nat.{ℕ, _^_}
 use mathlib.Core.Path.{_≡_}
 use mathlib.Core.Bool.{Bool, true, false}
-use mathlib.Core.List.{List, [], _∷_, _++_}
+use mathlib.Core.List.{List, [], _∷_, _++_, foldl}
 use lib.Dec.{eqb}
 use Rattle.boolean.specs.Sums.{countBelow}
 use Rattle.boolean.specs.Functions.{at}
+use Rattle.boolean.specs.Statements.{MadeBy}
 use Rattle.refusals.specs.Table.{Check, Reply}
 use Rattle.design.specs.declared.Design.{Design}
-use Rattle.design.specs.Model.{State, swapChecks, addChecks, markChecks, returnChecks, swap, add, mark, returnTo}
-use Rattle.design.specs.Calls.{Begun, Swapped, Added, Marked, Returned}
+use Rattle.design.specs.Model.{DesignState, swapChecks, designAddChecks, markChecks, returnChecks, swapInputs, add, setMark, returnTo}
+use Rattle.design.specs.Calls.{DesignBegun, DesignSwapped, DesignAdded, DesignMarked, DesignReturned}
 
 pub data Operation : Type 0 where
   swaps : ℕ → ℕ → Operation
@@ -18,24 +19,24 @@ pub data Operation : Type 0 where
   returns : ℕ → Operation
 
 -- the checks of an operation, and the state that it makes
-unfoldable pub checksOf : (s : State) (o : Operation) → List Check
-unfolding swapChecks addChecks markChecks returnChecks
-checksOf s (swaps x y) = swapChecks s x y
-checksOf s (adds j w b) = addChecks s j w b
-checksOf s (sets k) = markChecks s k
-checksOf s (returns k) = returnChecks s k
+unfoldable pub operationChecks : (s : DesignState) (o : Operation) → List Check
+unfolding swapChecks designAddChecks markChecks returnChecks
+operationChecks s (swaps x y) = swapChecks s x y
+operationChecks s (adds j w b) = designAddChecks s j w b
+operationChecks s (sets k) = markChecks s k
+operationChecks s (returns k) = returnChecks s k
 
-unfoldable pub after : (s : State) (o : Operation) → State
-unfolding swap add mark returnTo
-after s (swaps x y) = swap s x y
-after s (adds j w b) = add s j w b
-after s (sets k) = mark s k
-after s (returns k) = returnTo s k
+unfoldable pub afterOperation : (s : DesignState) (o : Operation) → DesignState
+unfolding swapInputs add setMark returnTo
+afterOperation s (swaps x y) = swapInputs s x y
+afterOperation s (adds j w b) = add s j w b
+afterOperation s (sets k) = setMark s k
+afterOperation s (returns k) = returnTo s k
 
-unfoldable pub run : (s : State) (os : List Operation) → State
-unfolding after
-run s [] = s
-run s (o ∷ os) = run (after s o) os
+-- the state after several, one after the other
+unfoldable pub afterOperations : (s : DesignState) (os : List Operation) → DesignState
+unfolding afterOperation
+afterOperations s os = foldl afterOperation s os
 
 -- none of the operations sets mark k
 unfoldable pub leaves : (k : ℕ) (os : List Operation) → Bool
@@ -54,7 +55,7 @@ onlySwaps (sets q ∷ os) = onlySwaps os
 onlySwaps (returns q ∷ os) = false
 
 -- how many inputs give the output value v
-unfoldable pub givenBy : (s : State) (v : ℕ) → ℕ
+unfoldable pub givenBy : (s : DesignState) (v : ℕ) → ℕ
 unfolding countBelow
 givenBy s v = countBelow (2 ^ s .n) (λ x. eqb (at (s .rows) x) v)
 
@@ -65,16 +66,21 @@ pub record LastSet (k : ℕ) (os : List Operation) : Type 0 where
   pub splits : os ≡ earlier ++ (sets k ∷ later)
   pub left : leaves k later ≡ true
 
--- what a call of an operation does: the contract of `swap`, `add`, `mark` or `return_to`
-abbrev pub Called : (o : Operation) (before : Design) (said : Reply) (after : Design) → Type 0
-Called (swaps x y) before said after = Swapped before x y said after
-Called (adds j w b) before said after = Added before j w b said after
-Called (sets k) before said after = Marked before k said after
-Called (returns k) before said after = Returned before k said after
+-- what a call of an operation does: the contract of `swapInputs`, `add`, `setMark` or `return_to`
+abbrev pub OperationCalled : (o : Operation) (old : Design) (said : Reply) (new : Design) → Type 0
+OperationCalled (swaps x y) old said new = DesignSwapped old x y said new
+OperationCalled (adds j w b) old said new = DesignAdded old j w b said new
+OperationCalled (sets k) old said new = DesignMarked old k said new
+OperationCalled (returns k) old said new = DesignReturned old k said new
+
+-- what each of these calls does, whatever it says
+abbrev pub BegunBy : (n m : ℕ) (rows : List ℕ) (d : Design) → Type 0
+BegunBy n m rows d = (said : Reply) × DesignBegun n m rows said d
+
+abbrev pub CalledBy : (o : Operation) (old new : Design) → Type 0
+CalledBy o old new = (said : Reply) × OperationCalled o old said new
 
 -- A design that its own calls made: `begin` with these arguments, and then these operations, one after the other. Any of them may have been
 -- refused.
-pub data Made (n m : ℕ) (rows : List ℕ) : List Operation → Design → Type 0 where
-  begins : {said : Reply} {d : Design} → Begun n m rows said d → Made n m rows [] d
-  goes-on : {os : List Operation} {d e : Design} (o : Operation) (said : Reply) → Made n m rows os d → Called o d said e
-      → Made n m rows (os ++ (o ∷ [])) e
+abbrev pub DesignMade : (n m : ℕ) (rows : List ℕ) (os : List Operation) (d : Design) → Type 0
+DesignMade n m rows os d = MadeBy (BegunBy n m rows) CalledBy os d

@@ -5,10 +5,11 @@ use refusals::Checked;
 use refusals::Refusal;
 use refusals::Written;
 ghost use mathlib.Core.Path.{_≡_};
-ghost use Rattle.refusals.specs.Table.{written};
+ghost use Rattle.refusals.specs.Table.{saidWritten};
 ghost use Rattle.refusals.specs.declared.Written.the-variants as answers;
 ghost use Rattle.design.specs.Model as model;
-ghost use Rattle.design.specs.Calls.{snapshotOf, boxHeld, Begun, Swapped, Added, Marked, Returned, Read};
+ghost use Rattle.design.specs.Calls.{snapshotOf, saidBoxHeld, DesignBegun, DesignSwapped};
+ghost use Rattle.design.specs.Calls.{DesignAdded, DesignMarked, DesignReturned, DesignRead};
 
 // A mark: 1 and the rows of the moment when it was last set, or zeros where it was never set. A caller in C may hand in any number, so it
 // is no bool.
@@ -58,7 +59,7 @@ fn declined(design: Design, e: Refusal) -> Tuned
 impl Design {
     // A design of this box, with no mark set. Refused, it is a design without a box.
     pub fn begin(n: u32, m: u32, rows: &[u32]) -> Tuned
-        ensures { λ r. ⌜ Begun n m (now (rows .entry)) (written (r .answer)) (r .design) ⌝ }
+        ensures { λ r. ⌜ DesignBegun n m (now (rows .entry)) (saidWritten (r .answer)) (r .design) ⌝ }
     {
         let none = unset();
         let marks = [none; 16];
@@ -85,7 +86,7 @@ impl Design {
 
     // Exchanges the rows of inputs x and y.
     pub fn swap(self, x: u32, y: u32) -> Tuned
-        ensures { λ r. ⌜ Swapped self x y (written (r .answer)) (r .design) ⌝ }
+        ensures { λ r. ⌜ DesignSwapped self x y (saidWritten (r .answer)) (r .design) ⌝ }
     {
         let n = self.n;
         if !refusals::in_range(1, 8, n) {
@@ -115,7 +116,7 @@ impl Design {
 
     // Adds the affine function (w, b) to column j.
     pub fn add(self, j: u32, w: u32, b: u32) -> Tuned
-        ensures { λ r. ⌜ Added self j w b (written (r .answer)) (r .design) ⌝ }
+        ensures { λ r. ⌜ DesignAdded self j w b (saidWritten (r .answer)) (r .design) ⌝ }
     {
         let n = self.n;
         let old = self.rows;
@@ -138,7 +139,7 @@ impl Design {
 
     // Sets mark k: it keeps the box of this moment.
     pub fn mark(self, k: u32) -> Tuned
-        ensures { λ r. ⌜ Marked self k (written (r .answer)) (r .design) ⌝ }
+        ensures { λ r. ⌜ DesignMarked self k (saidWritten (r .answer)) (r .design) ⌝ }
     {
         if !refusals::in_range(1, 8, self.n) {
             // no box: there is nothing to keep
@@ -158,7 +159,7 @@ impl Design {
 
     // Brings back the box of mark k; all marks remain. (`return` alone is a word of the language.)
     pub fn return_to(self, k: u32) -> Tuned
-        ensures { λ r. ⌜ Returned self k (written (r .answer)) (r .design) ⌝ }
+        ensures { λ r. ⌜ DesignReturned self k (saidWritten (r .answer)) (r .design) ⌝ }
     {
         if !refusals::in_range(1, 8, self.n) {
             // no box: no mark was set in it
@@ -181,7 +182,7 @@ impl Design {
 
     // The box: n and m are the answer, and the rows go to a lent array.
     pub fn read_box(self, rows: &mut [u32]) -> BoxHeld
-        ensures { λ r. ⌜ Read self (now (rows .entry)) (boxHeld r) (now (rows .exit)) ⌝ }
+        ensures { λ r. ⌜ DesignRead self (now (rows .entry)) (saidBoxHeld r) (now (rows .exit)) ⌝ }
     {
         let n = self.n;
         let held = self.rows;

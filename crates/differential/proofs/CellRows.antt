@@ -20,7 +20,7 @@ use Rattle.boolean.proofs.Stored.{Stored, stored-none, stored-room, stored-more
 use Rattle.refusals.specs.Table.{Box}
 use Rattle.differential.specs.XorTable.{cell, cellsOf, cells, largestCell, largestCells, coded}
 use Rattle.differential.specs.Work.{IsRow, rowCells}
-use Rattle.differential.specs.Statements.{cellOf}
+use Rattle.differential.specs.Statements.{cellCandidate}
 use Rattle.differential.proofs.Cells.{in-cellsOf, mem-cellsOf, ascending-cellsOf}
 
 -- ---- lists in general
@@ -101,7 +101,7 @@ module _ (n m : ℕ) (rows : List ℕ) where
 
     pub in-row : (β : ℕ) → β < 2 ^ m → cell n rows a β ≡ figure → List·Memᴰ (a * 4294967296 + β) (rowCells n m rows a)
     unfolding rowCells
-    in-row β l e = Memᴰ·map coded (in-keep reaches (cellsOf n m rows a) (cellOf n rows a β) (in-cellsOf n m rows a β l) (eq-eqb _ figure e))
+    in-row β l e = Memᴰ·map coded (in-keep reaches (cellsOf n m rows a) (cellCandidate n rows a β) (in-cellsOf n m rows a β l) (eq-eqb _ figure e))
 
     pub ascending-row : Ascending (λ v. v) (rowCells n m rows a)
     unfolding rowCells
@@ -119,8 +119,8 @@ module _ (n m : ℕ) (rows : List ℕ) where
     unfolding rowCells keep cellsOf listBelow
     row-counted =
         length-map (keep reaches (cellsOf n m rows a)) coded
-        ∙ ap length (each-rule 0 (2 ^ m) (cellOf n rows a) kept)
-        ∙ each-counts (2 ^ m) (λ β. kept (cellOf n rows a β)) (λ β. eqb (cell n rows a β) figure) (λ β. if-counted (eqb (cell n rows a β) figure) (cellOf n rows a β))
+        ∙ ap length (each-rule 0 (2 ^ m) (cellCandidate n rows a) kept)
+        ∙ each-counts (2 ^ m) (λ β. kept (cellCandidate n rows a β)) (λ β. eqb (cell n rows a β) figure) (λ β. if-counted (eqb (cell n rows a β) figure) (cellCandidate n rows a β))
 
   -- ---- all rows: the cells of the rows below a
   abbrev pub cellsBelow : ℕ → List ℕ

@@ -14,7 +14,7 @@ use Rattle.boolean.specs.Functions.{at, occurrences}
 use Rattle.boolean.proofs.Counts.{count-cong}
 use Rattle.refusals.specs.Table.{Box}
 use Rattle.differential.specs.XorTable.{difference, cell}
-use Rattle.differential.specs.Running.{lowerInput, Paired, Largest, runningAfter}
+use Rattle.differential.specs.Running.{lowerInput, Paired, LargestCount, runningAfter}
 use Rattle.differential.specs.Statements.{cellSoFar}
 use Rattle.differential.proofs.Pairs.{difference-same, pair-is, pair-small, cell-twice}
 use Rattle.differential.proofs.Rises.{after-each-rise, largest-is, smallest-is}
@@ -36,7 +36,7 @@ module _ {n m : ℕ} {rows : List ℕ} (b : Box n m rows) {a : ℕ} {pairs : Lis
 
   -- after each rise of a pair: twice the running value's count is the table's largest so far, and its β the smallest that has it
   pub table-after-each-rise : (y : ℕ) → y ≤ length pairs
-      → Largest (λ β. cellSoFar rows a (p .top) y β) (2 * (runningAfter pairs y / 2 ^ 32)) (2 ^ 32 - 1 - runningAfter pairs y % 2 ^ 32)
+      → LargestCount (λ β. cellSoFar rows a (p .top) y β) (2 * (runningAfter pairs y / 2 ^ 32)) (2 ^ 32 - 1 - runningAfter pairs y % 2 ^ 32)
   table-after-each-rise y l =
       let r = after-each-rise pairs (λ x h. le-trans (pair-small b p x h) (pow-mono {i = m} {j = 32} (b .m-high))) y l in
       let twice = cell-so-far-twice y l in

@@ -3,8 +3,8 @@ pub mod Pairs
 pub mod RowBest
 pub mod Rises
 pub mod Counting
-pub mod Slots
-pub mod OwnSlots
+pub mod Buckets
+pub mod OwnBuckets
 pub mod LargestCount
 pub mod Sweeps
 pub mod Tallies

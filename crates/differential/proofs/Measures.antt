@@ -15,11 +15,11 @@ use Rattle.boolean.specs.Sums.{countBelow}
 use Rattle.boolean.specs.Functions.{at, occurrences}
 use Rattle.boolean.specs.Selection.{Candidate}
 use Rattle.boolean.proofs.Counts.{count-cong, count-le}
-use Rattle.boolean.proofs.Selection.{firstLargest-ge}
+use Rattle.boolean.proofs.Selection.{firstLargest-chooses}
 use Rattle.refusals.specs.Table.{Box}
 use Rattle.differential.specs.XorTable.{difference, cell, cells, largestCell}
 use Rattle.differential.specs.Running.{Paired, higherOf}
-use Rattle.differential.specs.Work.{differencesOf, reaching, RunningCells, IsRow, RowMeasured, Measured, rowCells}
+use Rattle.differential.specs.Work.{differencesOf, reaching, RunningCells, IsRow, RowMeasured, RowsMeasured, rowCells}
 use Rattle.differential.specs.Statements.{IsCell}
 use Rattle.sorting.proofs.Occurrences.{occurs, occurs-at}
 use Rattle.differential.proofs.Rises.{higher-left, higher-right, higher-either}
@@ -107,7 +107,7 @@ cell-inside {rows = rows} b a v h =
 
 figure-positive : {n m : ℕ} {rows : List ℕ} → Box n m rows → 0 < largestCell n m rows .figure
 unfolding largestCell
-figure-positive {n} {m} {rows} b = let t = some-cell b in le-trans (t .2) (firstLargest-ge (cells n m rows) (t .0) (t .1))
+figure-positive {n} {m} {rows} b = let t = some-cell b in le-trans (t .2) (firstLargest-chooses .all (cells n m rows) (t .0) (t .1))
 
 figure-small : {n m : ℕ} {rows : List ℕ} → Box n m rows → largestCell n m rows .figure ≤ 256
 unfolding cell
@@ -209,7 +209,7 @@ module _ {n m : ℕ} {rows standings numbers : List ℕ} {largest : ℕ} {pairs 
     at-end : a ≡ 2 ^ n
     at-end = omega (arith, t .a-high)
 
-    pub measuring-all : Measured n m rows standings numbers
+    pub measuring-all : RowsMeasured n m rows standings numbers
     measuring-all k r = t .done k (r .0) (omega (arith, r .1))
 
     pub measuring-largest : 2 * largest ≡ largestCell n m rows .figure

@@ -20,7 +20,7 @@ use Rattle.boolean.proofs.Xor.{xor-cancel}
 use Rattle.refusals.specs.Table.{Box}
 use Rattle.boolean.proofs.Shifts.{count-shift}
 use Rattle.differential.specs.XorTable.{difference, cell}
-use Rattle.differential.specs.Running.{HighestBit, lowerInput, pairsOf, Paired}
+use Rattle.differential.specs.Running.{HighestBit, lowerInput, pairDifferences, Paired}
 
 -- the test is the same at the two inputs of each pair
 abbrev SameInPairs : (k a : ℕ) (p : ℕ → Bool) → Type 0
@@ -93,13 +93,13 @@ difference-same rows a x = ap (λ (z : ℕ). bitXor (at rows (bitXor x a)) (at r
 -- ---- the pairs of a box
 module _ {n m : ℕ} {rows : List ℕ} (b : Box n m rows) {a : ℕ} {pairs : List ℕ} (p : Paired rows a pairs) where
   pub pairs-length : length pairs ≡ 2 ^ (n - 1)
-  unfolding pairsOf
+  unfolding pairDifferences
   pairs-length =
       ap length (p .held) ∙ length-listBelow (length rows / 2) (λ y. difference rows a (lowerInput (p .top) y))
       ∙ omega (arith, b .size, two-pow-succ (n - 1), ap (λ (k : ℕ). 2 ^ k) (let z : n ≡ suc (n - 1) = omega (arith, b .n-low) in z))
 
   pub pair-is : (y : ℕ) → y < length pairs → at pairs y ≡ difference rows a (lowerInput (p .top) y)
-  unfolding pairsOf
+  unfolding pairDifferences
   pair-is y l =
       ap (λ (z : List ℕ). at z y) (p .held)
       ∙ getD-listBelow (length rows / 2) (λ y. difference rows a (lowerInput (p .top) y)) y 0

@@ -20,7 +20,7 @@ use Rattle.refusals.specs.Table.{Box}
 use Rattle.differential.specs.XorTable.{difference, cell, cellsOf}
 use Rattle.differential.specs.Running.{Paired}
 use Rattle.differential.specs.Work.{differencesOf, RowAbove, AfterRow}
-use Rattle.differential.specs.Statements.{rank, cellOf}
+use Rattle.differential.specs.Statements.{rank, cellCandidate}
 use Rattle.sorting.proofs.Occurrences.{occurs-at}
 use Rattle.differential.proofs.Pairs.{pair-small, cell-twice}
 use Rattle.differential.proofs.Cells.{in-cellsOf, mem-cellsOf, ascending-cellsOf}
@@ -57,7 +57,7 @@ module _ {n m : ℕ} {rows : List ℕ} (b : Box n m rows) {a : ℕ} (l : a < 2 ^
       omega (arith, h (s .0), cell-twice b p l (s .0), ap (λ (c : Candidate). c .figure) (s .2))
 
   module _ {found r : Candidate} (t : RowAbove a pairs found r) where
-    largest-is : r ≡ cellOf n rows a (t .β)
+    largest-is : r ≡ cellCandidate n rows a (t .β)
     largest-is =
         t .is ∙ ap (λ (k : ℕ). record { figure = k; witness = a ∷ t .β ∷ [] }) (ap (λ (k : ℕ). 2 * k) (sym (t .of-row .reached)) ∙ sym (cell-twice b p l (t .β)))
 

@@ -16,15 +16,15 @@ use Rattle.boolean.proofs.Selection.{best-append, firstLargest-above}
 use Rattle.refusals.specs.Table.{Box}
 use Rattle.differential.specs.XorTable.{cellsOf, cells, largestCell}
 use Rattle.differential.specs.Running.{Paired}
-use Rattle.differential.specs.Work.{Inside, differencesOf, AfterRow}
-use Rattle.differential.specs.Statements.{IsCell, cellOf}
+use Rattle.differential.specs.Work.{XorInside, differencesOf, AfterRow}
+use Rattle.differential.specs.Statements.{IsCell, cellCandidate}
 use Rattle.differential.proofs.Cells.{in-cells}
 use Rattle.sorting.proofs.Occurrences.{occurs}
 use Rattle.differential.proofs.RowBest.{values-length, value-small, occurrences-cell, row-best}
 use Rattle.differential.proofs.Pairs.{pairs-length}
 
 -- XOR with an input difference leads from inputs to inputs
-pub box-inside : {n m : ℕ} {rows : List ℕ} → Box n m rows → {a : ℕ} → a < 2 ^ n → Inside (length rows) a
+pub box-inside : {n m : ℕ} {rows : List ℕ} → Box n m rows → {a : ℕ} → a < 2 ^ n → XorInside (length rows) a
 box-inside {n} b {a} l x k = omega (arith, b .size, xor-lt n x a (omega (arith, b .size)) l)
 
 -- ---- the loop that takes the largest cell
@@ -37,7 +37,7 @@ some-cell {n} {m} {rows} b =
     let inside : 0 < length (differencesOf rows 1) = omega (arith, values-length b 1, pow-pos n) in
     let β = at (differencesOf rows 1) 0 in
     let cell : IsCell n m 1 β = record { a-low = le-refl 1; a-high = pow-lt (b .n-low); β-high = value-small b 1 0 inside } in
-    (cellOf n rows 1 β, in-cells n m rows 1 β cell, rw (← occurrences-cell b 1 β) (occurs (differencesOf rows 1) (length (differencesOf rows 1)) 0 inside))
+    (cellCandidate n rows 1 β, in-cells n m rows 1 β cell, rw (← occurrences-cell b 1 β) (occurs (differencesOf rows 1) (length (differencesOf rows 1)) 0 inside))
 
 pub record Sweeping (n m : ℕ) (rows : List ℕ) (start found : Candidate) (pairs : List ℕ) (a : ℕ) : Type 0 where
   pub box : Box n m rows

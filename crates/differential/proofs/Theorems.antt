@@ -1,26 +1,29 @@
--- The largest cell, as the call replies it, and in whichever order the cells are visited; and the list of all cells that reach it: which these are,
--- and their order.
+-- The largest cell, as the call replies it, and in whichever order the cells are visited; the list of all cells that reach it: which these are,
+-- and their order; and one row.
 use mathlib.Core.Path.{_≡_, sym, ap, _∙_}
 use mathlib.Core.Bool.{Bool}
 use mathlib.Core.Logic.{_↔_}
 use mathlib.Core.List.{List, [], _∷_, map, List·Memᴰ, Memᴰ·cast, Memᴰ·map, Memᴰ·of-map}
-use Prim.Native.Nat.{ℕ, _^_}
+use Prim.Native.Nat.{ℕ, _^_, _<_}
 use native.Mathlib.Nat.{le-refl}
 use borrow.Author.Tests.{eq-eqb, eqb-true}
 use lib.Dec.{eqb}
+use lib.ListN.{length}
 use lib.Pow.{pow-mono}
 use Rattle.boolean.specs.Sums.{keep}
+use Rattle.boolean.specs.Functions.{at}
 use Rattle.boolean.specs.Selection.{Candidate, shown, higher, firstBest, Ascending, SameMembers, ranked}
+use Rattle.boolean.proofs.Lists.{getD-listBelow, length-listBelow}
 use Rattle.boolean.proofs.Kept.{mem-keep, in-keep, ascending-keep}
 use Rattle.boolean.proofs.Members.{ascending-map}
-use Rattle.boolean.proofs.Selection.{firstLargest-any-order}
+use Rattle.boolean.proofs.Selection.{firstLargest-chooses}
 use Rattle.refusals.specs.Table.{first, figures, boxChecks}
 use Rattle.refusals.specs.declared.Checked.the-variants.{Accepted}
 use Rattle.refusals.proofs.Checks.{box, reply-accepted}
 use Rattle.refusals.proofs.Replies.{figures-accepted, head-same}
-use Rattle.differential.specs.XorTable.{cells, largestCell, largestCells, coded}
-use Rattle.differential.specs.Calls.{xorReply}
-use Rattle.differential.specs.Statements.{XorReported, CellOf, cellOf, rank}
+use Rattle.differential.specs.XorTable.{cell, xorRow, cells, largestCell, largestCells, coded}
+use Rattle.differential.specs.Calls.{largestCellReply}
+use Rattle.differential.specs.Statements.{XorReported, CellCoded, cellCandidate, rank}
 use Rattle.differential.proofs.Cells.{in-cells, mem-cells, ascending-cells}
 use Rattle.differential.proofs.FirstCell.{largest-cell-most, largest-cell-reached, largest-cell-first}
 
@@ -49,10 +52,10 @@ module _ (n m : ℕ) (rows : List ℕ) where
       → firstBest (ranked higher (rank (2 ^ m))) visited ≡ largestCell n m rows
   unfolding largestCell
   largest-cell-any-order visited =
-      firstLargest-any-order (rank (2 ^ m)) (cells n m rows) visited (ascending-cells n m rows (2 ^ m) (le-refl (2 ^ m)))
+      firstLargest-chooses .visited (rank (2 ^ m)) (cells n m rows) visited (ascending-cells n m rows (2 ^ m) (le-refl (2 ^ m)))
 
   -- ---- the list of cells, of a box whose largest cell the call replies as d
-  module _ (d : ℕ) (witness : List ℕ) (e : xorReply n m rows ≡ figures (d ∷ witness)) where
+  module _ (d : ℕ) (witness : List ℕ) (e : largestCellReply n m rows ≡ figures (d ∷ witness)) where
     said : (first (boxChecks n m rows) ≡ Accepted) × ((d ∷ witness) ≡ shown (largestCell n m rows))
     said = figures-accepted (first (boxChecks n m rows)) (shown (largestCell n m rows)) e
 
@@ -60,11 +63,11 @@ module _ (n m : ℕ) (rows : List ℕ) where
     reaches c = eqb (c .figure) (largestCell n m rows .figure)
 
     -- "a list of all cells that reach the largest": a cell stands in it exactly when it counts d
-    pub list-has : (v : ℕ) → List·Memᴰ v (largestCells n m rows) ↔ CellOf n m rows d v
+    pub list-has : (v : ℕ) → List·Memᴰ v (largestCells n m rows) ↔ CellCoded n m rows d v
     unfolding largestCells
     list-has v = (listed, unlisted)
       where
-        listed : List·Memᴰ v (map coded (keep reaches (cells n m rows))) → CellOf n m rows d v
+        listed : List·Memᴰ v (map coded (keep reaches (cells n m rows))) → CellCoded n m rows d v
         listed k =
             let t = Memᴰ·of-map coded (keep reaches (cells n m rows)) k in
             let s = mem-keep reaches (cells n m rows) (t .0) (t .1) in
@@ -78,10 +81,10 @@ module _ (n m : ℕ) (rows : List ℕ) where
               is = sym (t .2) ∙ ap coded (u .3);
             }
 
-        unlisted : CellOf n m rows d v → List·Memᴰ v (map coded (keep reaches (cells n m rows)))
+        unlisted : CellCoded n m rows d v → List·Memᴰ v (map coded (keep reaches (cells n m rows)))
         unlisted t =
             Memᴰ·cast (t .is)
-            (Memᴰ·map coded (in-keep reaches (cells n m rows) (cellOf n rows (t .a) (t .β))
+            (Memᴰ·map coded (in-keep reaches (cells n m rows) (cellCandidate n rows (t .a) (t .β))
             (in-cells n m rows (t .a) (t .β) (t .member)) (eq-eqb _ _ (t .reached ∙ head-same (said .1)))))
 
     -- "The list now runs by ascending a, then ascending β."
@@ -91,3 +94,9 @@ module _ (n m : ℕ) (rows : List ℕ) where
         ascending-map coded (λ v. v) (keep reaches (cells n m rows))
         (ascending-keep reaches coded (cells n m rows)
         (ascending-cells n m rows (2 ^ 32) (pow-mono {i = m} {j = 32} (box n m rows [] (said .0) .m-high))))
+
+-- A row of the table has the count of each output difference.
+pub xor-row-is : (n m : ℕ) (rows : List ℕ) (a : ℕ)
+    → (length (xorRow n m rows a) ≡ 2 ^ m) × ((β : ℕ) → β < 2 ^ m → at (xorRow n m rows a) β ≡ cell n rows a β)
+unfolding xorRow
+xor-row-is n m rows a = (length-listBelow (2 ^ m) (λ β. cell n rows a β), λ β l. getD-listBelow (2 ^ m) (λ β. cell n rows a β) β 0 l)

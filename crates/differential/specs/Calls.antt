@@ -5,7 +5,7 @@ use lib.Dec.{eqb, leb}
 use lib.ListN.{length, drop}
 use Rattle.boolean.specs.Selection.{shown}
 use Rattle.refusals.specs.Table.{Check, _unless_, first, inRange, boxChecksUpTo, boxChecks, Reply}
-use Rattle.refusals.specs.Table.{figures, refusal, number, replyAfter, Wrote, written}
+use Rattle.refusals.specs.Table.{figures, refusal, number, replyAfter, Wrote, saidWritten}
 use Rattle.refusals.specs.declared.Refusal.the-variants.{Parameter, WrittenLength, ListTooShort}
 use Rattle.refusals.specs.declared.Written.{Written}
 use Rattle.differential.specs.XorTable.{xorRow, largestCell, largestCells}
@@ -28,18 +28,18 @@ unfolding largestCells
 listChecks n m rows room = boxChecks n m rows ++ ((ListTooShort unless leb (length (largestCells n m rows)) room) ∷ [])
 
 -- what the largest cell's answer says: the count, a and β, or the number of the refusal
-abbrev pub largestReply : LargestCell → Reply
-largestReply (Reached count a beta) = figures (count ∷ a ∷ beta ∷ [])
-largestReply (Declined e) = refusal (number e)
+abbrev pub saidLargestCell : LargestCell → Reply
+saidLargestCell (Reached count a beta) = figures (count ∷ a ∷ beta ∷ [])
+saidLargestCell (Declined e) = refusal (number e)
 
 -- what the call for the largest cell replies: the count, a and β, or the number of the refusal
-abbrev pub xorReply : (n m : ℕ) (rows : List ℕ) → Reply
-xorReply n m rows = replyAfter (first (boxChecks n m rows)) (shown (largestCell n m rows))
+abbrev pub largestCellReply : (n m : ℕ) (rows : List ℕ) → Reply
+largestCellReply n m rows = replyAfter (first (boxChecks n m rows)) (shown (largestCell n m rows))
 
 -- what the list's answer says: the number of cells, or the number of the refusal
-abbrev pub listReply : CellList → Reply
-listReply (Listed count) = figures (count ∷ [])
-listReply (Unlisted e) = refusal (number e)
+abbrev pub saidCellList : CellList → Reply
+saidCellList (Listed count) = figures (count ∷ [])
+saidCellList (Unlisted e) = refusal (number e)
 
 -- what the list holds after an accepted call: the wanted entries, and past them what was there
 abbrev pub listAfter : (wanted old : List ℕ) → List ℕ
@@ -47,10 +47,10 @@ listAfter wanted old = wanted ++ drop (length wanted) old
 
 -- the outcome of a call of `differential::xor_row`
 abbrev pub RowCalled : (n m : ℕ) (rows : List ℕ) (a : ℕ) (lent : List ℕ) (answer : Written) (left : List ℕ) → Type 0
-RowCalled n m rows a lent answer left = Wrote (rowChecks n m rows a (length lent)) [] (xorRow n m rows a) lent (written answer) left
+RowCalled n m rows a lent answer left = Wrote (rowChecks n m rows a (length lent)) [] (xorRow n m rows a) lent (saidWritten answer) left
 
 -- the outcome of a call of `differential::largest_cells`: the number of the cells, and the list
 abbrev pub ListCalled : (n m : ℕ) (rows lent : List ℕ) (answer : CellList) (left : List ℕ) → Type 0
 ListCalled n m rows lent answer left =
     Wrote (listChecks n m rows (length lent)) (length (largestCells n m rows) ∷ []) (listAfter (largestCells n m rows) lent) lent
-    (listReply answer) left
+    (saidCellList answer) left

@@ -27,35 +27,36 @@ unfoldable pub lowerInput : (top y : ℕ) → ℕ
 lowerInput top y = 2 * y - bitAnd y (top - 1)
 
 -- the output differences under a of the inputs that do not have the bit top
-unfoldable pub pairsOf : (rows : List ℕ) (a top : ℕ) → List ℕ
+unfoldable pub pairDifferences : (rows : List ℕ) (a top : ℕ) → List ℕ
 unfolding listBelow difference lowerInput
-pairsOf rows a top = listBelow (length rows / 2) (λ y. difference rows a (lowerInput top y))
+pairDifferences rows a top = listBelow (length rows / 2) (λ y. difference rows a (lowerInput top y))
 
 -- one output difference for each pair of inputs x and x XOR a: of the two, that of the one without the highest bit of a
 pub record Paired (rows : List ℕ) (a : ℕ) (pairs : List ℕ) : Type 0 where
   pub top : ℕ
   pub highest : HighestBit a top
-  pub held : pairs ≡ pairsOf rows a top
+  pub held : pairs ≡ pairDifferences rows a top
 
--- ---- The running value. After so many rises the count of β is `occurrences differences rises β`: how many of the first so many are β.
+-- ---- The running value. After `rises` rises the count of β is `occurrences differences rises β`: how many of the first `rises`
+-- differences are β.
 
 -- of counts, one for each β: the largest, and the smallest β that has it
-pub record Largest (count : ℕ → ℕ) (largest β : ℕ) : Type 0 where
+pub record LargestCount (count : ℕ → ℕ) (largest β : ℕ) : Type 0 where
   pub most : (v : ℕ) → count v ≤ largest
   pub reached : count β ≡ largest
   pub smallest : (v : ℕ) → v < β → count v < largest
 
 -- a count and its β as one number: the larger number has the larger count, and of equal counts the smaller β
-abbrev pub standing : (count β : ℕ) → ℕ
-standing count β = count * 2 ^ 32 + (2 ^ 32 - 1 - β)
+abbrev pub countWith : (count β : ℕ) → ℕ
+countWith count β = count * 2 ^ 32 + (2 ^ 32 - 1 - β)
 
--- After so many rises the running value is the largest count so far, and its β the smallest that has it.
+-- After `rises` rises the running value is the largest count so far, and its β the smallest that has it.
 pub record LargestSoFar (differences : List ℕ) (rises running : ℕ) : Type 0 where
   pub largest : ℕ
   pub β : ℕ
-  pub is : running ≡ standing largest β
+  pub is : running ≡ countWith largest β
   pub small : β < 2 ^ 32
-  pub so-far : Largest (λ v. occurrences differences rises v) largest β
+  pub so-far : LargestCount (λ v. occurrences differences rises v) largest β
 
 -- ---- The rows one after the other.
 
@@ -73,14 +74,14 @@ pub record InRow (a : ℕ) (said : ℕ → Type 0) (number : ℕ) : Type 0 where
 
 -- the standing of the difference at y, once its count has risen by it
 abbrev pub risenAt : (differences : List ℕ) (y : ℕ) → ℕ
-risenAt differences y = standing (occurrences differences (y + 1) (at differences y)) (at differences y)
+risenAt differences y = countWith (occurrences differences (y + 1) (at differences y)) (at differences y)
 
 -- the higher of two numbers
 unfoldable pub higherOf : (x y : ℕ) → ℕ
 higherOf x y = elim (ltb x y) [ true ↦ y | false ↦ x ]
 
--- The running value after so many rises: it starts from the count 0 with β = 0, and at each rise the standing of the difference whose count
--- has risen takes its place, if that is above it.
+-- The running value after a number of rises: it starts from the count 0 with β = 0, and at each rise the standing of the difference whose
+-- count has risen takes its place, if that is above it.
 unfoldable pub runningAfter : (differences : List ℕ) (rises : ℕ) → ℕ
-runningAfter differences zero = standing 0 0
+runningAfter differences zero = countWith 0 0
 runningAfter differences (suc y) = higherOf (runningAfter differences y) (risenAt differences y)

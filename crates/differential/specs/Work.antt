@@ -13,57 +13,57 @@ use Rattle.boolean.specs.Selection.{Candidate}
 use Rattle.refusals.specs.Table.{Box}
 use Rattle.sorting.specs.Work.{Sorted}
 use Rattle.differential.specs.XorTable.{difference, cell, cellsOf, largestCell, coded}
-use Rattle.differential.specs.Running.{Paired, Largest, standing, LargestSoFar, numberIn}
+use Rattle.differential.specs.Running.{Paired, LargestCount, countWith, LargestSoFar, numberIn}
 use Rattle.differential.specs.declared.FoundCell.{FoundCell}
 
 -- the best cell so far, as a candidate
-abbrev pub candidate : FoundCell → Candidate
-candidate f = record { figure = f .count; witness = f .a ∷ f .beta ∷ [] }
+abbrev pub cellFound : FoundCell → Candidate
+cellFound f = record { figure = f .count; witness = f .a ∷ f .beta ∷ [] }
 
 -- an accepted box, and an array to work in, as long as its rows
-pub record Swept (n m : ℕ) (rows work : List ℕ) : Type 0 where
+pub record CellsSwept (n m : ℕ) (rows work : List ℕ) : Type 0 where
   pub box : Box n m rows
   pub size : length work ≡ 2 ^ n
 
 -- XOR with a leads from the numbers below the size to numbers below it
-abbrev pub Inside : (size a : ℕ) → Type 0
-Inside size a = (x : ℕ) → x < size → bitXor x a < size
+abbrev pub XorInside : (size a : ℕ) → Type 0
+XorInside size a = (x : ℕ) → x < size → bitXor x a < size
 
 -- the output differences under a, one for each input
 unfoldable pub differencesOf : (rows : List ℕ) (a : ℕ) → List ℕ
 unfolding listBelow difference
 differencesOf rows a = listBelow (length rows) (λ x. difference rows a x)
 
--- the place of a difference among 4,096 slots
-abbrev pub slotOf : ℕ → ℕ
-slotOf v = v % 4096
+-- the place of a difference among 4,096 buckets
+abbrev pub bucketOf : ℕ → ℕ
+bucketOf v = v % 4096
 
--- 4,096 slots that are free for the rows from a on: what they hold is below every number of such a row
-pub record FreeFrom (a : ℕ) (slots : List ℕ) : Type 0 where
-  pub size : length slots ≡ 4096
-  pub free : (slot : ℕ) → slot < 4096 → at slots slot < numberIn a 0
+-- 4,096 buckets that are free for the rows from a on: what they hold is below every number of such a row
+pub record FreeFrom (a : ℕ) (buckets : List ℕ) : Type 0 where
+  pub size : length buckets ≡ 4096
+  pub free : (bucket : ℕ) → bucket < 4096 → at buckets bucket < numberIn a 0
 
--- a slot holds, under the row's number, the standing after so many rises of a difference that belongs there and has come: its key
-pub record Slot (a : ℕ) (differences : List ℕ) (rises slot content : ℕ) : Type 0 where
+-- a bucket holds, under the row's number, the standing after `rises` rises of a difference that belongs there and has come: its key
+pub record Bucket (a : ℕ) (differences : List ℕ) (rises bucket content : ℕ) : Type 0 where
   pub key : ℕ
   pub small : key < 2 ^ 32
-  pub here : slotOf key ≡ slot
+  pub here : bucketOf key ≡ bucket
   pub came : 0 < occurrences differences rises key
-  pub is : content ≡ numberIn a (standing (occurrences differences rises key) key)
+  pub is : content ≡ numberIn a (countWith (occurrences differences rises key) key)
 
--- So does every slot that is not free for the row of a. The slot of each difference that has come is not; which of those that share a slot
--- has it is open.
-pub record Slots (a : ℕ) (differences : List ℕ) (rises : ℕ) (slots : List ℕ) : Type 0 where
-  pub size : length slots ≡ 4096
-  pub held : (slot : ℕ) → slot < 4096 → numberIn a 0 ≤ at slots slot → Slot a differences rises slot (at slots slot)
-  pub taken : (x : ℕ) → x < rises → numberIn a 0 ≤ at slots (slotOf (at differences x))
+-- So does every bucket that is not free for the row of a. The bucket of each difference that has come is not; which of those that share a
+-- bucket has it is open.
+pub record Buckets (a : ℕ) (differences : List ℕ) (rises : ℕ) (buckets : List ℕ) : Type 0 where
+  pub size : length buckets ≡ 4096
+  pub held : (bucket : ℕ) → bucket < 4096 → numberIn a 0 ≤ at buckets bucket → Bucket a differences rises bucket (at buckets bucket)
+  pub taken : (x : ℕ) → x < rises → numberIn a 0 ≤ at buckets (bucketOf (at differences x))
 
--- each difference below the size has a slot of its own, which holds its standing after so many rises
-pub record OwnSlots (size : ℕ) (differences : List ℕ) (rises : ℕ) (slots : List ℕ) : Type 0 where
+-- each difference below the size has a bucket of its own, which holds its standing after `rises` rises
+pub record OwnBuckets (size : ℕ) (differences : List ℕ) (rises : ℕ) (buckets : List ℕ) : Type 0 where
   pub few : size ≤ 256
-  pub long : length slots ≡ size
+  pub long : length buckets ≡ size
   pub inside : Below size differences
-  pub held : (v : ℕ) → v < size → at slots v ≡ standing (occurrences differences rises v) v
+  pub held : (v : ℕ) → v < size → at buckets v ≡ countWith (occurrences differences rises v) v
 
 -- r is the row's largest cell with its smallest β, found from the differences of its pairs, and is above the best cell before
 pub record RowAbove (a : ℕ) (pairs : List ℕ) (found r : Candidate) : Type 0 where
@@ -71,14 +71,14 @@ pub record RowAbove (a : ℕ) (pairs : List ℕ) (found r : Candidate) : Type 0 
   pub β : ℕ
   pub is : r ≡ record { figure = 2 * largest; witness = a ∷ β ∷ [] }
   pub above : found .figure < 2 * largest
-  pub of-row : Largest (λ v. occurrences pairs (length pairs) v) largest β
+  pub of-row : LargestCount (λ v. occurrences pairs (length pairs) v) largest β
 
 -- the best cell after the row of a: the one before, where the row has none above it, or the row's largest
 abbrev pub AfterRow : (a : ℕ) (pairs : List ℕ) (found r : Candidate) → Type 0
 AfterRow a pairs found r =
     ((r ≡ found) × ((β : ℕ) → 2 * occurrences pairs (length pairs) β ≤ found .figure)) ⊎ RowAbove a pairs found r
 
--- the same from the row's largest standing, whatever its pairs are
+-- the best cell after the row of a, from the row's largest standing, whatever its pairs are
 abbrev pub AfterStanding : (a best : ℕ) (found r : Candidate) → Type 0
 AfterStanding a best found r = (pairs : List ℕ) → LargestSoFar pairs (length pairs) best → AfterRow a pairs found r
 
@@ -89,12 +89,12 @@ pub record CellsAfter (before count cells r : ℕ) : Type 0 where
   pub equal : before ≡ count → r ≡ cells + 1
   pub under : count < before → r ≡ cells
 
--- how many β below the size have this count after so many rises
+-- how many β below the size have this count after `rises` rises
 unfoldable pub reaching : (size : ℕ) (differences : List ℕ) (rises count : ℕ) → ℕ
 unfolding countBelow occurrences
 reaching size differences rises count = countBelow size (λ v. eqb (occurrences differences rises v) count)
 
--- the running value after so many rises, and how many β have its count, below any size that the differences are below
+-- the running value after `rises` rises, and how many β have its count, below any size that the differences are below
 pub record RunningCells (differences : List ℕ) (rises value cells : ℕ) : Type 0 where
   pub running : LargestSoFar differences rises value
   pub few : cells ≤ rises
@@ -108,7 +108,7 @@ IsRow n a = (1 ≤ a) × (a < 2 ^ n)
 pub record RowMeasured (n m : ℕ) (rows : List ℕ) (a value number : ℕ) : Type 0 where
   pub largest : ℕ
   pub β : ℕ
-  pub is : value ≡ standing largest β
+  pub is : value ≡ countWith largest β
   pub below : β < 2 ^ m
   pub most : (v : ℕ) → cell n rows a v ≤ 2 * largest
   pub reached : cell n rows a β ≡ 2 * largest
@@ -117,8 +117,8 @@ pub record RowMeasured (n m : ℕ) (rows : List ℕ) (a value number : ℕ) : Ty
   pub counted : number ≡ countBelow (2 ^ m) (λ v. eqb (cell n rows a v) (2 * largest))
 
 -- the entry a of two arrays has that of the row of a
-abbrev pub Measured : (n m : ℕ) (rows standings numbers : List ℕ) → Type 0
-Measured n m rows standings numbers = (a : ℕ) → IsRow n a → RowMeasured n m rows a (at standings a) (at numbers a)
+abbrev pub RowsMeasured : (n m : ℕ) (rows standings numbers : List ℕ) → Type 0
+RowsMeasured n m rows standings numbers = (a : ℕ) → IsRow n a → RowMeasured n m rows a (at standings a) (at numbers a)
 
 -- the cells of the row of a that reach the largest count of the box, in ascending β
 unfoldable pub rowCells : (n m : ℕ) (rows : List ℕ) (a : ℕ) → List ℕ

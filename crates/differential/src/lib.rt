@@ -13,9 +13,16 @@ ghost use Rattle.differential.specs.XorTable.{xorRow};
 ghost use Rattle.boolean.specs.Sums.{AnyContent};
 ghost use Rattle.boolean.specs.Functions.{occurrences};
 ghost use Rattle.differential.specs.XorTable as spec;
-ghost use Rattle.differential.specs.Calls.{rowChecks, largestReply, xorReply, RowCalled, ListCalled};
-ghost use Rattle.differential.specs.Work.{candidate, Swept, Inside, differencesOf, FreeFrom, Slots, AfterStanding};
+ghost use Rattle.differential.specs.Calls.{rowChecks, saidLargestCell, largestCellReply, RowCalled, ListCalled};
+ghost use Rattle.differential.specs.Work.{cellFound, CellsSwept, XorInside, differencesOf, FreeFrom, Buckets, AfterStanding};
 ghost use Rattle.differential.specs.Running.{HighestBit, Paired, LargestSoFar, numberIn, InRow, risenAt, higherOf, runningAfter};
+
+// Numbers of a count's standing: see `risen`. The standing of the difference 0 with a count of 0 is 2^32 − 1.
+const TWO_TO_32: u64 = 4294967296;
+
+const TWO_TO_40: u64 = 1099511627776;
+
+const STANDING_OF_0: u64 = 4294967295;
 
 // The best cell so far.
 pub struct FoundCell {
@@ -44,7 +51,7 @@ pub enum CellList {
 
 // The output differences under the input difference a, one for each input.
 fn write_differences(rows: &[u32], a: u32, differences: &mut [u32])
-    requires { ⌜ Inside (length (now rows)) a × (length (now differences) ≡ length (now rows)) ⌝ }
+    requires { ⌜ XorInside (length (now rows)) a × (length (now differences) ≡ length (now rows)) ⌝ }
     ensures { λ _. ⌜ now (differences .exit) ≡ differencesOf (now (rows .entry)) a ⌝ }
 {
     let mut x = 0;
@@ -90,7 +97,7 @@ fn check_row(n: u32, m: u32, rows: &[u32], a: u32, room: usize) -> Checked
 
 // The row of a, with an array for the differences lent.
 fn write_row(n: u32, m: u32, rows: &[u32], a: u32, differences: &mut [u32], counts: &mut [u16])
-    requires { ⌜ Swept n m (now rows) (now differences) × (a < 2 ^ n) × (length (now counts) ≡ 2 ^ m) ⌝ }
+    requires { ⌜ CellsSwept n m (now rows) (now differences) × (a < 2 ^ n) × (length (now counts) ≡ 2 ^ m) ⌝ }
     ensures { λ _. ⌜ (now (counts .exit) ≡ xorRow n m (now (rows .entry)) a)
         × (now (differences .exit) ≡ differencesOf (now (rows .entry)) a) ⌝ }
 {
@@ -126,7 +133,7 @@ fn highest_bit(a: u32) -> u32
 
 // The output differences under a, one for each pair of inputs x and x XOR a: the two inputs of a pair have the same.
 fn write_pairs(rows: &[u32], a: u32, pairs: &mut [u32])
-    requires { ⌜ Inside (length (now rows)) a × (0 < a) × (length (now rows) ≡ 2 * length (now pairs)) ⌝ }
+    requires { ⌜ XorInside (length (now rows)) a × (0 < a) × (length (now rows) ≡ 2 * length (now pairs)) ⌝ }
     ensures { λ _. ⌜ Paired (now (rows .entry)) a (now (pairs .exit)) ⌝ }
 {
     let top = highest_bit(a) as usize;
@@ -146,43 +153,43 @@ fn larger(x: u64, y: u64) -> u64
     if x < y { y } else { x }
 }
 
-// The counts of a row stand in 4,096 slots, since 32 outputs have too many differences for a count each. A slot holds the standing of one
-// difference, its count * 2^32 + (2^32 - 1 - beta), so that the larger standing counts more, or as many for a smaller difference. Above it
-// stands the row, as a * 2^40: what the rows before have left is below every number of this row, so no slot is cleared between rows, and
-// the first difference of a row that falls into a slot takes it.
+// The counts of a row stand in 4,096 buckets, since 32 outputs have too many differences for a count each. A bucket holds the standing of
+// one difference, its count * 2^32 + (2^32 - 1 - beta), so that the larger standing counts more, or as many for a smaller difference.
+// Above it stands the row, as a * 2^40: what the rows before have left is below every number of this row, so no bucket is cleared between
+// rows, and the first difference of a row that falls into a bucket takes it.
 //
-// The number of the difference at y after its count has risen: by one in its slot, or, where another difference has the slot, from those
-// before it that are the same. That a slot is free shows in the larger of two numbers, and not in a branch: free or taken, in no pattern,
-// is what a processor guesses wrong.
-fn risen(a: u32, differences: &[u32], y: usize, slots: &mut [u64]) -> u64
+// The number of the difference at y after its count has risen: by one in its bucket, or, where another difference has the bucket, from
+// those before it that are the same. That a bucket is free shows in the larger of two numbers, and not in a branch: free or taken, in no
+// pattern, is what a processor guesses wrong.
+fn risen(a: u32, differences: &[u32], y: usize, buckets: &mut [u64]) -> u64
     requires { ⌜ (a < 256) × (y < length (now differences)) × (length (now differences) ≤ 128)
-        × Slots a (now differences) y (now slots) ⌝ }
+        × Buckets a (now differences) y (now buckets) ⌝ }
     ensures { λ r. ⌜ (r ≡ numberIn a (risenAt (now (differences .entry)) y))
-        × Slots a (now (differences .entry)) (y + 1) (now (slots .exit)) ⌝ }
+        × Buckets a (now (differences .entry)) (y + 1) (now (buckets .exit)) ⌝ }
 {
     let beta = differences[y];
-    let none = (a as u64) * 1099511627776 + 4294967295 - beta as u64;
-    let slot = (beta % 4096) as usize;
-    let held = larger(slots[slot], none);
-    if (held - none) % 4294967296 == 0 {
-        let standing = held + 4294967296;
-        slots[slot] = standing;
+    let none = (a as u64) * TWO_TO_40 + STANDING_OF_0 - beta as u64;
+    let bucket = (beta % 4096) as usize;
+    let held = larger(buckets[bucket], none);
+    if (held - none) % TWO_TO_32 == 0 {
+        let standing = held + TWO_TO_32;
+        buckets[bucket] = standing;
         return standing;
     }
     let before = count_equal(&differences[..y], beta) as u64;
-    none + (before + 1) * 4294967296
+    none + (before + 1) * TWO_TO_32
 }
 
 // One rise: the count of the difference at y goes up by one, and the running value is brought up to date by one comparison. After each rise
 // its count is the largest so far, and its difference the smallest that has it.
-fn rise(a: u32, differences: &[u32], y: usize, slots: &mut [u64], running: u64) -> AfterRise
+fn rise(a: u32, differences: &[u32], y: usize, buckets: &mut [u64], running: u64) -> AfterRise
     requires { ⌜ (a < 256) × (y < length (now differences)) × (length (now differences) ≤ 128)
-        × Slots a (now differences) y (now slots) × InRow a (LargestSoFar (now differences) y) running ⌝ }
+        × Buckets a (now differences) y (now buckets) × InRow a (LargestSoFar (now differences) y) running ⌝ }
     ensures { λ r. ⌜ InRow a (LargestSoFar (now (differences .entry)) (y + 1)) (r .running)
         × (r .running ≡ higherOf running (r .standing)) × (r .standing ≡ numberIn a (risenAt (now (differences .entry)) y))
-        × Slots a (now (differences .entry)) (y + 1) (now (slots .exit)) ⌝ }
+        × Buckets a (now (differences .entry)) (y + 1) (now (buckets .exit)) ⌝ }
 {
-    let standing = risen(a, differences, y, slots);
+    let standing = risen(a, differences, y, buckets);
     if running < standing {
         AfterRise {
             standing,
@@ -194,17 +201,17 @@ fn rise(a: u32, differences: &[u32], y: usize, slots: &mut [u64], running: u64) 
 }
 
 // The largest count of the differences and the smallest difference that has it, as one standing: a running value while the counts rise.
-fn largest_risen(a: u32, differences: &[u32], slots: &mut [u64]) -> u64
-    requires { ⌜ (a < 256) × (length (now differences) ≤ 128) × FreeFrom a (now slots) ⌝ }
+fn largest_risen(a: u32, differences: &[u32], buckets: &mut [u64]) -> u64
+    requires { ⌜ (a < 256) × (length (now differences) ≤ 128) × FreeFrom a (now buckets) ⌝ }
     ensures { λ r. ⌜ LargestSoFar (now (differences .entry)) (length (now (differences .entry))) r
         × (r ≡ runningAfter (now (differences .entry)) (length (now (differences .entry))))
-        × Slots a (now (differences .entry)) (length (now (differences .entry))) (now (slots .exit)) ⌝ }
+        × Buckets a (now (differences .entry)) (length (now (differences .entry))) (now (buckets .exit)) ⌝ }
 {
-    let row = (a as u64) * 1099511627776;
-    let mut running: u64 = row + 4294967295;
+    let row = (a as u64) * TWO_TO_40;
+    let mut running: u64 = row + STANDING_OF_0;
     let mut y = 0;
     while y < differences.len() {
-        let after = rise(a, differences, y, slots, running);
+        let after = rise(a, differences, y, buckets, running);
         running = after.running;
         y += 1;
     }
@@ -214,22 +221,22 @@ fn largest_risen(a: u32, differences: &[u32], slots: &mut [u64]) -> u64
 // The best cell so far, or the largest of the row of a where that counts more: of the row's pairs, whatever they are, the largest
 // standing is given. A pair stands for two inputs.
 fn after_row(a: u32, best: u64, found: FoundCell) -> FoundCell
-    requires { ⌜ best / 4294967296 ≤ 128 ⌝ }
-    ensures { λ r. ⌜ AfterStanding a best (candidate found) (candidate r) ⌝ }
+    requires { ⌜ best / 2 ^ 32 ≤ 128 ⌝ }
+    ensures { λ r. ⌜ AfterStanding a best (cellFound found) (cellFound r) ⌝ }
 {
-    let count = 2 * ((best / 4294967296) as u32);
+    let count = 2 * ((best / TWO_TO_32) as u32);
     if count <= found.count {
         return found;
     }
-    let beta = (4294967295 - best % 4294967296) as u32;
+    let beta = (STANDING_OF_0 - best % TWO_TO_32) as u32;
     FoundCell { count, a, beta }
 }
 
 // Every row in turn, from 1 to 2^n − 1. It starts from a count that every row exceeds.
-fn sweep_cells(n: u32, m: u32, rows: &[u32], pairs: &mut [u32], slots: &mut [u64]) -> FoundCell
-    requires { ⌜ Box n m (now rows) × (length (now rows) ≡ 2 * length (now pairs)) × FreeFrom 1 (now slots) ⌝ }
-    ensures { λ r. ⌜ (candidate r ≡ spec.largestCell n m (now (rows .entry)))
-        × Paired (now (rows .entry)) (2 ^ n - 1) (now (pairs .exit)) × AnyContent (now (slots .entry)) (now (slots .exit)) ⌝ }
+fn sweep_cells(n: u32, m: u32, rows: &[u32], pairs: &mut [u32], buckets: &mut [u64]) -> FoundCell
+    requires { ⌜ Box n m (now rows) × (length (now rows) ≡ 2 * length (now pairs)) × FreeFrom 1 (now buckets) ⌝ }
+    ensures { λ r. ⌜ (cellFound r ≡ spec.largestCell n m (now (rows .entry)))
+        × Paired (now (rows .entry)) (2 ^ n - 1) (now (pairs .exit)) × AnyContent (now (buckets .entry)) (now (buckets .exit)) ⌝ }
 {
     let inputs = boolean::power_of_two(n) as u32;
     let mut found = FoundCell {
@@ -240,27 +247,27 @@ fn sweep_cells(n: u32, m: u32, rows: &[u32], pairs: &mut [u32], slots: &mut [u64
     let mut a: u32 = 1;
     while a < inputs {
         write_pairs(rows, a, pairs);
-        let best = largest_risen(a, pairs, slots);
+        let best = largest_risen(a, pairs, buckets);
         found = after_row(a, best, found);
         a += 1;
     }
     found
 }
 
-// The largest cell of a box of any outputs that was checked. The slots are made once for all rows, and room for the pairs is lent.
+// The largest cell of a box of any outputs that was checked. The buckets are made once for all rows, and room for the pairs is lent.
 fn find_wide(n: u32, m: u32, rows: &[u32], pairs: &mut [u32]) -> FoundCell
     requires { ⌜ Box n m (now rows) × (length (now pairs) ≡ 128) ⌝ }
-    ensures { λ r. ⌜ (candidate r ≡ spec.largestCell n m (now (rows .entry))) × AnyContent (now (pairs .entry)) (now (pairs .exit)) ⌝ }
+    ensures { λ r. ⌜ (cellFound r ≡ spec.largestCell n m (now (rows .entry))) × AnyContent (now (pairs .entry)) (now (pairs .exit)) ⌝ }
 {
-    let mut slots = [0u64; 4096];
+    let mut buckets = [0u64; 4096];
     let half = rows.len() / 2;
-    sweep_cells(n, m, rows, &mut pairs[..half], &mut slots)
+    sweep_cells(n, m, rows, &mut pairs[..half], &mut buckets)
 }
 
 // The largest cell of a box that was checked.
 fn find_largest(n: u32, m: u32, rows: &[u32], pairs: &mut [u32]) -> FoundCell
     requires { ⌜ Box n m (now rows) × (length (now pairs) ≡ 128) ⌝ }
-    ensures { λ r. ⌜ (candidate r ≡ spec.largestCell n m (now (rows .entry))) × AnyContent (now (pairs .entry)) (now (pairs .exit)) ⌝ }
+    ensures { λ r. ⌜ (cellFound r ≡ spec.largestCell n m (now (rows .entry))) × AnyContent (now (pairs .entry)) (now (pairs .exit)) ⌝ }
 {
     if m <= 8 {
         narrow::find_narrow(n, m, rows, pairs)
@@ -270,9 +277,9 @@ fn find_largest(n: u32, m: u32, rows: &[u32], pairs: &mut [u32]) -> FoundCell
 }
 
 // The largest cell of a box, in ascending a, then beta. An array is made before the checks, so that room on the stack is: made after
-// them, room for the slots would cost the number of rows, by a fault of the compiler that no proof covers (decision 119).
+// them, room for the buckets would cost the number of rows, by a fault of the compiler that no proof covers (decision 119).
 pub fn largest_cell(n: u32, m: u32, rows: &[u32]) -> LargestCell
-    ensures { λ r. ⌜ largestReply r ≡ xorReply n m (now (rows .entry)) ⌝ }
+    ensures { λ r. ⌜ saidLargestCell r ≡ largestCellReply n m (now (rows .entry)) ⌝ }
 {
     let mut pairs = [0u32; 128];
     if let Checked::Refused(e) = refusals::check_box(n, m, rows) {

@@ -1,6 +1,9 @@
 // The list of all cells that reach the largest count. Each row is measured once: its largest count, the smallest difference that has it,
 // and how many have it. A row with one such cell is then known; only the pairs of a row with several are put in order.
 use crate::CellList;
+use crate::STANDING_OF_0;
+use crate::TWO_TO_32;
+use crate::TWO_TO_40;
 use crate::larger;
 use crate::rise;
 use crate::write_pairs;
@@ -14,8 +17,8 @@ ghost use Rattle.boolean.specs.Sums.{AnyContent};
 ghost use Rattle.differential.specs.XorTable.{largestCells};
 ghost use Rattle.differential.specs.XorTable as spec;
 ghost use Rattle.differential.specs.Calls.{ListCalled};
-ghost use Rattle.differential.specs.Work.{CellsAfter, RunningCells, IsRow, RowMeasured, Measured, rowCells};
-ghost use Rattle.differential.specs.Work.{runAt, runs, FreeFrom, Slots, PairsInOrder};
+ghost use Rattle.differential.specs.Work.{CellsAfter, RunningCells, IsRow, RowMeasured, RowsMeasured, rowCells};
+ghost use Rattle.differential.specs.Work.{runAt, runs, FreeFrom, Buckets, PairsInOrder};
 ghost use Rattle.differential.specs.Running.{Paired};
 
 // What the list needs of a row: its largest standing, and how many of its cells reach that count.
@@ -28,10 +31,10 @@ pub struct RowLargest {
 // where it is as large.
 fn cells_after(running: u64, standing: u64, cells: u32) -> u32
     requires { ⌜ cells < 128 ⌝ }
-    ensures { λ r. ⌜ CellsAfter (running / 4294967296) (standing / 4294967296) cells r ⌝ }
+    ensures { λ r. ⌜ CellsAfter (running / 2 ^ 32) (standing / 2 ^ 32) cells r ⌝ }
 {
-    let before = running / 4294967296;
-    let count = standing / 4294967296;
+    let before = running / TWO_TO_32;
+    let count = standing / TWO_TO_32;
     if before < count {
         return 1;
     }
@@ -42,17 +45,17 @@ fn cells_after(running: u64, standing: u64, cells: u32) -> u32
 }
 
 // As `largest_risen`, with the number of differences that have the largest count brought up to date beside it.
-fn measure_row(a: u32, differences: &[u32], slots: &mut [u64]) -> RowLargest
-    requires { ⌜ (a < 256) × (length (now differences) ≤ 128) × FreeFrom a (now slots) ⌝ }
+fn measure_row(a: u32, differences: &[u32], buckets: &mut [u64]) -> RowLargest
+    requires { ⌜ (a < 256) × (length (now differences) ≤ 128) × FreeFrom a (now buckets) ⌝ }
     ensures { λ r. ⌜ RunningCells (now (differences .entry)) (length (now (differences .entry))) (r .standing) (r .cells)
-        × Slots a (now (differences .entry)) (length (now (differences .entry))) (now (slots .exit)) ⌝ }
+        × Buckets a (now (differences .entry)) (length (now (differences .entry))) (now (buckets .exit)) ⌝ }
 {
-    let row = (a as u64) * 1099511627776;
-    let mut running: u64 = row + 4294967295;
+    let row = (a as u64) * TWO_TO_40;
+    let mut running: u64 = row + STANDING_OF_0;
     let mut cells: u32 = 0;
     let mut y = 0;
     while y < differences.len() {
-        let after = rise(a, differences, y, slots, running);
+        let after = rise(a, differences, y, buckets, running);
         cells = cells_after(running, after.standing, cells);
         running = after.running;
         y += 1;
@@ -69,24 +72,24 @@ fn measure_rows(
     m: u32,
     rows: &[u32],
     pairs: &mut [u32],
-    slots: &mut [u64],
+    buckets: &mut [u64],
     standings: &mut [u64; 256],
     numbers: &mut [u32; 256],
 ) -> u64
-    requires { ⌜ Box n m (now rows) × (length (now rows) ≡ 2 * length (now pairs)) × FreeFrom 1 (now slots)
+    requires { ⌜ Box n m (now rows) × (length (now rows) ≡ 2 * length (now pairs)) × FreeFrom 1 (now buckets)
         × (length (now standings) ≡ 256) × (length (now numbers) ≡ 256) ⌝ }
-    ensures { λ r. ⌜ Measured n m (now (rows .entry)) (now (standings .exit)) (now (numbers .exit))
+    ensures { λ r. ⌜ RowsMeasured n m (now (rows .entry)) (now (standings .exit)) (now (numbers .exit))
         × (2 * r ≡ spec.largestCell n m (now (rows .entry)) .figure)
-        × Paired (now (rows .entry)) (2 ^ n - 1) (now (pairs .exit)) × AnyContent (now (slots .entry)) (now (slots .exit)) ⌝ }
+        × Paired (now (rows .entry)) (2 ^ n - 1) (now (pairs .exit)) × AnyContent (now (buckets .entry)) (now (buckets .exit)) ⌝ }
 {
     let mut largest: u64 = 0;
     let mut a: usize = 1;
     while a < rows.len() {
         write_pairs(rows, a as u32, pairs);
-        let row = measure_row(a as u32, pairs, slots);
+        let row = measure_row(a as u32, pairs, buckets);
         standings[a] = row.standing;
         numbers[a] = row.cells;
-        largest = larger(largest, row.standing / 4294967296);
+        largest = larger(largest, row.standing / TWO_TO_32);
         a += 1;
     }
     largest
@@ -101,18 +104,18 @@ fn measure(
     numbers: &mut [u32; 256],
 ) -> u64
     requires { ⌜ Box n m (now rows) × (length (now standings) ≡ 256) × (length (now numbers) ≡ 256) ⌝ }
-    ensures { λ r. ⌜ Measured n m (now (rows .entry)) (now (standings .exit)) (now (numbers .exit))
+    ensures { λ r. ⌜ RowsMeasured n m (now (rows .entry)) (now (standings .exit)) (now (numbers .exit))
         × (2 * r ≡ spec.largestCell n m (now (rows .entry)) .figure) ⌝ }
 {
     let mut pairs = [0u32; 128];
-    let mut slots = [0u64; 4096];
+    let mut buckets = [0u64; 4096];
     let half = rows.len() / 2;
     measure_rows(
         n,
         m,
         rows,
         &mut pairs[..half],
-        &mut slots,
+        &mut buckets,
         standings,
         numbers,
     )
@@ -127,14 +130,14 @@ fn count_cells(
     numbers: &[u32; 256],
     largest: u64,
 ) -> usize
-    requires { ⌜ Box n m (now rows) × Measured n m (now rows) (now standings) (now numbers)
+    requires { ⌜ Box n m (now rows) × RowsMeasured n m (now rows) (now standings) (now numbers)
         × (2 * largest ≡ spec.largestCell n m (now rows) .figure) ⌝ }
     ensures { λ r. ⌜ (r ≡ length (largestCells n m (now (rows .entry)))) × (r ≤ 65536) ⌝ }
 {
     let mut count = 0;
     let mut a = 1;
     while a < rows.len() {
-        if standings[a] / 4294967296 == largest {
+        if standings[a] / TWO_TO_32 == largest {
             count += numbers[a] as usize;
         }
         a += 1;
@@ -154,7 +157,7 @@ fn list_run(a: u32, pairs: &[u32], y: usize, largest: usize, list: &mut [u64], n
     if pairs[y] != pairs[last] {
         return next;
     }
-    list[next] = (a as u64) * 4294967296 + pairs[y] as u64;
+    list[next] = (a as u64) * TWO_TO_32 + pairs[y] as u64;
     next + 1
 }
 
@@ -215,11 +218,11 @@ fn list_row(
     ensures { λ r. ⌜ (r ≡ start + length (rowCells n m (now (rows .entry)) a))
         × (now (list .exit) ≡ sets (now (list .entry)) start (rowCells n m (now (rows .entry)) a)) ⌝ }
 {
-    if row.standing / 4294967296 != largest {
+    if row.standing / TWO_TO_32 != largest {
         return start;
     }
     if row.cells == 1 {
-        list[start] = (a as u64) * 4294967296 + (4294967295 - row.standing % 4294967296);
+        list[start] = (a as u64) * TWO_TO_32 + (STANDING_OF_0 - row.standing % TWO_TO_32);
         return start + 1;
     }
     let mut pairs = [0u32; 128];
@@ -246,7 +249,7 @@ fn list_cells(
     largest: u64,
     list: &mut [u64],
 )
-    requires { ⌜ Box n m (now rows) × Measured n m (now rows) (now standings) (now numbers)
+    requires { ⌜ Box n m (now rows) × RowsMeasured n m (now rows) (now standings) (now numbers)
         × (2 * largest ≡ spec.largestCell n m (now rows) .figure) × (length (largestCells n m (now rows)) ≤ length (now list)) ⌝ }
     ensures { λ _. ⌜ now (list .exit) ≡ sets (now (list .entry)) 0 (largestCells n m (now (rows .entry))) ⌝ }
 {
@@ -274,7 +277,7 @@ pub fn list_with(
 ) -> CellList
     requires { ⌜ Box n m (now rows) × (length (now standings) ≡ 256) × (length (now numbers) ≡ 256) ⌝ }
     ensures { λ r. ⌜ ListCalled n m (now (rows .entry)) (now (list .entry)) r (now (list .exit)) ⌝ }
-    ensures measured { λ r. ⌜ Measured n m (now (rows .entry)) (now (standings .exit)) (now (numbers .exit)) ⌝ }
+    ensures measured { λ r. ⌜ RowsMeasured n m (now (rows .entry)) (now (standings .exit)) (now (numbers .exit)) ⌝ }
 {
     let largest = measure(n, m, rows, standings, numbers);
     let count = count_cells(n, m, rows, standings, numbers, largest);

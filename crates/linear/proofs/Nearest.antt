@@ -1,6 +1,6 @@
 -- The best pair of a component from its spectrum, and of the components one after the other.
 use mathlib.Core.Path.{_≡_, sym, ap, ap₂, _∙_, subst}
-use mathlib.Core.Bool.{true, false}
+use mathlib.Core.Bool.{true, false, Bool}
 use mathlib.Core.List.{List, [], _∷_, List·Memᴰ}
 use Prim.Native.Nat.{ℕ, suc, _+_, _*_, _-_, _/_, _^_, _<_, _≤_}
 use native.Mathlib.Nat.{le-trans, zero-lt-suc}
@@ -10,7 +10,6 @@ use borrow.Author.Tests.{lt-ltb, le-ltb}
 use lib.Pow.{pow-pos}
 use lib.IntN.{ℤ, pos, negsuc, _+ℤ_, natAbs}
 use lib.ListN.{length}
-use Rattle.boolean.specs.Sums.{listBelow, each}
 use Rattle.boolean.specs.Functions.{at, valueAt, component, distance, walsh, approximation, spectrum, signBit}
 use Rattle.boolean.specs.Selection.{Candidate, best, lower, firstLeast, ranked}
 use Rattle.boolean.proofs.Counts.{count-le}
@@ -18,18 +17,17 @@ use Rattle.boolean.proofs.Digits.{component-lt}
 use Rattle.boolean.proofs.Distances.{walsh-pos, walsh-negsuc, distance-walsh}
 use Rattle.boolean.proofs.Dots.{bit-cases}
 use Rattle.boolean.proofs.Lists.{length-listBelow, getD-listBelow}
-use Rattle.boolean.specs.Statements.{masksBelow}
-use Rattle.boolean.proofs.Selection.{best-takes, best-keeps, first-is, firstLeast-le, firstLeast-mem, ranked-first}
+use Rattle.boolean.proofs.Selection.{best-takes, best-keeps, first-is, firstLeast-chooses, ranked-first}
 use Rattle.boolean.proofs.Approximations.{walsh-twice, walsh-size, approximation-le, half-power}
-use Rattle.refusals.specs.Table.{Box}
+use Rattle.walsh.specs.Work.{FirstOfMagnitude}
+use Rattle.walsh.proofs.Magnitudes.{Largest, place-inside}
 use Rattle.masks.specs.Masks.{outputs}
-use Rattle.masks.specs.Work.{Next, Raised, preferred}
-use Rattle.masks.proofs.Walk.{best-starts, best-next, best-ends}
+use Rattle.masks.specs.Work.{preferred}
 use Rattle.masks.specs.Statements.{Blocks}
 use Rattle.masks.proofs.Fewest.{least-names, lower-test, least-swept}
-use Rattle.masks.proofs.Boxes.{Stepwise, stepwise-starts, stepwise-next}
+use Rattle.masks.proofs.Sweeps.{Sweeping, choosing-ends, table-size}
 use Rattle.linear.specs.Nonlinearity.{pair, pairsOf, pairs, nonlinearity}
-use Rattle.linear.specs.Work.{Largest, FirstPlace, Swept}
+use Rattle.linear.specs.Work.{PairsSwept}
 use Rattle.linear.specs.Statements.{pairRank}
 use Rattle.linear.proofs.Pairs.{in-pairsOf, mem-pairsOf, pairsOf-some, ascending-pairsOf}
 
@@ -108,21 +106,23 @@ module _ (n : ℕ) (rows : List ℕ) (c : ℕ) {values : List ℤ} (e : values �
     least-figure =
         let l : top .place < 2 ^ n = omega (arith, values-length n rows c e, top .inside) in
         let v = valueAt values (top .place) in
-        let t = pairsOf-some n rows c in
-        let reached = firstLeast-le (pairsOf n rows c) (pair n rows c (top .place) (signBit v)) (in-pairsOf n rows c (top .place) (signBit v) l (signed (top .place) l .0)) in
-        let mem = subst (λ (l : List Candidate). List·Memᴰ (firstLeast l) l) (sym (t .2)) (firstLeast-mem (t .0) (t .1)) in
+        let reached = firstLeast-chooses .all (pairsOf n rows c) (pair n rows c (top .place) (signBit v)) (in-pairsOf n rows c (top .place) (signBit v) l (signed (top .place) l .0)) in
+        let mem = firstLeast-chooses .mem (pairsOf-some n rows c .2) in
         omega (arith, reached, figure-at (top .place) l (top .reached), least-distance (firstLeast (pairsOf n rows c)) mem)
 
     -- the first value of the largest magnitude, with its sign bit, is the first of the nearest pairs
-    module _ {w : ℕ} (place : FirstPlace values size w) where
+    module _ {w : ℕ} (place : FirstOfMagnitude values size w) where
       abbrev sign : ℕ
       sign = signBit (valueAt values w)
 
+      there : w < length values
+      there = place-inside place (top .place) (top .inside) (top .reached)
+
       inside : w < 2 ^ n
-      inside = omega (arith, values-length n rows c e, place .inside)
+      inside = omega (arith, values-length n rows c e, there)
 
       figure-is : 2 ^ n / 2 - size ≡ distance n (component rows c) w sign
-      figure-is = figure-at w inside (place .has)
+      figure-is = figure-at w inside (place .has there)
 
       earlier : (v b : ℕ) → v < 2 ^ n → b < 2 → v * 2 + b < w * 2 + sign → distance n (component rows c) w sign < distance n (component rows c) v b
       earlier v b hv hb l = pick (decLt v w)
@@ -130,7 +130,7 @@ module _ (n : ℕ) (rows : List ℕ) (c : ℕ) {values : List ℤ} (e : values �
           pick : Dec (v < w) → distance n (component rows c) w sign < distance n (component rows c) v b
           pick (yes k) =
               let other : ¬ (natAbs (valueAt values v) ≡ size) = place .first v k in
-              omega (arith, near v b hv hb, top .bounds v, place .has, signed w inside .1)
+              omega (arith, near v b hv hb, top .bounds v, place .has there, signed w inside .1)
           pick (no k) =
               let same : w ≡ v = omega (arith, signed w inside .0) in
               subst (λ (z : ℕ). distance n (component rows c) w sign < distance n (component rows c) z b) same (signed w inside .2 b (omega arith))
@@ -158,7 +158,7 @@ module _ (n : ℕ) (rows : List ℕ) (c : ℕ) {values : List ℤ} (e : values �
       test : preferred count (b .figure) c (at (b .witness) 0) ≡ ranked lower outputs (firstLeast (pairsOf n rows c)) b
       test = lower-test (firstLeast (pairsOf n rows c)) b (half ∙ sym least-figure) (sym (least-names (blocks n rows) c))
 
-      pub taken : preferred count (b .figure) c (at (b .witness) 0) ≡ true → {w bit : ℕ} → FirstPlace values size w → bit ≡ signBit (valueAt values w)
+      pub taken : preferred count (b .figure) c (at (b .witness) 0) ≡ true → {w bit : ℕ} → FirstOfMagnitude values size w → bit ≡ signBit (valueAt values w)
           → record { figure = count; witness = c ∷ w ∷ bit ∷ [] } ≡ best (ranked lower outputs) b (firstLeast (pairsOf n rows c) ∷ [])
       unfolding best
       taken h {w} place q =
@@ -176,40 +176,15 @@ distance-le n f w b = count-le (2 ^ n) _
 
 pub least-le : (n : ℕ) (rows : List ℕ) (c : ℕ) → firstLeast (pairsOf n rows c) .figure ≤ 2 ^ n
 least-le n rows c =
-    le-trans (firstLeast-le (pairsOf n rows c) (pair n rows c 0 0) (in-pairsOf n rows c 0 0 (pow-pos n) (zero-lt-suc 1))) (distance-le n (component rows c) 0 0)
+    le-trans (firstLeast-chooses .all (pairsOf n rows c) (pair n rows c 0 0) (in-pairsOf n rows c 0 0 (pow-pos n) (zero-lt-suc 1))) (distance-le n (component rows c) 0 0)
 
--- the loop's invariant: the best pair of the components before c, and the two arrays as long as before
-pub record Sweeping (n m : ℕ) (rows : List ℕ) (i : ℕ) (start found : Candidate) (table : List ℕ) (values : List ℤ) (last c : ℕ) : Type 0 where
-  pub arrays : Swept n m rows table values
-  pub stepwise : Stepwise m i rows last c table
-  pub so-far : found ≡ best (ranked lower outputs) start (each (masksBelow i c) (nearestOf n rows))
+module _ {n m : ℕ} {rows : List ℕ} {i : ℕ} {start found : Candidate} {table : List ℕ} {values : List ℤ} {last c : ℕ} where
+  -- the arrays of a sweep are as long as the box
+  pub arrays : {beats : Candidate → Candidate → Bool} {block : ℕ → List Candidate} → Sweeping beats block n m rows i start found table values last c → PairsSwept n m rows table values
+  arrays t = record { box = t .box; table-size = table-size t; out-size = t .values-size }
 
-module _ {n m : ℕ} {rows : List ℕ} {i : ℕ} {start : Candidate} where
-  pub sweep-starts : {table : List ℕ} {values : List ℤ} → Box n m rows → 1 ≤ i → length values ≡ 2 ^ n → table ≡ listBelow (length rows) (λ x. component rows 0 x)
-      → Sweeping n m rows i start start table values 0 1
-  sweep-starts b limit room h = record {
-    arrays = record { box = b; table-size = ap length h ∙ length-listBelow (length rows) (component rows 0) ∙ b .size; out-size = room };
-    stepwise = stepwise-starts limit h;
-    so-far = best-starts (ranked lower outputs) (nearestOf n rows) start i;
-  }
-
-  module _ {found : Candidate} {table : List ℕ} {values : List ℤ} {last c : ℕ} (t : Sweeping n m rows i start found table values last c) where
-    pub sweep-next : {new : Candidate} {table′ : List ℕ} {values′ : List ℤ} {next : ℕ}
-        → c < 2 ^ m → Next i c next → Raised c next → table′ ≡ listBelow (2 ^ n) (λ x. component rows c x) → values′ ≡ spectrum n (component rows c)
-        → new ≡ best (ranked lower outputs) found (nearestOf n rows c) → Sweeping n m rows i start new table′ values′ c next
-    sweep-next l after raised p q e = record {
-      arrays = record {
-        box = t .arrays .box;
-        table-size = ap length p ∙ length-listBelow (2 ^ n) (component rows c);
-        out-size = values-length n rows c q;
-      };
-      stepwise = stepwise-next (t .stepwise) l after raised (p ∙ ap (λ (k : ℕ). listBelow k (λ x. component rows c x)) (sym (t .arrays .box .size)));
-      so-far = best-next (t .stepwise .walk) (ranked lower outputs) (nearestOf n rows) start after (t .so-far) e;
-    }
-
-    -- from a count that no pair has, it ends with the first of the nearest pairs
-    pub sweep-ends : 2 ^ m ≤ c → 2 ^ n < start .figure → found ≡ nonlinearity n m rows i
-    unfolding nonlinearity pairs
-    sweep-ends h l =
-        best-ends (t .stepwise .walk) (ranked lower outputs) (nearestOf n rows) start h (t .so-far)
-        ∙ least-swept (blocks n rows) m i (t .arrays .box .m-low) (t .stepwise .walk .limit) start (omega (arith, least-le n rows 1))
+  -- from a count that no pair has, it ends with the first of the nearest pairs
+  pub nearest-swept : Sweeping (ranked lower outputs) (nearestOf n rows) n m rows i start found table values last c → 2 ^ m ≤ c → 2 ^ n < start .figure → found ≡ nonlinearity n m rows i
+  unfolding nonlinearity pairs
+  nearest-swept t h l =
+      choosing-ends (t .choosing) h ∙ least-swept (blocks n rows) m i (t .box .m-low) (t .choosing .walk .limit) start (omega (arith, least-le n rows 1))

@@ -14,14 +14,14 @@ use Rattle.boolean.proofs.Selection.{of-cons}
 use Rattle.boolean.proofs.Lists.{some-member, mem-listBelow, in-listBelow, mem-each, in-each, ascending-listBelow, ascending-blocks}
 use Rattle.boolean.proofs.Components.{in-components, mem-components, ascending-components, rank-of-before, first-mask}
 use Rattle.linear.specs.Nonlinearity.{pair, pairsOf, pairs}
-use Rattle.linear.specs.Statements.{IsPair, Before, pairRank}
+use Rattle.linear.specs.Statements.{IsPair, PairBefore, pairRank}
 
 -- a box with an output has a pair
 pub first-pair : (n m i : ℕ) → 1 ≤ m → 1 ≤ i → IsPair n m i 1 0 0
 first-pair n m i h l = record { mask = first-mask m i h l; w-high = pow-pos n; b-high = zero-lt-suc 1 }
 
 -- a pair before another has a lower number
-pub before-rank : (n m c′ w′ b′ c w b : ℕ) → c′ < 2 ^ m → w′ < 2 ^ n → b′ < 2 → Before c′ w′ b′ c w b
+pub before-rank : (n m c′ w′ b′ c w b : ℕ) → c′ < 2 ^ m → w′ < 2 ^ n → b′ < 2 → PairBefore c′ w′ b′ c w b
     → maskRank m c′ * (2 * 2 ^ n) + w′ * 2 + b′ < maskRank m c * (2 * 2 ^ n) + w * 2 + b
 before-rank n m c′ w′ b′ c w b hc hw hb (inl l) =
     omega (arith, suc-mul (maskRank m c′) (2 * 2 ^ n), mul-le-mul-right (2 * 2 ^ n) (rank-of-before m c′ c hc l))

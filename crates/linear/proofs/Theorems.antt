@@ -1,16 +1,16 @@
 -- A component's least count, beside the largest magnitude of its Walsh values. The nonlinearity d: the least distance, the first pair that has it, in
 -- whichever order the pairs are visited; the covering bound, and where that is met; and all of it of what the call reports
 -- (`nonlinearity-reported`).
-use mathlib.Core.Path.{_≡_, sym, ap, ap₂, _∙_, subst}
+use mathlib.Core.Path.{_≡_, sym, ap, ap₂, _∙_}
 use mathlib.Core.Logic.{_↔_}
-use mathlib.Core.List.{List, _∷_, List·Memᴰ}
+use mathlib.Core.List.{List, _∷_}
 use Prim.Native.Nat.{ℕ, _+_, _*_, _-_, _^_, _<_, _≤_}
 use native.Mathlib.Nat.{le-trans, le-of-eq, zero-lt-suc, le-refl, mul-le-mul}
 use native.Mathlib.Omega.{arith}
 use lib.IntN.{natAbs}
 use Rattle.boolean.specs.Sums.{each}
-use Rattle.boolean.specs.Functions.{Bent, Within, at, component, components, distance, walsh, square}
-use Rattle.boolean.specs.Selection.{Candidate, shown, lower, firstBest, firstLeast, SameMembers, ranked, First}
+use Rattle.boolean.specs.Functions.{Bent, MaskWithin, at, component, components, distance, walsh, square}
+use Rattle.boolean.specs.Selection.{Candidate, shown, lower, firstBest, firstLeast, SameMembers, ranked}
 use Rattle.boolean.proofs.Components.{within-more}
 use Rattle.boolean.proofs.Digits.{component-lt}
 use Rattle.boolean.proofs.Dots.{bit-cases}
@@ -18,12 +18,12 @@ use Rattle.boolean.proofs.Distances.{distance-walsh}
 use Rattle.boolean.proofs.Spectrum.{some-walsh-large}
 use Rattle.boolean.proofs.Bent.{bent-of-squares, bent-squares}
 use Rattle.boolean.proofs.Lists.{each-same}
-use Rattle.boolean.proofs.Selection.{firstLeast-le, firstLeast-mem, firstLeast-first, firstLeast-any-order, first-ranked}
+use Rattle.boolean.proofs.Selection.{firstLeast-chooses, first-ranked}
 use Rattle.refusals.specs.Table.{figures, limitChecks, first}
 use Rattle.refusals.specs.declared.Checked.the-variants.{Accepted}
 use Rattle.refusals.proofs.Checks.{limited, reply-accepted}
 use Rattle.linear.specs.Nonlinearity.{pair, pairsOf, pairs, nonlinearity, nonlinearityReply}
-use Rattle.linear.specs.Statements.{IsPair, Before, NonlinearityReported, pairRank}
+use Rattle.linear.specs.Statements.{IsPair, PairBefore, NonlinearityReported, pairRank}
 use Rattle.refusals.proofs.Replies.{figures-accepted, head-same}
 use Rattle.linear.proofs.Pairs.{before-rank, first-pair, in-pairsOf, mem-pairsOf, pairsOf-some, in-pairs, mem-pairs, ascending-pairs, pairs-nonempty}
 
@@ -32,14 +32,13 @@ module _ (n : ℕ) (rows : List ℕ) (c : ℕ) where
   -- its nearest pair is one of its pairs
   nearest-pair : (w b : ℕ) × (w < 2 ^ n) × (b < 2) × (firstLeast (pairsOf n rows c) ≡ pair n rows c w b)
   nearest-pair =
-      let t = pairsOf-some n rows c in
-      mem-pairsOf n rows c (firstLeast (pairsOf n rows c)) (subst (λ (l : List Candidate). List·Memᴰ (firstLeast l) l) (sym (t .2)) (firstLeast-mem (t .0) (t .1)))
+      mem-pairsOf n rows c (firstLeast (pairsOf n rows c)) (firstLeast-chooses .mem (pairsOf-some n rows c .2))
 
   -- Twice the least count and the largest magnitude of its Walsh values make 2^n: no value leaves less, and one leaves as much.
   pub component-within : (w : ℕ) → w < 2 ^ n → 2 * firstLeast (pairsOf n rows c) .figure + natAbs (walsh n (component rows c) w) ≤ 2 ^ n
   component-within w l =
-      let p = firstLeast-le (pairsOf n rows c) (pair n rows c w 0) (in-pairsOf n rows c w 0 l (zero-lt-suc 1)) in
-      let q = firstLeast-le (pairsOf n rows c) (pair n rows c w 1) (in-pairsOf n rows c w 1 l (le-refl 2)) in
+      let p = firstLeast-chooses .all (pairsOf n rows c) (pair n rows c w 0) (in-pairsOf n rows c w 0 l (zero-lt-suc 1)) in
+      let q = firstLeast-chooses .all (pairsOf n rows c) (pair n rows c w 1) (in-pairsOf n rows c w 1 l (le-refl 2)) in
       omega (arith, distance-walsh n (component rows c) w (λ x h. component-lt rows c x))
 
   pub component-met : (w : ℕ) × (w < 2 ^ n) × (2 * firstLeast (pairsOf n rows c) .figure + natAbs (walsh n (component rows c) w) ≡ 2 ^ n)
@@ -57,10 +56,10 @@ module _ (n m : ℕ) (rows : List ℕ) (i : ℕ) where
   -- every pair differs at d inputs or more
   pub nonlinearity-least : (c w b : ℕ) → IsPair n m i c w b → nonlinearity n m rows i .figure ≤ distance n (component rows c) w b
   unfolding nonlinearity
-  nonlinearity-least c w b h = firstLeast-le (pairs n m rows i) (pair n rows c w b) (in-pairs n m rows i c w b h)
+  nonlinearity-least c w b h = firstLeast-chooses .all (pairs n m rows i) (pair n rows c w b) (in-pairs n m rows i c w b h)
 
   -- so does the nearest pair of each component
-  pub component-least : (c : ℕ) → Within i (2 ^ m) c → nonlinearity n m rows i .figure ≤ firstLeast (pairsOf n rows c) .figure
+  pub component-least : (c : ℕ) → MaskWithin i (2 ^ m) c → nonlinearity n m rows i .figure ≤ firstLeast (pairsOf n rows c) .figure
   component-least c mask =
       let k = nearest-pair n rows c in
       omega (arith, nonlinearity-least c (k .0) (k .1) (record { mask = mask; w-high = k .2; b-high = k .3 }), ap (λ (p : Candidate). p .figure) (k .4))
@@ -70,7 +69,7 @@ module _ (n m : ℕ) (rows : List ℕ) (i : ℕ) where
   pub nonlinearity-any-order : (visited : List Candidate) → SameMembers visited (pairs n m rows i)
       → firstBest (ranked lower (pairRank n m)) visited ≡ nonlinearity n m rows i
   unfolding nonlinearity
-  nonlinearity-any-order visited = firstLeast-any-order (pairRank n m) (pairs n m rows i) visited (ascending-pairs n m rows i)
+  nonlinearity-any-order visited = firstLeast-chooses .visited (pairRank n m) (pairs n m rows i) visited (ascending-pairs n m rows i)
 
   -- so where the components are visited in any order, each with its pairs
   pub nonlinearity-any-component-order : (order : List ℕ) → SameMembers order (components m i)
@@ -84,24 +83,22 @@ module _ (n m : ℕ) (rows : List ℕ) (i : ℕ) where
     pub nonlinearity-reached : (c w b : ℕ) × IsPair n m i c w b × (nonlinearity n m rows i ≡ pair n rows c w b)
     unfolding nonlinearity
     nonlinearity-reached =
-        let t = pairs-nonempty n m rows i m-low i-low in
-        mem-pairs n m rows i (nonlinearity n m rows i) (subst (λ (l : List Candidate). List·Memᴰ (firstLeast l) l) (sym (t .2)) (firstLeast-mem (t .0) (t .1)))
+        mem-pairs n m rows i (nonlinearity n m rows i) (firstLeast-chooses .mem (pairs-nonempty n m rows i m-low i-low .2))
 
     -- so does the nearest pair of one component
-    pub component-reached : (c : ℕ) × Within i (2 ^ m) c × (firstLeast (pairsOf n rows c) .figure ≡ nonlinearity n m rows i .figure)
+    pub component-reached : (c : ℕ) × MaskWithin i (2 ^ m) c × (firstLeast (pairsOf n rows c) .figure ≡ nonlinearity n m rows i .figure)
     component-reached =
         let t = nonlinearity-reached in
-        let near = firstLeast-le (pairsOf n rows (t .0)) (pair n rows (t .0) (t .1) (t .2)) (in-pairsOf n rows (t .0) (t .1) (t .2) (t .3 .w-high) (t .3 .b-high)) in
+        let near = firstLeast-chooses .all (pairsOf n rows (t .0)) (pair n rows (t .0) (t .1) (t .2)) (in-pairsOf n rows (t .0) (t .1) (t .2) (t .3 .w-high) (t .3 .b-high)) in
         (t .0, t .3 .mask, omega (arith, near, ap (λ (p : Candidate). p .figure) (t .4), component-least (t .0) (t .3 .mask)))
 
     -- and each pair before it at more
     pub nonlinearity-first : (c w b : ℕ) → nonlinearity n m rows i ≡ pair n rows c w b
-        → (c′ w′ b′ : ℕ) → IsPair n m i c′ w′ b′ → Before c′ w′ b′ c w b → nonlinearity n m rows i .figure < distance n (component rows c′) w′ b′
+        → (c′ w′ b′ : ℕ) → IsPair n m i c′ w′ b′ → PairBefore c′ w′ b′ c w b → nonlinearity n m rows i .figure < distance n (component rows c′) w′ b′
     unfolding nonlinearity
     nonlinearity-first c w b e c′ w′ b′ h l =
-        let t = pairs-nonempty n m rows i m-low i-low in
         first-ranked (pairRank n m) (λ r p. r .figure < p .figure) (ascending-pairs n m rows i)
-        (subst (λ (l : List Candidate). First (λ r p. r .figure < p .figure) (firstLeast l) l) (sym (t .2)) (firstLeast-first (t .0) (t .1)))
+        (firstLeast-chooses .early (pairs-nonempty n m rows i m-low i-low .2))
         (pair n rows c′ w′ b′) (in-pairs n m rows i c′ w′ b′ h)
         (omega (arith, ap (pairRank n m) e, before-rank n m c′ w′ b′ c w b (h .mask .high) (h .w-high) (h .b-high) l))
 
@@ -110,7 +107,7 @@ module _ (n m : ℕ) (rows : List ℕ) (i : ℕ) where
     boolean c x l = component-lt rows c x
 
     -- what 2d leaves of 2^n is at least each Walsh value in size
-    spectrum-within : (c w : ℕ) → Within i (2 ^ m) c → w < 2 ^ n → 2 * nonlinearity n m rows i .figure + natAbs (walsh n (component rows c) w) ≤ 2 ^ n
+    spectrum-within : (c w : ℕ) → MaskWithin i (2 ^ m) c → w < 2 ^ n → 2 * nonlinearity n m rows i .figure + natAbs (walsh n (component rows c) w) ≤ 2 ^ n
     spectrum-within c w mask l = omega (arith, component-least c mask, component-within n rows c w l)
 
     -- and the value at the witness
@@ -122,7 +119,7 @@ module _ (n m : ℕ) (rows : List ℕ) (i : ℕ) where
         bit-cases (λ b. nonlinearity n m rows i .figure ≡ distance n (component rows c) w b → natAbs (walsh n (component rows c) w) ≡ 2 ^ n - 2 * nonlinearity n m rows i .figure)
         (λ q. omega arith) (λ q. omega arith) b (h .b-high) (ap (λ (p : Candidate). p .figure) e)
 
-    squares-within : (c w : ℕ) → Within i (2 ^ m) c → w < 2 ^ n
+    squares-within : (c w : ℕ) → MaskWithin i (2 ^ m) c → w < 2 ^ n
         → square (walsh n (component rows c) w) ≤ (2 ^ n - 2 * nonlinearity n m rows i .figure) * (2 ^ n - 2 * nonlinearity n m rows i .figure)
     unfolding square
     squares-within c w mask l =
@@ -137,7 +134,7 @@ module _ (n m : ℕ) (rows : List ℕ) (i : ℕ) where
 
     -- it is met exactly where every component is bent
     pub covering-equality : 1 ≤ n → (2 ^ n - 2 * nonlinearity n m rows i .figure) * (2 ^ n - 2 * nonlinearity n m rows i .figure) ≡ 2 ^ n
-        ↔ ((c : ℕ) → Within i (2 ^ m) c → Bent n (component rows c))
+        ↔ ((c : ℕ) → MaskWithin i (2 ^ m) c → Bent n (component rows c))
     unfolding square
     covering-equality low = (
       λ e c mask. bent-of-squares n (component rows c) low (boolean c) (λ w l. le-trans (squares-within c w mask l) (le-of-eq e)),

@@ -5,7 +5,7 @@ use lib.Dec.{eqb}
 use lib.IntN.{ℤ}
 use lib.ListN.{length}
 use Rattle.boolean.specs.Functions.{component, spectrum}
-use Rattle.refusals.specs.Table.{Check, _unless_, inRange, boxChecks, Reply, figures, refusal, number, Wrote, written}
+use Rattle.refusals.specs.Table.{Check, _unless_, inRange, boxChecks, Reply, figures, refusal, number, Wrote, saidWritten}
 use Rattle.refusals.specs.declared.Refusal.the-variants.{Parameter, WrittenLength}
 use Rattle.refusals.specs.declared.Written.{Written}
 use Rattle.linear.specs.declared.LeastPair.{LeastPair}
@@ -24,13 +24,13 @@ componentChecks n m rows c room =
 -- the outcome of a call of `linear::spectrum_of_component`
 abbrev pub ComponentCalled : (n m : ℕ) (rows : List ℕ) (c : ℕ) (lent : List ℤ) (answer : Written) (left : List ℤ) → Type 0
 ComponentCalled n m rows c lent answer left =
-    Wrote (componentChecks n m rows c (length lent)) [] (spectrum n (component rows c)) lent (written answer) left
+    Wrote (componentChecks n m rows c (length lent)) [] (spectrum n (component rows c)) lent (saidWritten answer) left
 
 -- what the nonlinearity's answer says: the figure, c, w and b, or the number of the refusal
-abbrev pub leastPair : LeastPair → Reply
-leastPair (Reached count c w b) = figures (count ∷ c ∷ w ∷ b ∷ [])
-leastPair (Declined e) = refusal (number e)
+abbrev pub saidLeastPair : LeastPair → Reply
+saidLeastPair (Reached count c w b) = figures (count ∷ c ∷ w ∷ b ∷ [])
+saidLeastPair (Declined e) = refusal (number e)
 
 -- the best pair so far, as a candidate
-abbrev pub candidate : Found → Candidate
-candidate f = record { figure = f .count; witness = f .c ∷ f .w ∷ f .b ∷ [] }
+abbrev pub pairCandidate : Found → Candidate
+pairCandidate f = record { figure = f .count; witness = f .c ∷ f .w ∷ f .b ∷ [] }

@@ -3,20 +3,20 @@ use Prim.Native.Nat.{ℕ, _+_, _*_, _^_, _≤_, _<_}
 use mathlib.Core.Path.{_≡_}
 use mathlib.Core.Logic.{_⊎_}
 use mathlib.Core.List.{List, [], _∷_}
-use Rattle.boolean.specs.Functions.{at, component, distance, Within, MaskBefore, maskRank}
+use Rattle.boolean.specs.Functions.{at, component, distance, MaskWithin, MaskBefore, maskRank}
 use Rattle.boolean.specs.Selection.{Candidate}
 use Rattle.refusals.specs.Table.{figures}
 use Rattle.linear.specs.Nonlinearity.{nonlinearityReply}
 
 -- component c and the affine function (w, b) are a pair of a box of n inputs and m outputs, within the limit i
 pub record IsPair (n m i c w b : ℕ) : Type 0 where
-  pub mask : Within i (2 ^ m) c
+  pub mask : MaskWithin i (2 ^ m) c
   pub w-high : w < 2 ^ n
   pub b-high : b < 2
 
 -- (c′, w′, b′) comes before (c, w, b): by c in the components' order, then w, then b
-abbrev pub Before : (c′ w′ b′ c w b : ℕ) → Type 0
-Before c′ w′ b′ c w b = MaskBefore c′ c ⊎ (((c′ ≡ c) × (w′ < w)) ⊎ ((c′ ≡ c) × (w′ ≡ w) × (b′ < b)))
+abbrev pub PairBefore : (c′ w′ b′ c w b : ℕ) → Type 0
+PairBefore c′ w′ b′ c w b = MaskBefore c′ c ⊎ (((c′ ≡ c) × (w′ < w)) ⊎ ((c′ ≡ c) × (w′ ≡ w) × (b′ < b)))
 
 -- What is reported of an accepted box within the limit i: d and the witness (c, w, b), as the call replies them. No pair differs at fewer
 -- inputs than d, the witness is a pair that differs at exactly d, and each pair before it differs at more.
@@ -29,7 +29,7 @@ pub record NonlinearityReported (n m : ℕ) (rows : List ℕ) (i : ℕ) : Type 0
   pub least : (c′ w′ b′ : ℕ) → IsPair n m i c′ w′ b′ → d ≤ distance n (component rows c′) w′ b′
   pub member : IsPair n m i c w b
   pub reached : distance n (component rows c) w b ≡ d
-  pub before : (c′ w′ b′ : ℕ) → IsPair n m i c′ w′ b′ → Before c′ w′ b′ c w b → d < distance n (component rows c′) w′ b′
+  pub before : (c′ w′ b′ : ℕ) → IsPair n m i c′ w′ b′ → PairBefore c′ w′ b′ c w b → d < distance n (component rows c′) w′ b′
 
 -- a pair's number in that order
 abbrev pub pairRank : (n m : ℕ) (p : Candidate) → ℕ

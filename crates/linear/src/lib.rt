@@ -15,8 +15,8 @@ ghost use Rattle.masks.specs.Masks.{outputs};
 ghost use Rattle.masks.specs.Work.{stepTables, Stepping};
 ghost use Rattle.linear.specs.Nonlinearity.{pairsOf, nonlinearityReply};
 ghost use Rattle.linear.specs.Nonlinearity as spec;
-ghost use Rattle.linear.specs.Calls.{componentChecks, ComponentCalled, leastPair, candidate};
-ghost use Rattle.linear.specs.Work.{Swept, Largest, FirstPlace};
+ghost use Rattle.linear.specs.Calls.{componentChecks, ComponentCalled, saidLeastPair, pairCandidate};
+ghost use Rattle.linear.specs.Work.{PairsSwept};
 
 // The best pair so far. It stands in a server, which crosses to C by value: so its fields lie as C lays them.
 #[repr(C)]
@@ -43,7 +43,7 @@ pub fn component_spectrum(
     table: &mut [u8],
     out: &mut [i32],
 )
-    requires { ⌜ Swept n m (now rows) (now table) (now out) × Spectra (now fixed) ⌝ }
+    requires { ⌜ PairsSwept n m (now rows) (now table) (now out) × Spectra (now fixed) ⌝ }
     ensures { λ _. ⌜ (now (out .exit) ≡ spectrum n (component (now (rows .entry)) c))
         × (now (table .exit) ≡ listBelow (2 ^ n) (λ x. component (now (rows .entry)) c x)) ⌝ }
 {
@@ -63,7 +63,7 @@ fn next_spectrum(
     table: &mut [u8],
     out: &mut [i32],
 )
-    requires { ⌜ Swept n m (now rows) (now table) (now out) × Spectra (now fixed)
+    requires { ⌜ PairsSwept n m (now rows) (now table) (now out) × Spectra (now fixed)
         × Stepping m (now rows) (now steps) last c (now table) ⌝ }
     ensures { λ _. ⌜ (now (out .exit) ≡ spectrum n (component (now (rows .entry)) c))
         × (now (table .exit) ≡ listBelow (2 ^ n) (λ x. component (now (rows .entry)) c x)) ⌝ }
@@ -103,23 +103,6 @@ pub fn spectrum_of_component(n: u32, m: u32, rows: &[u32], c: u32, out: &mut [i3
     Written::Done
 }
 
-// The largest magnitude of a spectrum, by negation.
-fn largest_magnitude(values: &[i32]) -> u32
-    requires { ⌜ 0 < length (now values) ⌝ }
-    ensures { λ r. ⌜ Largest (now (values .entry)) r ⌝ }
-{
-    let mut largest = boolean::magnitude(values[0]);
-    let mut w = 1;
-    while w < values.len() {
-        let size = boolean::magnitude(values[w]);
-        if largest < size {
-            largest = size;
-        }
-        w += 1;
-    }
-    largest
-}
-
 // The fewest inputs at which component c differs from an affine function, with the fixed table and two arrays to work in lent: they are
 // left with the component's truth table and spectrum.
 pub fn component_count(
@@ -131,26 +114,14 @@ pub fn component_count(
     table: &mut [u8],
     values: &mut [i32],
 ) -> u32
-    requires { ⌜ Swept n m (now rows) (now table) (now values) × Spectra (now fixed) ⌝ }
+    requires { ⌜ PairsSwept n m (now rows) (now table) (now values) × Spectra (now fixed) ⌝ }
     ensures { λ r. ⌜ (r ≡ firstLeast (pairsOf n (now (rows .entry)) c) .figure)
         × (now (values .exit) ≡ spectrum n (component (now (rows .entry)) c))
         × (now (table .exit) ≡ listBelow (2 ^ n) (λ x. component (now (rows .entry)) c x)) ⌝ }
 {
     component_spectrum(fixed, n, m, rows, c, table, values);
-    let largest = largest_magnitude(values);
+    let largest = walsh::largest_magnitude(values);
     rows.len() as u32 / 2 - largest
-}
-
-// The first place of a magnitude that some value has.
-fn first_place(values: &[i32], size: u32) -> usize
-    requires { ⌜ Largest (now values) size ⌝ }
-    ensures { λ r. ⌜ FirstPlace (now (values .entry)) size r ⌝ }
-{
-    let mut w = 0;
-    while boolean::magnitude(values[w]) != size {
-        w += 1;
-    }
-    w
 }
 
 // The best pair so far, or the first nearest pair of component c, whose spectrum is given: by the count, and among equal counts by fewer
@@ -158,13 +129,13 @@ fn first_place(values: &[i32], size: u32) -> usize
 // taken.
 pub fn with_spectrum(found: Found, n: u32, m: u32, rows: &[u32], c: u32, values: &[i32]) -> Found
     requires { ⌜ Box n m (now rows) × (now values ≡ spectrum n (component (now rows) c)) ⌝ }
-    ensures { λ r. ⌜ candidate r
-        ≡ best (ranked lower outputs) (candidate found) (firstLeast (pairsOf n (now (rows .entry)) c) ∷ []) ⌝ }
+    ensures { λ r. ⌜ pairCandidate r
+        ≡ best (ranked lower outputs) (pairCandidate found) (firstLeast (pairsOf n (now (rows .entry)) c) ∷ []) ⌝ }
 {
-    let largest = largest_magnitude(values);
+    let largest = walsh::largest_magnitude(values);
     let count = rows.len() as u32 / 2 - largest;
     if masks::is_preferred(count, found.count, c, found.c) {
-        let w = first_place(values, largest);
+        let w = walsh::first_place(values, largest);
         let b = boolean::sign_bit(values[w]);
         Found {
             count,
@@ -188,9 +159,9 @@ fn sweep(
     table: &mut [u8],
     values: &mut [i32],
 ) -> Found
-    requires { ⌜ Swept n m (now rows) (now table) (now values) × Spectra (now fixed)
+    requires { ⌜ PairsSwept n m (now rows) (now table) (now values) × Spectra (now fixed)
         × (length (now steps) ≡ m * length (now rows)) × (1 ≤ i) ⌝ }
-    ensures { λ r. ⌜ (candidate r ≡ spec.nonlinearity n m (now (rows .entry)) i)
+    ensures { λ r. ⌜ (pairCandidate r ≡ spec.nonlinearity n m (now (rows .entry)) i)
         × (now (steps .exit) ≡ stepTables m (now (rows .entry)))
         × AnyContent (now (table .entry)) (now (table .exit)) × AnyContent (now (values .entry)) (now (values .exit)) ⌝ }
 {
@@ -216,7 +187,7 @@ fn sweep(
 
 // The nonlinearity of a box over its combinations of at most i outputs, with the first pair that reaches it.
 pub fn nonlinearity(n: u32, m: u32, rows: &[u32], i: u32) -> LeastPair
-    ensures { λ r. ⌜ leastPair r ≡ nonlinearityReply n m (now (rows .entry)) i ⌝ }
+    ensures { λ r. ⌜ saidLeastPair r ≡ nonlinearityReply n m (now (rows .entry)) i ⌝ }
 {
     if let Checked::Refused(e) = refusals::check_limited(n, m, rows, i) {
         return LeastPair::Declined(e);

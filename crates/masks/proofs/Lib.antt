@@ -6,3 +6,4 @@ pub mod Stepped
 pub mod Walk
 pub mod Fewest
 pub mod Boxes
+pub mod Sweeps

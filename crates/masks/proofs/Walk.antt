@@ -16,7 +16,7 @@ use Rattle.boolean.proofs.Kept.{keep-append, keep-takes, mem-keep}
 use Rattle.boolean.proofs.Lists.{each-append, mem-each, mem-listFrom}
 use Rattle.boolean.proofs.OneBit.{ones-one, ones-power}
 use Rattle.boolean.proofs.Selection.{best-append, best-stays}
-use Rattle.masks.specs.Work.{Next, Raised}
+use Rattle.masks.specs.Work.{Next, PowerAdded}
 
 -- ---- the masks within the limit that are below c, in ascending order
 pub masks-none : (i : ℕ) → masksBelow i 1 ≡ []
@@ -81,7 +81,7 @@ pub walk-starts : (m i : ℕ) → 1 ≤ i → Walk m i 1
 walk-starts m i h = record { limit = h; c-low = le-refl 1; c-high = pow-pos m; few = omega (arith, ones-one) }
 
 -- the first mask comes after the mask 0
-pub raised-first : Raised 0 1
+pub raised-first : PowerAdded 0 1
 raised-first = record { place = 0; times = 0; from = refl; to = refl }
 
 module _ {m i c : ℕ} (w : Walk m i c) where

@@ -7,12 +7,12 @@ ghost use lib.ListN.{length};
 ghost use Rattle.boolean.specs.Bits.{dot};
 ghost use Rattle.boolean.specs.Sums.{listBelow};
 ghost use Rattle.boolean.specs.Functions.{at, component};
-ghost use Rattle.masks.specs.Work.{Next, Raised, preferred, run, Steps, Stepping};
+ghost use Rattle.masks.specs.Work.{Next, PowerAdded, preferred, maskOfOnes, Steps, Stepping};
 
 // The next mask with at most `limit` ones: c + 1 where c has fewer, and else c with its lowest one added.
 pub fn next_mask(limit: u32, c: u64) -> u64
     requires { ⌜ (1 ≤ limit) × (c < 4294967296) × (ones c ≤ limit) ⌝ }
-    ensures { λ r. ⌜ Next limit c r × Raised c r ⌝ }
+    ensures { λ r. ⌜ Next limit c r × PowerAdded c r ⌝ }
 {
     if u64::count_ones(c) < limit {
         c + 1
@@ -86,7 +86,8 @@ fn add_table(other: &[u8], table: &mut [u8])
 fn add_step(m: u32, rows: &[u32], steps: &[u8], k: u32, table: &mut [u8])
     requires { ⌜ Steps m (now rows) (now steps) × (k < m) × (length (now table) ≡ length (now rows)) ⌝ }
     ensures { λ _. ⌜ now (table .exit)
-        ≡ listBelow (length (now (rows .entry))) (λ x. bitXor (at (now (table .entry)) x) (component (now (rows .entry)) (run k) x)) ⌝ }
+        ≡ listBelow (length (now (rows .entry))) (λ x. bitXor (at (now (table .entry)) x) (component (now (rows .entry)) (maskOfOnes k) x))
+        ⌝ }
 {
     let size = rows.len();
     let start = k as usize * size;

@@ -9,7 +9,7 @@ use lib.Bits.{bitAnd, and-mask, and-block, and-zero-r}
 use Rattle.boolean.specs.Bits.{bit}
 use Rattle.boolean.specs.Sums.{totalBelow}
 use Rattle.boolean.proofs.Digits.{bit-lt}
-use Rattle.packing.specs.Work.{wordOf, byteOf, gathered, eight}
+use Rattle.packing.specs.Work.{wordOf, byteOf, bitsGathered, eight}
 
 -- the lowest bit of each byte of a word
 step : (x c : ℕ) → bitAnd x (c * 2 ^ 8 + 1) ≡ bitAnd (x / 2 ^ 8) c * 2 ^ 8 + x % 2
@@ -120,6 +120,6 @@ module _ (values : List ℕ) (start gap i : ℕ) {word : ℕ} (e : word ≡ 2 ^ 
   pub gathered-lt : word / 2 ^ i < 2 ^ 32
   gathered-lt = omega (arith, placed, word-lt (eight values start gap) i 8 (omega arith))
 
-  pub gathered-all : word / 2 ^ i ≡ gathered values start gap i
-  unfolding gathered
+  pub gathered-all : word / 2 ^ i ≡ bitsGathered values start gap i
+  unfolding bitsGathered
   gathered-all = placed ∙ word-cong _ _ i (upper-all (eight values start gap))

@@ -14,7 +14,7 @@ use Rattle.boolean.specs.Functions.{at, column}
 use Rattle.boolean.proofs.Counts.{total-cong}
 use Rattle.boolean.proofs.Lists.{listBelow-cong}
 use Rattle.packing.specs.Packing.{columnBytes, packedByte, packed, packedValue, unpackedRow, unpacked, usedBits}
-use Rattle.packing.specs.Work.{wordOf, byteOf, eight, gathered, Columns, Padded, GatheredWords, wordByte, fourBytes, BytesWords}
+use Rattle.packing.specs.Work.{wordOf, byteOf, eight, bitsGathered, Columns, Padded, GatheredWords, wordByte, fourBytes, BytesWords}
 use Rattle.packing.proofs.Binary.{bit-of-byte, bit-past, number-ends, four-bytes-of-bits}
 use Rattle.packing.proofs.Widths.{bytes-low, bytes-high, bytes-hold, used-most}
 use Rattle.packing.proofs.Gathering.{byte-lt, word-is}
@@ -46,7 +46,7 @@ gathered-byte rows padded same y j =
 module _ (rows padded words : List ℕ) (size : ℕ) (same : Padded rows padded) (held : GatheredWords padded size words) where
   -- byte p of the packed form, from the words
   pub byte-from-words : (p : ℕ) → 1 ≤ size → p / size < 32 → wordByte words size p ≡ packedByte rows (p / size + 1) (p % size)
-  unfolding wordByte gathered
+  unfolding wordByte bitsGathered
   byte-from-words p some few =
       let j : ℕ = p / size in
       let y : ℕ = p % size in
@@ -111,8 +111,8 @@ module _ (bytes words : List ℕ) (small : (p : ℕ) → at bytes p < 256) (size
   unfolding byteOf
   byte-held j a is = total-cong 8 _ _ (λ t l. ap (λ (v : ℕ). v * 2 ^ t) (ap (bit j) (word-held t l) ∙ is t))
 
-  row-held : gathered words y size k ≡ totalBelow 32 (λ j. valueAt bytes size k y j * 2 ^ j)
-  unfolding gathered
+  row-held : bitsGathered words y size k ≡ totalBelow 32 (λ j. valueAt bytes size k y j * 2 ^ j)
+  unfolding bitsGathered
   row-held =
       let first : byteOf (eight words y size) (k + 1) ≡ totalBelow 8 (λ t. valueAt bytes size k y t * 2 ^ t) =
       byte-held (k + 1) 0 (λ t. bits-of-word bytes small size y t k low .0)
@@ -135,7 +135,7 @@ module _ (n m : ℕ) (bytes padded words : List ℕ) (sound : Columns n m bytes)
   pub small-padded : (p : ℕ) → at padded p < 256
   small-padded p = omega (arith, same p, lt-of-lt-of-le (sound .used p) (pow-mono (used-most n)))
 
-  row-from-words : (x : ℕ) → x < 2 ^ n → gathered words (x / 8) (columnBytes n) (x % 8) ≡ unpackedRow n m bytes x
+  row-from-words : (x : ℕ) → x < 2 ^ n → bitsGathered words (x / 8) (columnBytes n) (x % 8) ≡ unpackedRow n m bytes x
   unfolding unpackedRow
   row-from-words x l =
       let inside : x / 8 < columnBytes n = omega (arith, bytes-hold n (sound .n-high)) in
@@ -145,6 +145,6 @@ module _ (n m : ℕ) (bytes padded words : List ℕ) (sound : Columns n m bytes)
       (λ j i h. none-past bytes m (columnBytes n) (x % 8) (x / 8) j (sound .size) i)
       ∙ total-cong m _ _ (λ j i. ap (λ (v : ℕ). v * 2 ^ j) (value-here n bytes x j))
 
-  pub unpacked-from-words : listBelow (2 ^ n) (λ x. gathered words (x / 8) (columnBytes n) (x % 8)) ≡ unpacked n m bytes
+  pub unpacked-from-words : listBelow (2 ^ n) (λ x. bitsGathered words (x / 8) (columnBytes n) (x % 8)) ≡ unpacked n m bytes
   unfolding unpacked
   unpacked-from-words = listBelow-cong (2 ^ n) _ _ row-from-words

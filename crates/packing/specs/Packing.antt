@@ -6,7 +6,7 @@ use lib.ListN.{length}
 use Rattle.boolean.specs.Bits.{bit}
 use Rattle.boolean.specs.Sums.{totalBelow, listBelow}
 use Rattle.boolean.specs.Functions.{at, column}
-use Rattle.refusals.specs.Table.{Check, _unless_, inRange, allBelow, boxChecks, Wrote, written}
+use Rattle.refusals.specs.Table.{Check, _unless_, inRange, allBelow, boxChecks, Wrote, saidWritten}
 use Rattle.refusals.specs.declared.Refusal.the-variants.{InputWidth, OutputWidth, ReadLength, UnusedBit, WrittenLength}
 use Rattle.refusals.specs.declared.Written.{Written}
 
@@ -61,8 +61,9 @@ unpackChecks n m bytes room =
 
 -- the outcome of a call of `packing::pack`
 abbrev pub PackCalled : (n m : ℕ) (rows lent : List ℕ) (answer : Written) (left : List ℕ) → Type 0
-PackCalled n m rows lent answer left = Wrote (packChecks n m rows (length lent)) [] (packed n m rows) lent (written answer) left
+PackCalled n m rows lent answer left = Wrote (packChecks n m rows (length lent)) [] (packed n m rows) lent (saidWritten answer) left
 
 -- the outcome of a call of `packing::unpack`
 abbrev pub UnpackCalled : (n m : ℕ) (bytes lent : List ℕ) (answer : Written) (left : List ℕ) → Type 0
-UnpackCalled n m bytes lent answer left = Wrote (unpackChecks n m bytes (length lent)) [] (unpacked n m bytes) lent (written answer) left
+UnpackCalled n m bytes lent answer left = Wrote (unpackChecks n m bytes (length lent)) [] (unpacked n m bytes) lent (saidWritten answer)
+    left

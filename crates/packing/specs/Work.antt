@@ -17,14 +17,14 @@ unfoldable pub byteOf : (f : ℕ → ℕ) (j : ℕ) → ℕ
 unfolding totalBelow bit
 byteOf f j = totalBelow 8 (λ t. bit j (f t) * 2 ^ t)
 
--- eight entries from a start on, each so many places after the one before
+-- eight entries from a start on, each `step` places after the one before
 abbrev pub eight : (values : List ℕ) (start step t : ℕ) → ℕ
 eight values start step t = at values (start + t * step)
 
 -- their bits i + 1, i + 9, i + 17 and i + 25, a byte of each
-unfoldable pub gathered : (values : List ℕ) (start step i : ℕ) → ℕ
+unfoldable pub bitsGathered : (values : List ℕ) (start step i : ℕ) → ℕ
 unfolding wordOf byteOf
-gathered values start step i = wordOf (byteOf (eight values start step)) i
+bitsGathered values start step i = wordOf (byteOf (eight values start step)) i
 
 -- accepted packed columns
 pub record Columns (n m : ℕ) (bytes : List ℕ) : Type 0 where
@@ -35,7 +35,7 @@ pub record Columns (n m : ℕ) (bytes : List ℕ) : Type 0 where
   pub size : length bytes ≡ m * columnBytes n
   pub used : (p : ℕ) → at bytes p < 2 ^ usedBits n
 
--- so many entries, all 0
+-- a list of this length, all 0
 pub record Cleared (room : ℕ) (list : List ℕ) : Type 0 where
   pub long : length list ≡ room
   pub none : (x : ℕ) → at list x ≡ 0
@@ -46,7 +46,7 @@ Padded values padded = (x : ℕ) → at padded x ≡ at values x
 
 -- the words of packed columns: word i × size + y has byte y of the columns i + 1, i + 9, i + 17 and i + 25
 abbrev pub GatheredWords : (rows : List ℕ) (size : ℕ) (words : List ℕ) → Type 0
-GatheredWords rows size words = (q : ℕ) → q < 8 * size → at words q ≡ gathered rows (8 * (q % size)) 1 (q / size)
+GatheredWords rows size words = (q : ℕ) → q < 8 * size → at words q ≡ bitsGathered rows (8 * (q % size)) 1 (q / size)
 
 -- byte p of packed columns, from their words: it is byte p % size of the column after p / size others
 unfoldable pub wordByte : (words : List ℕ) (size p : ℕ) → ℕ

@@ -10,14 +10,7 @@ ghost use Rattle.boolean.specs.Sums.{listBelow};
 ghost use Rattle.boolean.specs.Functions.{at};
 ghost use Rattle.refusals.specs.Table.{first, Box};
 ghost use Rattle.packing.specs.Packing.{columnBytes, packed, unpacked, usedBits, packChecks, unpackChecks, PackCalled, UnpackCalled};
-ghost use Rattle.packing.specs.Work.{wordOf, gathered, Cleared, Columns, Padded, GatheredWords, wordByte, fourBytes, BytesWords};
-
-// A byte as a number.
-fn wide(x: u8) -> u32
-    ensures { λ r. ⌜ (r ≡ x) × (r < 256) ⌝ }
-{
-    x as u32
-}
+ghost use Rattle.packing.specs.Work.{wordOf, bitsGathered, Cleared, Columns, Padded, GatheredWords, wordByte, fourBytes, BytesWords};
 
 // How many times the bytes of a column are doubled from one.
 fn doublings(n: u32) -> u32
@@ -47,7 +40,7 @@ fn kept(v: u32, i: u32) -> u64
 // what was gathered moves up by one bit for each that follows; one shift at the end brings the bytes to their places.
 fn gather(values: &[u32], start: usize, step: usize, i: u32) -> u32
     requires { ⌜ (i < 8) × (start + 7 * step < length (now values)) ⌝ }
-    ensures { λ r. ⌜ r ≡ gathered (now (values .entry)) start step i ⌝ }
+    ensures { λ r. ⌜ r ≡ bitsGathered (now (values .entry)) start step i ⌝ }
 {
     let mut word: u64 = 0;
     let mut k = 0;
@@ -73,9 +66,9 @@ fn pad_rows(rows: &[u32], padded: &mut [u32])
 // The words of the columns i + 1, i + 9, i + 17 and i + 25.
 fn gather_group(rows: &[u32], i: u32, size: usize, words: &mut [u32])
     requires { ⌜ (i < 8) × (1 ≤ size) × (size ≤ 32) × (length (now rows) ≡ 256) × (length (now words) ≡ 256)
-        × ((q : ℕ) → q < i * size → at (now words) q ≡ gathered (now rows) (8 * (q % size)) 1 (q / size)) ⌝ }
+        × ((q : ℕ) → q < i * size → at (now words) q ≡ bitsGathered (now rows) (8 * (q % size)) 1 (q / size)) ⌝ }
     ensures { λ _. ⌜ ((q : ℕ) → q < i * size + size
-        → at (now (words .exit)) q ≡ gathered (now (rows .entry)) (8 * (q % size)) 1 (q / size)) ⌝ }
+        → at (now (words .exit)) q ≡ bitsGathered (now (rows .entry)) (8 * (q % size)) 1 (q / size)) ⌝ }
 {
     let start = i as usize * size;
     let mut y = 0;
@@ -187,8 +180,8 @@ fn four_bytes(bytes: &[u8], size: usize, q: usize) -> u32
     requires { ⌜ (size ≤ 32) × (length (now bytes) ≡ 1024) × (q < 8 * size) ⌝ }
     ensures { λ r. ⌜ r ≡ fourBytes (now (bytes .entry)) size q ⌝ }
 {
-    let low = wide(bytes[q]) + 256 * wide(bytes[q + 8 * size]);
-    let high = wide(bytes[q + 16 * size]) + 256 * wide(bytes[q + 24 * size]);
+    let low = boolean::wide(bytes[q]) + 256 * boolean::wide(bytes[q + 8 * size]);
+    let high = boolean::wide(bytes[q + 16 * size]) + 256 * boolean::wide(bytes[q + 24 * size]);
     low + 65536 * high
 }
 
@@ -207,7 +200,8 @@ fn join_words(bytes: &[u8], size: usize, words: &mut [u32])
 // The rows of the words.
 fn write_rows(words: &[u32], size: usize, out: &mut [u32])
     requires { ⌜ (size ≤ 32) × (length (now words) ≡ 256) × (length (now out) ≤ 8 * size) ⌝ }
-    ensures { λ _. ⌜ now (out .exit) ≡ listBelow (length (now (out .entry))) (λ x. gathered (now (words .entry)) (x / 8) size (x % 8)) ⌝ }
+    ensures { λ _. ⌜ now (out .exit) ≡ listBelow (length (now (out .entry))) (λ x. bitsGathered (now (words .entry)) (x / 8) size (x % 8))
+        ⌝ }
 {
     let mut x = 0;
     while x < out.len() {

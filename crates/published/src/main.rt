@@ -136,7 +136,7 @@ fn show_box(n: u32, m: u32, rows: &[u32]) {
     show_first(n, m, rows);
 }
 
-// One box file, of a box of so many rows.
+// One box file, of a box of `size` rows.
 fn show_file(file: &[u8], size: usize)
     requires { ⌜ size ≤ 256 ⌝ }
 {

@@ -1,15 +1,15 @@
 -- A table of checks: what its first line that applies is, what an accepted table says, and what a call then replies and leaves.
 -- Assumes nothing.
 use Prim.Native.Nat.{ℕ, _^_, _≤_}
-use mathlib.Core.Path.{_≡_, refl, sym, _∙_}
-use mathlib.Core.Bool.{Bool, true, false, not}
+use mathlib.Core.Path.{_≡_, refl, sym, ap, _∙_}
+use mathlib.Core.Bool.{Bool, true, false, not, true≢false}
 use mathlib.Core.List.{List, [], _∷_, _++_}
 use native.Mathlib.Nat.{le-refl, le-trans, le-of-eq, zero-lt-suc}
 use borrow.Author.Tests.{not-true, not-false, eqb-true, eq-eqb, ne-eqb}
 use lib.Dec.{eqb}
 use lib.ListN.{length}
 use lib.Pow.{pow-pos, pow-mono}
-use Rattle.refusals.specs.Table.{Check, _unless_, first, inRange, boxChecksUpTo, boxChecks, limitChecks, tableChecks, Box, Table, figures, refusal, number, replyAfter, contentAfter}
+use Rattle.refusals.specs.Table.{Check, _unless_, first, inRange, boxChecksUpTo, boxChecks, limitChecks, tableChecks, Box, Table, figures, refusal, number, replyAfter, after, isAccepted}
 use Rattle.refusals.specs.declared.Refusal.{Refusal}
 use Rattle.refusals.specs.declared.Refusal.the-variants.{Parameter}
 use Rattle.refusals.specs.declared.Checked.{Checked}
@@ -161,7 +161,7 @@ table-accepted n values t =
       (eq-eqb (length values) (2 ^ n) (t .size), (below-true 2 values (λ x l. t .bits x), tt)),
     )
 
--- The reply of a call, and the final content of an array lent to it, from what its checks found.
+-- The reply of a call, and what stands after it, from what its checks found.
 module _ {k : Checked} where
   pub reply-refused : {e : Refusal} → k ≡ Refused e → (given : List ℕ) → refusal (number e) ≡ replyAfter k given
   reply-refused h given = sym (rw h)
@@ -169,8 +169,26 @@ module _ {k : Checked} where
   pub reply-accepted : k ≡ Accepted → (given : List ℕ) → figures given ≡ replyAfter k given
   reply-accepted h given = sym (rw h)
 
-  pub content-refused : {A : Type 0} {e : Refusal} → k ≡ Refused e → (result old : List A) → old ≡ contentAfter k result old
-  content-refused h result old = sym (rw h)
+  pub after-refused : {A : Type 0} {e : Refusal} → k ≡ Refused e → (result old : A) → old ≡ after k result old
+  after-refused h result old = sym (ap (λ (c : Checked). after c result old) h)
 
-  pub content-accepted : {A : Type 0} → k ≡ Accepted → (result old : List A) → result ≡ contentAfter k result old
-  content-accepted h result old = sym (rw h)
+  pub after-accepted : {A : Type 0} → k ≡ Accepted → (result old : A) → result ≡ after k result old
+  after-accepted h result old = sym (ap (λ (c : Checked). after c result old) h)
+
+-- What holds of the result, where the checks accept, and of what was there, holds of what stands after the call; and so of two things.
+pub after-cases : {A : Type 0} (k : Checked) (result old : A) (P : A → Type 0) → (k ≡ Accepted → P result) → P old → P (after k result old)
+after-cases Accepted result old P p q = p refl
+after-cases (Refused e) result old P p q = q
+
+pub after-both : {A B : Type 0} (k : Checked) (P : A → B → Type 0) (result old : A) (result′ old′ : B) → (k ≡ Accepted → P result result′) → P old old′
+    → P (after k result old) (after k result′ old′)
+after-both Accepted P result old result′ old′ p q = p refl
+after-both (Refused e) P result old result′ old′ p q = q
+
+-- Checks accept or refuse, and never both.
+pub is-accepted : (k : Checked) → isAccepted k ≡ true → k ≡ Accepted
+is-accepted Accepted h = refl
+is-accepted (Refused e) h = absurd (true≢false (sym h))
+
+pub not-both : {k : Checked} {e : Refusal} → k ≡ Refused e → k ≡ Accepted → ⊥
+not-both p q = true≢false (sym (ap isAccepted q) ∙ ap isAccepted p)

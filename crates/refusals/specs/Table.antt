@@ -3,7 +3,7 @@ use Prim.Native.Nat.{ℕ, _^_, _≤_, _<_}
 use mathlib.Core.Path.{_≡_}
 use mathlib.Core.List.{List, [], _∷_, _++_}
 use mathlib.Core.Bool.{Bool, true, false, _&&_}
-use lib.ListN.{length}
+use lib.ListN.{length, drop, replicate}
 use lib.Dec.{ltb, leb, eqb}
 use Rattle.boolean.specs.Sums.{every}
 use Rattle.boolean.specs.Functions.{at}
@@ -59,7 +59,7 @@ inRange lo hi a = leb lo a && leb a hi
 abbrev pub allBelow : (limit : ℕ) (xs : List ℕ) → Bool
 allBelow limit xs = every (λ x. ltb x limit) xs
 
--- the checks of a box where at most so many outputs are taken: n inputs, m outputs, 2^n rows below 2^m
+-- the checks of a box where at most `most` outputs are taken: n inputs, m outputs, 2^n rows below 2^m
 abbrev pub boxChecksUpTo : (most n m : ℕ) (rows : List ℕ) → List Check
 boxChecksUpTo most n m rows =
     (InputWidth unless inRange 1 8 n)
@@ -98,33 +98,42 @@ abbrev pub replyAfter : (checked : Checked) (given : List ℕ) → Reply
 replyAfter Accepted given = figures given
 replyAfter (Refused e) given = refusal (number e)
 
--- the final content of a lent array whose call's checks found this: the result, or what was there
-abbrev pub contentAfter : {A : Type 0} (checked : Checked) (result old : List A) → List A
-contentAfter Accepted result old = result
-contentAfter (Refused e) result old = old
+-- what stands after a call whose checks found this, as the content of a lent array or the state of a server: the result, or what was there
+abbrev pub after : {A : Type 0} (found : Checked) (result old : A) → A
+after Accepted result old = result
+after (Refused e) result old = old
+
+-- whether the checks accept
+abbrev pub isAccepted : Checked → Bool
+isAccepted Accepted = true
+isAccepted (Refused e) = false
 
 -- The outcome of a call that writes to one lent array, by its checks: it says the figures given, or the number of the refusal alone, and
 -- the array then holds the result, or what it held. A contract of such a call is this record, and so is what a theorem on such calls
 -- assumes.
 pub record Wrote {A : Type 0} (checks : List Check) (given : List ℕ) (result old : List A) (said : Reply) (new : List A) : Type 0 where
   pub reply : said ≡ replyAfter (first checks) given
-  pub content : new ≡ contentAfter (first checks) result old
+  pub content : new ≡ after (first checks) result old
 
 -- what the answer of a call that only writes says: no figure, or the number
-abbrev pub written : Written → Reply
-written Done = figures []
-written (Declined e) = refusal (number e)
+abbrev pub saidWritten : Written → Reply
+saidWritten Done = figures []
+saidWritten (Declined e) = refusal (number e)
 
 -- what a yes or no says: 1 or 0, or the number
-abbrev pub verdict : Verdict → Reply
-verdict Yes = figures (1 ∷ [])
-verdict No = figures (0 ∷ [])
-verdict (Undecided e) = refusal (number e)
+abbrev pub saidVerdict : Verdict → Reply
+saidVerdict Yes = figures (1 ∷ [])
+saidVerdict No = figures (0 ∷ [])
+saidVerdict (Undecided e) = refusal (number e)
 
 -- the figure of a test
 abbrev pub asFigure : Bool → List ℕ
 asFigure true = 1 ∷ []
 asFigure false = 0 ∷ []
+
+-- a box's rows in an array for the most rows that a box has: the rows, then zeros
+abbrev pub filled : (rows : List ℕ) → List ℕ
+filled rows = rows ++ drop (length rows) (replicate 256 0)
 
 -- What the checks leave known, for the functions behind a call.
 

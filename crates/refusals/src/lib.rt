@@ -126,7 +126,7 @@ pub fn values_below(table: &[u8], limit: usize) -> bool
     true
 }
 
-// The checks 1 to 4 of a box where at most so many outputs are taken.
+// The checks 1 to 4 of a box where at most `most` outputs are taken.
 pub fn check_box_up_to(most: u32, n: u32, m: u32, rows: &[u32]) -> Checked
     requires { ⌜ most ≤ 32 ⌝ }
     ensures { λ r. ⌜ r ≡ first (boxChecksUpTo most n m (now (rows .entry))) ⌝ }

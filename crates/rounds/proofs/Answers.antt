@@ -8,7 +8,7 @@ use Rattle.refusals.specs.Table.{Reply, number}
 use Rattle.refusals.specs.declared.Refusal.{Refusal}
 use Rattle.refusals.specs.declared.Refusal.the-variants.{InputWidth, OutputWidth, ReadLength, Value, Permutation, Parameter, WrittenLength, NoFunction, ListTooShort, FileLength}
 use Rattle.refusals.specs.declared.Refusal.the-variants.{BoxCount, OutputWidths, Catalogue, NoRoom, NoRecord, UnusedBit, UnsetMark, NoPlace, PlaceState}
-use Rattle.rounds.specs.Round.{Summand, given, sumChecks, sumReply}
+use Rattle.rounds.specs.Round.{Summand, firstGiven, sumChecks, sumReply}
 use Rattle.rounds.specs.Calls.{SumAnswer}
 use Rattle.rounds.specs.declared.LeastSum.{LeastSum}
 use Rattle.rounds.specs.declared.LeastSum.the-variants.{Reached, Declined}
@@ -69,11 +69,11 @@ one-answer count reply (Declined e) (Declined f) p q = ap Declined (number-one e
 -- read the same boxes, and so their replies are the same
 module _ (count : ℕ) (s1 s2 s3 s4 t1 t2 t3 t4 : Summand)
     (one : 1 ≤ count → s1 ≡ t1) (two : 2 ≤ count → s2 ≡ t2) (three : 3 ≤ count → s3 ≡ t3) (four : 4 ≤ count → s4 ≡ t4) where
-  pub same-read : given count (s1 ∷ s2 ∷ s3 ∷ s4 ∷ []) ≡ given count (t1 ∷ t2 ∷ t3 ∷ t4 ∷ [])
+  pub same-read : firstGiven count (s1 ∷ s2 ∷ s3 ∷ s4 ∷ []) ≡ firstGiven count (t1 ∷ t2 ∷ t3 ∷ t4 ∷ [])
   same-read = go count one two three four
     where
       go : (k : ℕ) → (1 ≤ k → s1 ≡ t1) → (2 ≤ k → s2 ≡ t2) → (3 ≤ k → s3 ≡ t3) → (4 ≤ k → s4 ≡ t4)
-          → given k (s1 ∷ s2 ∷ s3 ∷ s4 ∷ []) ≡ given k (t1 ∷ t2 ∷ t3 ∷ t4 ∷ [])
+          → firstGiven k (s1 ∷ s2 ∷ s3 ∷ s4 ∷ []) ≡ firstGiven k (t1 ∷ t2 ∷ t3 ∷ t4 ∷ [])
       go zero a b c d = refl
       go (suc zero) a b c d = rw (a (omega arith))
       go (suc (suc zero)) a b c d = rw (a (omega arith), b (omega arith))

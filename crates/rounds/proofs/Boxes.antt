@@ -21,9 +21,9 @@ use Rattle.refusals.specs.Table.{Check, _unless_, inRange, first, limitChecks, 
 use Rattle.refusals.specs.declared.Refusal.the-variants.{OutputWidths, Parameter}
 use Rattle.refusals.specs.declared.Checked.{Checked}
 use Rattle.linear.specs.Nonlinearity.{pair, pairsOf, pairs, nonlinearity, nonlinearityReply}
-use Rattle.linear.specs.Statements.{IsPair, Before}
+use Rattle.linear.specs.Statements.{IsPair, PairBefore}
 use Rattle.linear.proofs.Theorems as linear
-use Rattle.rounds.specs.Round.{Summand, inputsOf, sumAt, sumRows, masks, joined, sumPair, sumPairsOf, sumPairs, sumNonlinearity, checksOf, sumChecks, sumReply}
+use Rattle.rounds.specs.Round.{Summand, inputsOf, sumAt, sumRows, masksOfInputs, joined, sumPair, sumPairsOf, sumPairs, sumNonlinearity, summandChecks, sumChecks, sumReply}
 use Rattle.rounds.proofs.Masks.{joined-lt}
 use Rattle.rounds.proofs.Products.{component-sum}
 use Rattle.rounds.proofs.Decided.{Decided, by-rank}
@@ -37,12 +37,12 @@ number-cases a b = pick (decLt a b) (decLt b a)
     pick (no l) (yes k) = inr (inr k)
     pick (no l) (no k) = inr (inl (omega arith))
 
-pair-cases : (c′ w′ b′ c w b : ℕ) → Before c′ w′ b′ c w b ⊎ (((c′ ≡ c) × (w′ ≡ w) × (b′ ≡ b)) ⊎ Before c w b c′ w′ b′)
+pair-cases : (c′ w′ b′ c w b : ℕ) → PairBefore c′ w′ b′ c w b ⊎ (((c′ ≡ c) × (w′ ≡ w) × (b′ ≡ b)) ⊎ PairBefore c w b c′ w′ b′)
 pair-cases c′ w′ b′ c w b = go (number-cases (ones c′) (ones c)) (number-cases c′ c) (number-cases w′ w) (number-cases b′ b)
   where
     go : (ones c′ < ones c) ⊎ ((ones c′ ≡ ones c) ⊎ (ones c < ones c′)) → (c′ < c) ⊎ ((c′ ≡ c) ⊎ (c < c′))
         → (w′ < w) ⊎ ((w′ ≡ w) ⊎ (w < w′)) → (b′ < b) ⊎ ((b′ ≡ b) ⊎ (b < b′))
-        → Before c′ w′ b′ c w b ⊎ (((c′ ≡ c) × (w′ ≡ w) × (b′ ≡ b)) ⊎ Before c w b c′ w′ b′)
+        → PairBefore c′ w′ b′ c w b ⊎ (((c′ ≡ c) × (w′ ≡ w) × (b′ ≡ b)) ⊎ PairBefore c w b c′ w′ b′)
     go (inl o) x y z = inl (inl (inl o))
     go (inr (inr o)) x y z = inr (inr (inl (inl o)))
     go (inr (inl o)) (inl l) y z = inl (inl (inr (o, l)))
@@ -76,7 +76,7 @@ module _ (ss : List Summand) (m i : ℕ) (m-low : 1 ≤ m) (i-low : 1 ≤ i) (r 
       go (t .0) (t .1) (t .2) (t .3) (t .4) (pair-cases (t .0) (t .1) (t .2) (r .c) (joined ss (r .ws)) (r .b))
     where
       go : (c w b : ℕ) → IsPair (inputsOf ss) m i c w b → whole-box ≡ pair (inputsOf ss) (sumRows ss) c w b
-          → Before c w b (r .c) (joined ss (r .ws)) (r .b) ⊎ (((c ≡ r .c) × (w ≡ joined ss (r .ws)) × (b ≡ r .b)) ⊎ Before (r .c) (joined ss (r .ws)) (r .b) c w b)
+          → PairBefore c w b (r .c) (joined ss (r .ws)) (r .b) ⊎ (((c ≡ r .c) × (w ≡ joined ss (r .ws)) × (b ≡ r .b)) ⊎ PairBefore (r .c) (joined ss (r .ws)) (r .b) c w b)
           → whole-box ≡ record { figure = r .d; witness = r .c ∷ joined ss (r .ws) ∷ r .b ∷ [] }
       go c w b p e (inl l) =
           absurd (omega (
@@ -122,7 +122,7 @@ module _ (s : Summand) where
       ∙ ap (λ (d : ℕ). record { figure = d; witness = c ∷ w ∷ b ∷ [] }) (distance-cong (s .inputs) _ _ w b (alone-component c))
 
   alone-pairsOf : (c : ℕ) → sumPairsOf alone c ≡ pairsOf (s .inputs) (s .rows) c
-  unfolding sumPairsOf pairsOf masks each
+  unfolding sumPairsOf pairsOf masksOfInputs each
   alone-pairsOf c =
       each-each (listBelow (2 ^ s .inputs) (λ w. w)) (λ w. (w ∷ []) ∷ []) (λ ws. sumPair alone c ws 0 ∷ sumPair alone c ws 1 ∷ [])
       ∙ each-cong (listBelow (2 ^ s .inputs) (λ w. w)) _ _ (λ w. ap₂ (λ (p q : Candidate). p ∷ q ∷ []) (alone-pair c w 0) (alone-pair c w 1))
@@ -135,8 +135,8 @@ module _ (s : Summand) where
   alone-checks : (others : List Summand) (i : ℕ) → first (sumChecks 1 (s ∷ others) i) ≡ first (limitChecks (s .inputs) (s .outputs) (s .rows) i)
   unfolding sumChecks limitChecks each every first
   alone-checks others i =
-      ap (λ (cs : List Check). first (cs ++ ((OutputWidths unless true) ∷ (Parameter unless inRange 1 (s .outputs) i) ∷ []))) (append-nil (checksOf s))
-      ∙ passed-over (checksOf s)
+      ap (λ (cs : List Check). first (cs ++ ((OutputWidths unless true) ∷ (Parameter unless inRange 1 (s .outputs) i) ∷ []))) (append-nil (summandChecks s))
+      ∙ passed-over (summandChecks s)
     where
       -- a line whose test holds is as if it were not there
       passed-over : (cs : List Check) → first (cs ++ ((OutputWidths unless true) ∷ (Parameter unless inRange 1 (s .outputs) i) ∷ [])) ≡ first (cs ++ ((Parameter unless inRange 1 (s .outputs) i) ∷ []))

@@ -12,8 +12,8 @@ use Rattle.boolean.specs.Selection.{Candidate, best, Ascending}
 use Rattle.boolean.proofs.Components.{rank-of-before}
 use Rattle.boolean.proofs.Selection.{best-first, first-ranked}
 use Rattle.rounds.specs.Round.{Summand, inputsOf, joined, sumDistance, sumNonlinearity}
-use Rattle.rounds.specs.Spectra.{product, places, signAt, bySpectra, larger}
-use Rattle.rounds.specs.Statements.{Fits, productAt, Lex}
+use Rattle.rounds.specs.Spectra.{product, peakPlaces, signAt, bySpectra, larger}
+use Rattle.rounds.specs.Statements.{MasksFit, productAt, Lex}
 use Rattle.rounds.proofs.Masks.{apart, apart-fits, joined-apart}
 use Rattle.rounds.proofs.Peaks.{sizeAt, Peaks, peaks-fit, peaks-bound, NoSmaller, as-much}
 use Rattle.rounds.proofs.Nearest.{away, near, signed}
@@ -27,7 +27,7 @@ not-before (v ∷ vs) [] n l = l
 not-before (v ∷ vs) (w ∷ ws) n (inl l) = omega (arith, n .0)
 not-before (v ∷ vs) (w ∷ ws) n (inr t) = not-before vs ws (n .1) (t .1)
 
-joined-no-smaller : (ss : List Summand) (vs ws : List ℕ) → Fits ss vs → NoSmaller vs ws → joined ss ws ≤ joined ss vs
+joined-no-smaller : (ss : List Summand) (vs ws : List ℕ) → MasksFit ss vs → NoSmaller vs ws → joined ss ws ≤ joined ss vs
 unfolding joined
 joined-no-smaller [] vs ws f n = le-refl 0
 joined-no-smaller (s ∷ ss) [] ws f n = absurd f
@@ -35,7 +35,7 @@ joined-no-smaller (s ∷ ss) (v ∷ vs) [] f n = omega arith
 joined-no-smaller (s ∷ ss) (v ∷ vs) (w ∷ ws) f n =
     omega (arith, n .0, mul-le-mul-left (2 ^ s .inputs) (joined-no-smaller ss vs ws (f .1) (n .1)))
 
-module _ (ss : List Summand) (c : ℕ) (ws : List ℕ) (p : Peaks ss c ws) (vs : List ℕ) (f : Fits ss vs) where
+module _ (ss : List Summand) (c : ℕ) (ws : List ℕ) (p : Peaks ss c ws) (vs : List ℕ) (f : MasksFit ss vs) where
   gives-less : ¬ (NoSmaller vs ws) → sizeAt ss c vs < sizeAt ss c ws
   gives-less h = pick (decLt (sizeAt ss c vs) (sizeAt ss c ws))
     where
@@ -67,12 +67,12 @@ pub record Decided (ss : List Summand) (cs : List ℕ) (rank : ℕ → ℕ) : Ty
   pub b : ℕ
   pub is : sumNonlinearity ss cs ≡ record { figure = d; witness = c ∷ (ws ++ (b ∷ [])) }
   pub in-order : List·Memᴰ c cs
-  pub fits : Fits ss ws
+  pub fits : MasksFit ss ws
   pub b-high : b < 2
   pub reached : sumDistance ss c (joined ss ws) b ≡ d
   pub least : (c′ v b′ : ℕ) → List·Memᴰ c′ cs → v < 2 ^ inputsOf ss → b′ < 2 → d ≤ sumDistance ss c′ v b′
   -- by the masks from box 1 on, and by the masks put together
-  pub before : (c′ : ℕ) (ws′ : List ℕ) (b′ : ℕ) → List·Memᴰ c′ cs → Fits ss ws′ → b′ < 2 → BeforeBy rank Lex c′ ws′ b′ c ws b
+  pub before : (c′ : ℕ) (ws′ : List ℕ) (b′ : ℕ) → List·Memᴰ c′ cs → MasksFit ss ws′ → b′ < 2 → BeforeBy rank Lex c′ ws′ b′ c ws b
       → d < sumDistance ss c′ (joined ss ws′) b′
   pub before-joined : (c′ v b′ : ℕ) → List·Memᴰ c′ cs → v < 2 ^ inputsOf ss → b′ < 2 → BeforeBy rank _<_ c′ v b′ c (joined ss ws) b
       → d < sumDistance ss c′ v b′
@@ -86,7 +86,7 @@ module _ (ss : List Summand) (some : 1 ≤ inputsOf ss) (c₀ : ℕ) (cs₀ : Li
   chosen = best (larger ss) c₀ cs₀
 
   abbrev chosen-masks : List ℕ
-  chosen-masks = places ss chosen
+  chosen-masks = peakPlaces ss chosen
 
   abbrev chosen-sign : ℕ
   chosen-sign = signAt ss chosen chosen-masks
@@ -97,7 +97,7 @@ module _ (ss : List Summand) (some : 1 ≤ inputsOf ss) (c₀ : ℕ) (cs₀ : Li
   peaks : Peaks ss chosen chosen-masks
   peaks = places-peaks ss chosen
 
-  masks-fit : Fits ss chosen-masks
+  masks-fit : MasksFit ss chosen-masks
   masks-fit = peaks-fit ss chosen chosen-masks peaks
 
   sign-of : signBit (productAt ss chosen chosen-masks) ≡ chosen-sign
@@ -108,18 +108,18 @@ module _ (ss : List Summand) (some : 1 ≤ inputsOf ss) (c₀ : ℕ) (cs₀ : Li
       omega (arith, signed ss chosen chosen-masks masks-fit .1, ap (away ss chosen chosen-masks) sign-of, spectra-half ss some chosen, product-is ss chosen)
 
   -- an earlier component differs at more, whatever the masks; so do masks of the same component that give less, and an earlier b
-  earlier-component : (c′ : ℕ) (vs : List ℕ) (b′ : ℕ) → List·Memᴰ c′ (c₀ ∷ cs₀) → Fits ss vs → b′ < 2 → rank c′ < rank chosen → figure < away ss c′ vs b′
+  earlier-component : (c′ : ℕ) (vs : List ℕ) (b′ : ℕ) → List·Memᴰ c′ (c₀ ∷ cs₀) → MasksFit ss vs → b′ < 2 → rank c′ < rank chosen → figure < away ss c′ vs b′
   earlier-component c′ vs b′ m f h l =
       omega (
         arith,
         first-ranked rank (λ a b. product ss b < product ss a) ascending (best-first (ordered ss some) c₀ cs₀) c′ m l,
         near ss c′ vs b′ f h,
-        peaks-bound ss c′ (places ss c′) (places-peaks ss c′) vs f,
+        peaks-bound ss c′ (peakPlaces ss c′) (places-peaks ss c′) vs f,
         product-is ss c′,
         spectra-half ss some chosen,
       )
 
-  smaller-product : (c′ : ℕ) (vs : List ℕ) (b′ : ℕ) → Fits ss vs → b′ < 2 → c′ ≡ chosen → sizeAt ss chosen vs < sizeAt ss chosen chosen-masks → figure < away ss c′ vs b′
+  smaller-product : (c′ : ℕ) (vs : List ℕ) (b′ : ℕ) → MasksFit ss vs → b′ < 2 → c′ ≡ chosen → sizeAt ss chosen vs < sizeAt ss chosen chosen-masks → figure < away ss c′ vs b′
   smaller-product c′ vs b′ f h e l =
       subst (λ (k : ℕ). figure < away ss k vs b′) (sym e) (omega (arith, near ss chosen vs b′ f h, product-is ss chosen, spectra-half ss some chosen))
 
@@ -129,7 +129,7 @@ module _ (ss : List Summand) (some : 1 ≤ inputsOf ss) (c₀ : ℕ) (cs₀ : Li
       let same : away ss c′ chosen-masks b′ ≡ away ss chosen chosen-masks b′ = ap (λ (c : ℕ). away ss c chosen-masks b′) e in
       omega (arith, k, same, ap (away ss chosen chosen-masks) sign-of, chosen-reached)
 
-  before-masks : (c′ : ℕ) (ws′ : List ℕ) (b′ : ℕ) → List·Memᴰ c′ (c₀ ∷ cs₀) → Fits ss ws′ → b′ < 2 → BeforeBy rank Lex c′ ws′ b′ chosen chosen-masks chosen-sign
+  before-masks : (c′ : ℕ) (ws′ : List ℕ) (b′ : ℕ) → List·Memᴰ c′ (c₀ ∷ cs₀) → MasksFit ss ws′ → b′ < 2 → BeforeBy rank Lex c′ ws′ b′ chosen chosen-masks chosen-sign
       → figure < away ss c′ ws′ b′
   before-masks c′ ws′ b′ m f h (inl l) = earlier-component c′ ws′ b′ m f h l
   before-masks c′ ws′ b′ m f h (inr (inl t)) = smaller-product c′ ws′ b′ f h (t .0) (lex-less ss chosen chosen-masks peaks ws′ f (t .1))

@@ -17,8 +17,32 @@ use Rattle.refusals.specs.declared.Checked.{Checked}
 use Rattle.refusals.specs.declared.Checked.the-variants.{Accepted, Refused}
 use Rattle.refusals.proofs.Bounds.{range-low, range-high}
 use Rattle.refusals.proofs.Checks.{Walk, found-after, box, first-passed, first-failed, first-append, first-refused, accepted-before, accepted-after, passed}
-use Rattle.rounds.specs.Round.{Summand, inputsOf, given, outputsOf, sameOutputs, checksOf, sumChecks}
+use Rattle.rounds.specs.Round.{Summand, inputsOf, firstGiven, outputsOf, sameOutputs, summandChecks, sumChecks, summandOf}
 use Rattle.rounds.specs.Work.{checksIf, sameIf, inputsIf, IsBox, Round}
+use Rattle.rounds.specs.declared.Widths.{Widths}
+
+-- ---- what is handed over: the widths and rows of four boxes
+pub record Handed : Type 0 where
+  pub widths : Widths
+  pub rows1 : List ℕ
+  pub rows2 : List ℕ
+  pub rows3 : List ℕ
+  pub rows4 : List ℕ
+
+abbrev pub box1 : Handed → Summand
+box1 h = summandOf (h .widths .n1) (h .widths .m1) (h .rows1)
+
+abbrev pub box2 : Handed → Summand
+box2 h = summandOf (h .widths .n2) (h .widths .m2) (h .rows2)
+
+abbrev pub box3 : Handed → Summand
+box3 h = summandOf (h .widths .n3) (h .widths .m3) (h .rows3)
+
+abbrev pub box4 : Handed → Summand
+box4 h = summandOf (h .widths .n4) (h .widths .m4) (h .rows4)
+
+abbrev pub allFour : Handed → List Summand
+allFour h = box1 h ∷ box2 h ∷ box3 h ∷ box4 h ∷ []
 
 -- ---- four lists of checks, one after the other
 module _ (xs bs cs ds : List Check) where
@@ -56,18 +80,18 @@ and-true false = refl
 
 -- the given boxes of four
 abbrev pub boxes : (count : ℕ) (s1 s2 s3 s4 : Summand) → List Summand
-boxes count s1 s2 s3 s4 = given count (s1 ∷ s2 ∷ s3 ∷ s4 ∷ [])
+boxes count s1 s2 s3 s4 = firstGiven count (s1 ∷ s2 ∷ s3 ∷ s4 ∷ [])
 
 module _ (s1 s2 s3 s4 : Summand) where
   -- their checks
   pub checks-are : (count : ℕ) → 1 ≤ count → count ≤ 4
-      → checksOf s1 ++ (checksIf (ltb 1 count) s2 ++ (checksIf (ltb 2 count) s3 ++ checksIf (ltb 3 count) s4)) ≡ each (boxes count s1 s2 s3 s4) checksOf
+      → summandChecks s1 ++ (checksIf (ltb 1 count) s2 ++ (checksIf (ltb 2 count) s3 ++ checksIf (ltb 3 count) s4)) ≡ each (boxes count s1 s2 s3 s4) summandChecks
   unfolding each
   checks-are zero l h = absurd (omega arith)
   checks-are (suc zero) l h = refl
   checks-are (suc (suc zero)) l h = refl
   checks-are (suc (suc (suc zero))) l h = refl
-  checks-are (suc (suc (suc (suc zero)))) l h = ap (λ (cs : List Check). checksOf s1 ++ (checksOf s2 ++ (checksOf s3 ++ cs))) (sym (append-nil (checksOf s4)))
+  checks-are (suc (suc (suc (suc zero)))) l h = ap (λ (cs : List Check). summandChecks s1 ++ (summandChecks s2 ++ (summandChecks s3 ++ cs))) (sym (append-nil (summandChecks s4)))
   checks-are (suc (suc (suc (suc (suc k))))) l h = absurd (omega arith)
 
   -- their output widths
@@ -150,11 +174,11 @@ module _ (s1 s2 s3 s4 : Summand) where
       used-4 e = (box-4 e, as-first s4 (r .same s4 (member-4 count (ltb-true 3 count e))))
 
 -- ---- what the boxes' own checks and the test of their widths say: each is a box
-all-boxed : (ss : List Summand) → first (each ss checksOf) ≡ Accepted → (s : Summand) → List·Memᴰ s ss → IsBox s
+all-boxed : (ss : List Summand) → first (each ss summandChecks) ≡ Accepted → (s : Summand) → List·Memᴰ s ss → IsBox s
 unfolding each
 all-boxed [] h s m = absurd (List·Memᴰ·not-nil m)
 all-boxed (t ∷ ts) h s m =
-    of-cons IsBox (box (t .inputs) (t .outputs) (t .rows) (each ts checksOf) h) (all-boxed ts (accepted-after (checksOf t) (each ts checksOf) h) s) m
+    of-cons IsBox (box (t .inputs) (t .outputs) (t .rows) (each ts summandChecks) h) (all-boxed ts (accepted-after (summandChecks t) (each ts summandChecks) h) s) m
 
 -- of the same width
 every-mem : {A : Type 0} (p : A → Bool) (xs : List A) → every p xs ≡ true → (x : A) → List·Memᴰ x xs → p x ≡ true
@@ -177,7 +201,7 @@ inputs-few (s ∷ ss) h = omega (arith, h s (List·Memᴰ·head refl) .n-high, i
 module _ (count : ℕ) (handed : List Summand) (i : ℕ) where
   -- the boxes that are given
   abbrev ss : List Summand
-  ss = given count handed
+  ss = firstGiven count handed
 
   -- the checks after the boxes' own
   abbrev tests : List Check
@@ -185,18 +209,18 @@ module _ (count : ℕ) (handed : List Summand) (i : ℕ) where
 
   pub wrong-number : inRange 1 4 count ≡ false → Refused BoxCount ≡ first (sumChecks count handed i)
   unfolding sumChecks
-  wrong-number h = sym (first-failed BoxCount (inRange 1 4 count) (each ss checksOf ++ tests) h)
+  wrong-number h = sym (first-failed BoxCount (inRange 1 4 count) (each ss summandChecks ++ tests) h)
 
   module _ (number : inRange 1 4 count ≡ true) where
-    past-number : first (sumChecks count handed i) ≡ first (each ss checksOf ++ tests)
+    past-number : first (sumChecks count handed i) ≡ first (each ss summandChecks ++ tests)
     unfolding sumChecks
-    past-number = first-passed BoxCount (inRange 1 4 count) (each ss checksOf ++ tests) number
+    past-number = first-passed BoxCount (inRange 1 4 count) (each ss summandChecks ++ tests) number
 
-    pub box-refused : {e : Refusal} → first (each ss checksOf) ≡ Refused e → Refused e ≡ first (sumChecks count handed i)
-    box-refused h = sym (past-number ∙ first-refused (each ss checksOf) tests h)
+    pub box-refused : {e : Refusal} → first (each ss summandChecks) ≡ Refused e → Refused e ≡ first (sumChecks count handed i)
+    box-refused h = sym (past-number ∙ first-refused (each ss summandChecks) tests h)
 
-    pub boxes-passed : {k : Checked} → first (each ss checksOf) ≡ Accepted → Walk tests k → k ≡ first (sumChecks count handed i)
-    boxes-passed h w = found-after (each ss checksOf) h w ∙ sym past-number
+    pub boxes-passed : {k : Checked} → first (each ss summandChecks) ≡ Accepted → Walk tests k → k ≡ first (sumChecks count handed i)
+    boxes-passed h w = found-after (each ss summandChecks) h w ∙ sym past-number
 
   -- ---- what acceptance says
   module _ (accepted : first (sumChecks count handed i) ≡ Accepted) where
@@ -205,21 +229,21 @@ module _ (count : ℕ) (handed : List Summand) (i : ℕ) where
 
     number-is : inRange 1 4 count ≡ true
     unfolding sumChecks
-    number-is = passed number-test (accepted-before number-test (each ss checksOf ++ tests) accepted) .0
+    number-is = passed number-test (accepted-before number-test (each ss summandChecks ++ tests) accepted) .0
 
-    after-number : first (each ss checksOf ++ tests) ≡ Accepted
+    after-number : first (each ss summandChecks ++ tests) ≡ Accepted
     unfolding sumChecks
-    after-number = accepted-after number-test (each ss checksOf ++ tests) accepted
+    after-number = accepted-after number-test (each ss summandChecks ++ tests) accepted
 
     pub limit-range : inRange 1 (outputsOf ss) i ≡ true
-    limit-range = passed tests (accepted-after (each ss checksOf) tests after-number) .1 .0
+    limit-range = passed tests (accepted-after (each ss summandChecks) tests after-number) .1 .0
 
     pub accepted-round : Round count (outputsOf ss) ss
     accepted-round = record {
       count-low = range-low 1 4 count number-is;
       count-high = range-high 1 4 count number-is;
-      boxed = all-boxed ss (accepted-before (each ss checksOf) tests after-number);
-      same = all-same ss (passed tests (accepted-after (each ss checksOf) tests after-number) .0);
+      boxed = all-boxed ss (accepted-before (each ss summandChecks) tests after-number);
+      same = all-same ss (passed tests (accepted-after (each ss summandChecks) tests after-number) .0);
     }
 
     pub limit-low : 1 ≤ i

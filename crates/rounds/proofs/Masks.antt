@@ -8,40 +8,40 @@ use lib.Arith.{lt-one as below-one}
 use lib.Pow.{pow-pos, pow-add, split, shr-lt}
 use Rattle.boolean.specs.Sums.{each, listBelow}
 use Rattle.boolean.proofs.Lists.{mem-listBelow, in-listBelow, mem-each, in-each}
-use Rattle.rounds.specs.Round.{Summand, inputsOf, masks, joined}
-use Rattle.rounds.specs.Statements.{Fits}
+use Rattle.rounds.specs.Round.{Summand, inputsOf, masksOfInputs, joined}
+use Rattle.rounds.specs.Statements.{MasksFit}
 
 -- the masks behind one mask
 abbrev pub behind : List Summand → ℕ → List (List ℕ)
-behind ss w = each (masks ss) (λ ws. (w ∷ ws) ∷ [])
+behind ss w = each (masksOfInputs ss) (λ ws. (w ∷ ws) ∷ [])
 
-pub mem-behind : (ss : List Summand) (w : ℕ) (vs : List ℕ) → List·Memᴰ vs (behind ss w) → (ws : List ℕ) × List·Memᴰ ws (masks ss) × (vs ≡ w ∷ ws)
-mem-behind ss w vs m = let t = mem-each (masks ss) (λ ws. (w ∷ ws) ∷ []) vs m in (t .0, t .1, List·Memᴰ·eq-of-singleton (t .2))
+pub mem-behind : (ss : List Summand) (w : ℕ) (vs : List ℕ) → List·Memᴰ vs (behind ss w) → (ws : List ℕ) × List·Memᴰ ws (masksOfInputs ss) × (vs ≡ w ∷ ws)
+mem-behind ss w vs m = let t = mem-each (masksOfInputs ss) (λ ws. (w ∷ ws) ∷ []) vs m in (t .0, t .1, List·Memᴰ·eq-of-singleton (t .2))
 
-pub mem-masks : (ss : List Summand) (ws : List ℕ) → List·Memᴰ ws (masks ss) → Fits ss ws
-unfolding masks
-mem-masks [] ws m = subst (Fits []) (sym (List·Memᴰ·eq-of-singleton m)) tt
+pub mem-masks : (ss : List Summand) (ws : List ℕ) → List·Memᴰ ws (masksOfInputs ss) → MasksFit ss ws
+unfolding masksOfInputs
+mem-masks [] ws m = subst (MasksFit []) (sym (List·Memᴰ·eq-of-singleton m)) tt
 mem-masks (s ∷ ss) ws m =
     let t = mem-each (listBelow (2 ^ s .inputs) (λ w. w)) (behind ss) ws m in
     let u = mem-listBelow (2 ^ s .inputs) (λ w. w) (t .0) (t .1) in
     let r = mem-behind ss (t .0) ws (t .2) in
-    subst (Fits (s ∷ ss)) (sym (r .2)) (omega (arith, u .1, u .2), mem-masks ss (r .0) (r .1))
+    subst (MasksFit (s ∷ ss)) (sym (r .2)) (omega (arith, u .1, u .2), mem-masks ss (r .0) (r .1))
 
-pub in-masks : (ss : List Summand) (ws : List ℕ) → Fits ss ws → List·Memᴰ ws (masks ss)
-unfolding masks
+pub in-masks : (ss : List Summand) (ws : List ℕ) → MasksFit ss ws → List·Memᴰ ws (masksOfInputs ss)
+unfolding masksOfInputs
 in-masks [] [] h = List·Memᴰ·head refl
 in-masks [] (w ∷ ws) h = absurd h
 in-masks (s ∷ ss) [] h = absurd h
 in-masks (s ∷ ss) (w ∷ ws) h =
     in-each (listBelow (2 ^ s .inputs) (λ w. w)) (behind ss) w (w ∷ ws) (in-listBelow (2 ^ s .inputs) (λ w. w) w (h .0))
-    (in-each (masks ss) (λ ws. (w ∷ ws) ∷ []) ws (w ∷ ws) (in-masks ss ws (h .1)) (List·Memᴰ·head refl))
+    (in-each (masksOfInputs ss) (λ ws. (w ∷ ws) ∷ []) ws (w ∷ ws) (in-masks ss ws (h .1)) (List·Memᴰ·head refl))
 
 -- a mask of N bits taken apart
 unfoldable pub apart : List Summand → ℕ → List ℕ
 apart [] v = []
 apart (s ∷ ss) v = (v % 2 ^ s .inputs) ∷ apart ss (v / 2 ^ s .inputs)
 
-pub apart-fits : (ss : List Summand) (v : ℕ) → Fits ss (apart ss v)
+pub apart-fits : (ss : List Summand) (v : ℕ) → MasksFit ss (apart ss v)
 unfolding apart
 apart-fits [] v = tt
 apart-fits (s ∷ ss) v = (mod-lt v (pow-pos (s .inputs)), apart-fits ss (v / 2 ^ s .inputs))
@@ -57,7 +57,7 @@ joined-apart (s ∷ ss) v h =
     ∙ add-comm (v % 2 ^ s .inputs) (v / 2 ^ s .inputs * 2 ^ s .inputs) ∙ split v (s .inputs)
 
 -- a mask put together has N bits
-pub joined-lt : (ss : List Summand) (ws : List ℕ) → Fits ss ws → joined ss ws < 2 ^ inputsOf ss
+pub joined-lt : (ss : List Summand) (ws : List ℕ) → MasksFit ss ws → joined ss ws < 2 ^ inputsOf ss
 unfolding joined inputsOf
 joined-lt [] [] h = omega arith
 joined-lt [] (w ∷ ws) h = absurd h

@@ -8,12 +8,12 @@ use native.Mathlib.Decide.{decLt}
 use lib.Pow.{pow-pos}
 use lib.IntN.{natAbs}
 use Rattle.boolean.specs.Functions.{component, square}
-use Rattle.boolean.specs.Selection.{First, here}
+use Rattle.boolean.specs.Selection.{FirstIn, here}
 use Rattle.boolean.proofs.Digits.{component-lt}
 use Rattle.boolean.proofs.Spectrum.{some-walsh-large}
-use Rattle.rounds.specs.Round.{Summand, masks}
+use Rattle.rounds.specs.Round.{Summand, masksOfInputs}
 use Rattle.rounds.proofs.Firsts.{first-weaken, first-each, first-below}
-use Rattle.rounds.specs.Statements.{Fits, walshOf, productAt}
+use Rattle.rounds.specs.Statements.{MasksFit, walshOf, productAt}
 use Rattle.rounds.proofs.Masks.{behind, mem-behind, mem-masks}
 use Rattle.rounds.proofs.Products.{abs-product}
 
@@ -37,7 +37,7 @@ Peaks [] c (w ∷ ws) = ⊥
 Peaks (s ∷ ss) c [] = ⊥
 Peaks (s ∷ ss) c (w ∷ ws) = Peak s c w × Peaks ss c ws
 
-pub peaks-fit : (ss : List Summand) (c : ℕ) (ws : List ℕ) → Peaks ss c ws → Fits ss ws
+pub peaks-fit : (ss : List Summand) (c : ℕ) (ws : List ℕ) → Peaks ss c ws → MasksFit ss ws
 peaks-fit [] c [] h = tt
 peaks-fit [] c (w ∷ ws) h = absurd h
 peaks-fit (s ∷ ss) c [] h = absurd h
@@ -67,7 +67,7 @@ peaks-positive (s ∷ ss) c (w ∷ ws) h =
     subst (λ (z : ℕ). 0 < z) (sym (size-next s ss c w ws)) (mul-le-mul (peak-positive s c w (h .0)) (peaks-positive ss c ws (h .1)))
 
 -- no masks give more
-pub peaks-bound : (ss : List Summand) (c : ℕ) (ws : List ℕ) → Peaks ss c ws → (vs : List ℕ) → Fits ss vs → sizeAt ss c vs ≤ sizeAt ss c ws
+pub peaks-bound : (ss : List Summand) (c : ℕ) (ws : List ℕ) → Peaks ss c ws → (vs : List ℕ) → MasksFit ss vs → sizeAt ss c vs ≤ sizeAt ss c ws
 peaks-bound [] c [] h [] f = le-refl _
 peaks-bound [] c [] h (v ∷ vs) f = absurd f
 peaks-bound [] c (w ∷ ws) h vs f = absurd h
@@ -83,7 +83,7 @@ NoSmaller [] ws = Unit {0}
 NoSmaller (v ∷ vs) [] = Unit {0}
 NoSmaller (v ∷ vs) (w ∷ ws) = (w ≤ v) × NoSmaller vs ws
 
-pub as-much : (ss : List Summand) (c : ℕ) (ws : List ℕ) → Peaks ss c ws → (vs : List ℕ) → Fits ss vs → sizeAt ss c ws ≤ sizeAt ss c vs → NoSmaller vs ws
+pub as-much : (ss : List Summand) (c : ℕ) (ws : List ℕ) → Peaks ss c ws → (vs : List ℕ) → MasksFit ss vs → sizeAt ss c ws ≤ sizeAt ss c vs → NoSmaller vs ws
 as-much [] c ws p [] f l = tt
 as-much [] c ws p (v ∷ vs) f l = absurd f
 as-much (s ∷ ss) c ws p [] f l = absurd f
@@ -106,8 +106,8 @@ as-much (s ∷ ss) c (w ∷ ws) p (v ∷ vs) f l = (own (decLt v w), as-much ss 
     others (no k) = omega arith
 
 -- and all that come before give less
-pub peaks-first : (ss : List Summand) (c : ℕ) (ws : List ℕ) → Peaks ss c ws → First (λ r v. sizeAt ss c v < sizeAt ss c r) ws (masks ss)
-unfolding masks
+pub peaks-first : (ss : List Summand) (c : ℕ) (ws : List ℕ) → Peaks ss c ws → FirstIn (λ r v. sizeAt ss c v < sizeAt ss c r) ws (masksOfInputs ss)
+unfolding masksOfInputs
 peaks-first [] c [] h = here
 peaks-first [] c (w ∷ ws) h = absurd h
 peaks-first (s ∷ ss) c [] h = absurd h

@@ -17,7 +17,7 @@ use Rattle.boolean.proofs.Sizes.{abs-neg}
 use Rattle.boolean.proofs.Walsh.{walsh-cong}
 use Rattle.rounds.specs.Round.{Summand, inputsOf, sumAt, sumRows, joined}
 use Rattle.rounds.proofs.Parts.{walsh-parts}
-use Rattle.rounds.specs.Statements.{Fits, walshOf, productAt}
+use Rattle.rounds.specs.Statements.{MasksFit, walshOf, productAt}
 
 -- component c of the sum
 pub component-sum : (ss : List Summand) (c x : ℕ) → x < 2 ^ inputsOf ss → component (sumRows ss) c x ≡ dot (sumAt ss x) c
@@ -42,7 +42,7 @@ walsh-next s ss c w v h =
     ∙ ap (λ (z : ℕ). bitXor z (g (x / 2 ^ s .inputs))) (sym (component-dot (s .rows) c (x % 2 ^ s .inputs))))
     ∙ walsh-parts (s .inputs) (inputsOf ss) f g w v (λ x l. component-lt (s .rows) c x) (λ x l. dot-bit (sumAt ss x) c) h
 
-product-law : (ss : List Summand) (c : ℕ) (ws : List ℕ) → Fits ss ws → walsh (inputsOf ss) (λ x. dot (sumAt ss x) c) (joined ss ws) ≡ productAt ss c ws
+product-law : (ss : List Summand) (c : ℕ) (ws : List ℕ) → MasksFit ss ws → walsh (inputsOf ss) (λ x. dot (sumAt ss x) c) (joined ss ws) ≡ productAt ss c ws
 unfolding inputsOf sumAt joined productAt
 product-law [] c [] h = walsh-none c
 product-law [] c (w ∷ ws) h = absurd h
@@ -50,7 +50,7 @@ product-law (s ∷ ss) c [] h = absurd h
 product-law (s ∷ ss) c (w ∷ ws) h = walsh-next s ss c w (joined ss ws) (h .0) ∙ ap (λ (z : ℤ). walshOf s c w *ℤ z) (product-law ss c ws (h .1))
 
 -- the Walsh value of the sum at a mask put together is the product of the boxes' values
-pub walsh-sum : (ss : List Summand) (c : ℕ) (ws : List ℕ) → Fits ss ws → walsh (inputsOf ss) (component (sumRows ss) c) (joined ss ws) ≡ productAt ss c ws
+pub walsh-sum : (ss : List Summand) (c : ℕ) (ws : List ℕ) → MasksFit ss ws → walsh (inputsOf ss) (component (sumRows ss) c) (joined ss ws) ≡ productAt ss c ws
 walsh-sum ss c ws h = walsh-cong (inputsOf ss) _ _ (joined ss ws) (λ x l. component-sum ss c x l) ∙ product-law ss c ws h
 
 -- the size of a product

@@ -16,9 +16,9 @@ use Rattle.refusals.specs.declared.Checked.the-variants.{Accepted}
 use Rattle.refusals.proofs.Bounds.{below-at, below-true}
 use Rattle.refusals.proofs.Checks.{reply-accepted, limit-accepted}
 use Rattle.linear.specs.Nonlinearity.{nonlinearity, nonlinearityReply}
-use Rattle.rounds.specs.Round.{Summand, inputsOf, given, outputsOf, sumAt, sumRows, joined, sumNonlinearity, sumChecks}
+use Rattle.rounds.specs.Round.{Summand, inputsOf, firstGiven, outputsOf, sumAt, sumRows, joined, sumNonlinearity, sumChecks}
 use Rattle.rounds.specs.Work.{IsBox}
-use Rattle.rounds.specs.Statements.{Fits, Lex, SumReported}
+use Rattle.rounds.specs.Statements.{MasksFit, Lex, SumReported}
 use Rattle.rounds.proofs.Decided.{by-rank, decided-of}
 use Rattle.rounds.proofs.Boxes.{as-box}
 use Rattle.rounds.proofs.Entry.{boxes, accepted-round, limit-low, limit-high, some-outputs, some-inputs}
@@ -28,7 +28,7 @@ use Rattle.rounds.proofs.Entry.{boxes, accepted-round, limit-low, limit
 -- the product of the boxes' largest spectrum magnitudes."
 pub sum-reported : (count : ℕ) (handed : List Summand) (i : ℕ) → first (sumChecks count handed i) ≡ Accepted → SumReported count handed i
 sum-reported count handed i accepted =
-    let ss : List Summand = given count handed in
+    let ss : List Summand = firstGiven count handed in
     let m = outputsOf ss in
     let m-low = some-outputs count handed i accepted in
     let i-low = limit-low count handed i accepted in
@@ -60,7 +60,7 @@ row-below m (s ∷ ss) boxed same x =
 
 module _ (count : ℕ) (handed : List Summand) (i : ℕ) (accepted : first (sumChecks count handed i) ≡ Accepted) where
   abbrev ss : List Summand
-  ss = given count handed
+  ss = firstGiven count handed
 
   sum-is-box : inputsOf ss ≤ 8 → Box (inputsOf ss) (outputsOf ss) (sumRows ss)
   unfolding sumRows
@@ -93,7 +93,7 @@ module _ (count : ℕ) (handed : List Summand) (i : ℕ) (accepted : first (sumC
       sym (reply-accepted ok (shown (nonlinearity (inputsOf ss) (outputsOf ss) (sumRows ss) i))) ∙ ap (λ (p : Candidate). figures (shown p)) (r .as-box)
 
 -- how many figures there are: one mask for each box, and three more
-fits-length : (ss : List Summand) (ws : List ℕ) → Fits ss ws → length ws ≡ length ss
+fits-length : (ss : List Summand) (ws : List ℕ) → MasksFit ss ws → length ws ≡ length ss
 fits-length [] [] h = refl
 fits-length [] (w ∷ ws) h = absurd h
 fits-length (s ∷ ss) [] h = absurd h
@@ -103,7 +103,7 @@ pub figures-number : (count : ℕ) (s1 s2 s3 s4 : Summand) (i : ℕ) → first (
     → let ss = boxes count s1 s2 s3 s4 in length (shown (sumNonlinearity ss (components (outputsOf ss) i))) ≡ 3 + count
 figures-number count s1 s2 s3 s4 i accepted =
     let handed : List Summand = s1 ∷ s2 ∷ s3 ∷ s4 ∷ [] in
-    let ss : List Summand = given count handed in
+    let ss : List Summand = firstGiven count handed in
     let r = sum-reported count handed i accepted in
     let shows : figures (shown (sumNonlinearity ss (components (outputsOf ss) i))) ≡ figures (r .d ∷ r .c ∷ (r .ws ++ (r .b ∷ []))) =
     reply-accepted accepted (shown (sumNonlinearity ss (components (outputsOf ss) i))) ∙ r .reply in

@@ -9,11 +9,11 @@ use lib.Bits.{bitXor}
 use lib.IntN.{ℤ, pos, negsuc, _*ℤ_, negℤ, natAbs}
 use Rattle.boolean.specs.Sums.{listBelow}
 use Rattle.boolean.specs.Functions.{at, signBit}
-use Rattle.boolean.specs.Selection.{Candidate, firstLargest, First}
+use Rattle.boolean.specs.Selection.{Candidate, firstLargest, FirstIn}
 use Rattle.boolean.proofs.Lists.{mem-listBelow, in-listBelow, ascending-listBelow}
-use Rattle.boolean.proofs.Selection.{firstLargest-ge, firstLargest-mem, firstLargest-first, first-ranked}
+use Rattle.boolean.proofs.Selection.{firstLargest-chooses, first-ranked}
 use Rattle.rounds.specs.Round.{Summand, inputsOf}
-use Rattle.rounds.specs.Spectra.{peak, product, places, signAt, bySpectra}
+use Rattle.rounds.specs.Spectra.{peak, product, peakPlaces, signAt, bySpectra}
 use Rattle.rounds.specs.Statements.{walshOf, productAt}
 use Rattle.rounds.proofs.Peaks.{sizeOf, sizeAt, Peak, Peaks, peak-positive, peaks-positive, size-next}
 use Rattle.rounds.proofs.Nearest.{nearest, nearest-half}
@@ -30,9 +30,9 @@ module _ (s : Summand) (c : ℕ) where
   Before r q = q .figure < r .figure
 
   -- the first largest value
-  found : (l : List Candidate) → List·Memᴰ (valueOf 0) l → List·Memᴰ (firstLargest l) l × First Before (firstLargest l) l
+  found : (l : List Candidate) → List·Memᴰ (valueOf 0) l → List·Memᴰ (firstLargest l) l × FirstIn Before (firstLargest l) l
   found [] m = absurd (List·Memᴰ·not-nil m)
-  found (p ∷ ps) m = (firstLargest-mem p ps, firstLargest-first p ps)
+  found (p ∷ ps) m = (firstLargest-chooses .mem refl, firstLargest-chooses .early refl)
 
   pub peak-is : (w : ℕ) × (peak s c ≡ valueOf w) × Peak s c w
   unfolding peak
@@ -45,7 +45,7 @@ module _ (s : Summand) (c : ℕ) where
         u .2,
         record {
           inside = u .1;
-          bounds = λ v l. omega (arith, firstLargest-ge values (valueOf v) (in-listBelow (2 ^ s .inputs) valueOf v l));
+          bounds = λ v l. omega (arith, firstLargest-chooses .all values (valueOf v) (in-listBelow (2 ^ s .inputs) valueOf v l));
           first = λ v l.
               let h = first-ranked (λ p. at (p .witness) 0) Before (ascending-listBelow (λ p. at (p .witness) 0) (2 ^ s .inputs) valueOf (λ a b j k. j)) (t .1)
               (valueOf v) (in-listBelow (2 ^ s .inputs) valueOf v (omega (arith, u .1))) (omega arith) in
@@ -60,15 +60,15 @@ module _ (s : Summand) (c : ℕ) where
   peak-size = let t = peak-is in rw (t .1) refl
 
 -- ---- all boxes
-pub places-peaks : (ss : List Summand) (c : ℕ) → Peaks ss c (places ss c)
-unfolding places
+pub places-peaks : (ss : List Summand) (c : ℕ) → Peaks ss c (peakPlaces ss c)
+unfolding peakPlaces
 places-peaks [] c = tt
 places-peaks (s ∷ ss) c = (place-peak s c, places-peaks ss c)
 
-pub product-is : (ss : List Summand) (c : ℕ) → product ss c ≡ sizeAt ss c (places ss c)
-unfolding product places productAt
+pub product-is : (ss : List Summand) (c : ℕ) → product ss c ≡ sizeAt ss c (peakPlaces ss c)
+unfolding product peakPlaces productAt
 product-is [] c = refl
-product-is (s ∷ ss) c = ap₂ (λ (a b : ℕ). a * b) (peak-size s c) (product-is ss c) ∙ sym (size-next s ss c (at (peak s c .witness) 0) (places ss c))
+product-is (s ∷ ss) c = ap₂ (λ (a b : ℕ). a * b) (peak-size s c) (product-is ss c) ∙ sym (size-next s ss c (at (peak s c .witness) 0) (peakPlaces ss c))
 
 -- ---- the sign of a product
 sign-below : (m : ℕ) → 0 < m → signBit (negℤ (pos m)) ≡ 1
@@ -101,9 +101,9 @@ module _ (ss : List Summand) (some : 1 ≤ inputsOf ss) (c : ℕ) where
 
   -- twice the figure and the product make 2^N
   pub spectra-half : 2 * bySpectra ss c .figure + product ss c ≡ 2 ^ inputsOf ss
-  spectra-half = omega (arith, doubled, product-is ss c, nearest-half ss c (places ss c) (places-peaks ss c))
+  spectra-half = omega (arith, doubled, product-is ss c, nearest-half ss c (peakPlaces ss c) (places-peaks ss c))
 
-  pub spectra-nearest : bySpectra ss c ≡ nearest ss c (places ss c) (places-peaks ss c)
+  pub spectra-nearest : bySpectra ss c ≡ nearest ss c (peakPlaces ss c) (places-peaks ss c)
   spectra-nearest =
-      let same : bySpectra ss c .figure ≡ nearest ss c (places ss c) (places-peaks ss c) .figure = omega (arith, spectra-half, product-is ss c, nearest-half ss c (places ss c) (places-peaks ss c)) in
-      ap₂ (λ (d b : ℕ). record { figure = d; witness = c ∷ (places ss c ++ (b ∷ [])) }) same (sym (sign-is ss c (places ss c) (places-peaks ss c)))
+      let same : bySpectra ss c .figure ≡ nearest ss c (peakPlaces ss c) (places-peaks ss c) .figure = omega (arith, spectra-half, product-is ss c, nearest-half ss c (peakPlaces ss c) (places-peaks ss c)) in
+      ap₂ (λ (d b : ℕ). record { figure = d; witness = c ∷ (peakPlaces ss c ++ (b ∷ [])) }) same (sym (sign-is ss c (peakPlaces ss c) (places-peaks ss c)))

@@ -3,7 +3,7 @@ use mathlib.Core.Path.{_≡_, refl, sym, ap, ap₂, _∙_, subst}
 use mathlib.Core.Bool.{true, false}
 use mathlib.Core.Logic.{inr}
 use mathlib.Core.List.{List, [], _∷_, _++_, List·Memᴰ, List·Memᴰ·not-nil}
-use Prim.Native.Nat.{ℕ, zero, suc, _+_, _*_, _-_, _/_, _<_, _≤_, _^_}
+use Prim.Native.Nat.{ℕ, zero, suc, _*_, _-_, _/_, _<_, _≤_, _^_}
 use native.Mathlib.Nat.{mul-le-mul, mul-one}
 use native.Mathlib.Omega.{arith}
 use borrow.Author.Tests.{lt-ltb}
@@ -14,15 +14,14 @@ use lib.ListN.{take, drop}
 use Rattle.boolean.specs.Sums.{each, AnyContent}
 use Rattle.boolean.specs.Functions.{at, component, components, walsh, signBit}
 use Rattle.boolean.specs.Selection.{Candidate, best, higher, firstLargest, ranked}
-use Rattle.boolean.specs.Statements.{masksBelow}
 use Rattle.boolean.proofs.FirstLargest.{best-changed}
 use Rattle.boolean.proofs.Selection.{best-takes, best-keeps, largest, by-largest}
 use Rattle.masks.specs.Masks.{outputs}
 use Rattle.masks.specs.Work.{Next, preferred}
 use Rattle.masks.proofs.Fewest.{visit-within, swept, ranked-wins, higher-test}
-use Rattle.masks.proofs.Walk.{Walk, walk-starts, walk-next, best-starts, best-next, best-ends}
+use Rattle.masks.proofs.Sweeps.{Choosing, choosing-next, choosing-ends}
 use Rattle.rounds.specs.Round.{Summand, inputsOf, sumNonlinearity}
-use Rattle.rounds.specs.Spectra.{peak, product, places, signAt, bySpectra, larger, factored, largestProduct}
+use Rattle.rounds.specs.Spectra.{peak, product, peakPlaces, signAt, bySpectra, larger, factored, largestProduct}
 use Rattle.rounds.specs.Work.{sizeIf, Roomy, foundCandidate, TopOf, TopIf, masksOf, WitnessOf}
 use Rattle.rounds.specs.declared.Top.{Top}
 use Rattle.rounds.specs.declared.Witness.{Witness}
@@ -67,16 +66,16 @@ small-4 p q = mul-le-mul p q
 
 -- ---- the witness of up to four boxes
 record Placed (ss : List Summand) (c : ℕ) (ws : List ℕ) (sign : ℕ) : Type 0 where
-  masks-are : ws ≡ places ss c
-  sign-is : sign ≡ signAt ss c (places ss c)
+  masks-are : ws ≡ peakPlaces ss c
+  sign-is : sign ≡ signAt ss c (peakPlaces ss c)
 
 none : (c : ℕ) → Placed [] c [] 0
-unfolding places signAt
+unfolding peakPlaces signAt
 none c = record { masks-are = refl; sign-is = refl }
 
 next : (s : Summand) (ss : List Summand) (c : ℕ) (t : Top) (ws : List ℕ) (sign : ℕ) → TopOf s c t → Placed ss c ws sign
     → Placed (s ∷ ss) c (t .mask ∷ ws) (bitXor (t .sign) sign)
-unfolding places signAt
+unfolding peakPlaces signAt
 next s ss c t ws sign h p = record {
   masks-are = ap₂ (λ (a : ℕ) (l : List ℕ). a ∷ l) (h .mask-is) (p .masks-are);
   sign-is =
@@ -124,22 +123,15 @@ start = record { size = 0; c = 0 }
 abbrev alone : List Summand → ℕ → List Candidate
 alone ss c = factored ss c ∷ []
 
-pub record Sweeping (ss : List Summand) (m i : ℕ) (found : Found) (c : ℕ) : Type 0 where
-  pub walk : Walk m i c
-  pub so-far : foundCandidate found ≡ best (ranked higher outputs) (foundCandidate start) (each (masksBelow i c) (alone ss))
+abbrev pub Sweeping : List Summand → ℕ → ℕ → Found → ℕ → Type 0
+Sweeping ss m i found c = Choosing (ranked higher outputs) (alone ss) m i (foundCandidate start) (foundCandidate found) c
 
 -- no component has the product 0
 product-positive : (ss : List Summand) (c : ℕ) → 0 < product ss c
-product-positive ss c = omega (arith, product-is ss c, peaks-positive ss c (places ss c) (places-peaks ss c))
+product-positive ss c = omega (arith, product-is ss c, peaks-positive ss c (peakPlaces ss c) (places-peaks ss c))
 
 module _ (ss : List Summand) (m i : ℕ) where
-  pub sweep-starts : 1 ≤ i → Sweeping ss m i start 1
-  sweep-starts h = record { walk = walk-starts m i h; so-far = best-starts (ranked higher outputs) (alone ss) (foundCandidate start) i }
-
   module _ {found : Found} {c : ℕ} (t : Sweeping ss m i found c) where
-    more : {new : Found} {r : ℕ} → c < 2 ^ m → Next i c r → foundCandidate new ≡ best (ranked higher outputs) (foundCandidate found) (alone ss c) → Sweeping ss m i new r
-    more l after e = record { walk = walk-next (t .walk) after l; so-far = best-next (t .walk) (ranked higher outputs) (alone ss) (foundCandidate start) after (t .so-far) e }
-
     module _ {size r mask : ℕ} (e : size ≡ product ss c) (q : mask ≡ c) (l : c < 2 ^ m) (after : Next i c r) where
       -- the code's test is the selection's
       tested : preferred (found .size) size mask (found .c) ≡ ranked higher outputs (factored ss c) (foundCandidate found)
@@ -149,18 +141,18 @@ module _ (ss : List Summand) (m i : ℕ) where
       pub sweep-takes : preferred (found .size) size mask (found .c) ≡ true → Sweeping ss m i (record { size = size; c = mask }) r
       unfolding best
       sweep-takes h =
-          more l after
+          choosing-next t l after
           (ap₂ (λ (k d : ℕ). record { figure = k; witness = d ∷ [] }) e q
           ∙ sym (best-takes (ranked higher outputs) (foundCandidate found) (factored ss c) [] (sym tested ∙ h)))
 
       pub sweep-keeps : preferred (found .size) size mask (found .c) ≡ false → Sweeping ss m i found r
       unfolding best
-      sweep-keeps h = more l after (sym (best-keeps (ranked higher outputs) (foundCandidate found) (factored ss c) [] (sym tested ∙ h)))
+      sweep-keeps h = choosing-next t l after (sym (best-keeps (ranked higher outputs) (foundCandidate found) (factored ss c) [] (sym tested ∙ h)))
 
     pub sweep-ends : 2 ^ m ≤ c → 1 ≤ m → foundCandidate found ≡ largestProduct ss (components m i)
     unfolding largestProduct firstLargest
     sweep-ends h low =
-        best-ends (t .walk) (ranked higher outputs) (alone ss) (foundCandidate start) h (t .so-far)
+        choosing-ends t h
         ∙ swept largest by-largest (visit-within m i low (t .walk .limit)) (record { names = λ c. refl })
         (inr (ranked-wins higher outputs (factored ss 1) (foundCandidate start) (lt-ltb 0 (product ss 1) (product-positive ss 1))))
 

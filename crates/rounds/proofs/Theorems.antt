@@ -4,16 +4,16 @@ use mathlib.Core.Bool.{Bool, true, false}
 use mathlib.Core.List.{List, [], _∷_, _++_, List·Memᴰ, List·Memᴰ·not-nil}
 use Prim.Native.Nat.{ℕ, suc, _+_, _^_, _<_, _≤_}
 use native.Mathlib.Omega.{arith}
-use borrow.Author.Tests.{ltb-true, ltb-false}
+use borrow.Author.Tests.{ltb-true, ltb-false, lt-ltb}
 use Rattle.boolean.specs.Sums.{each}
-use Rattle.boolean.specs.Selection.{Candidate, best, lower, firstLeast, First}
+use Rattle.boolean.specs.Selection.{Candidate, best, lower, firstLeast, FirstIn}
 use Rattle.boolean.proofs.FirstLargest.{best-changed}
 use Rattle.boolean.proofs.Lists.{mem-each, in-each}
-use Rattle.boolean.proofs.Selection.{best-all, best-mem, best-step, best-append, firstLeast-le, firstLeast-mem, firstLeast-first, firstLeast-append, firstLeast-from}
+use Rattle.boolean.proofs.Selection.{best-all, best-mem, best-step, best-append, firstLeast-chooses}
 use Rattle.rounds.specs.Round.{Summand, inputsOf, sumDistance, sumPair, sumPairsOf, sumPairs, sumNonlinearity}
 use Rattle.boolean.specs.Statements.{Ordered}
 use Rattle.rounds.specs.Spectra.{product, bySpectra, larger}
-use Rattle.rounds.specs.Statements.{Fits}
+use Rattle.rounds.specs.Statements.{MasksFit}
 use Rattle.rounds.proofs.Masks.{apart, apart-fits, joined-apart}
 use Rattle.rounds.proofs.Nearest.{in-sumPairsOf, mem-sumPairsOf, nearest-in, nearest-taken, nearest-kept}
 use Rattle.rounds.proofs.Spectra.{places-peaks, spectra-half, spectra-nearest}
@@ -41,8 +41,8 @@ module _ {A : Type 0} (f : A → List Candidate) (g : A → Candidate)
       go [] m t = absurd (List·Memᴰ·not-nil m)
       go (p ∷ ps) m t =
           let start : Candidate = record { figure = suc (p .figure + g x .figure); witness = [] } in
-          firstLeast-append p ps (each xs f)
-          ∙ ap (λ (c : Candidate). best lower c (each xs f)) (sym (firstLeast-from start p ps (omega arith)) ∙ t start (omega arith))
+          firstLeast-chooses .append p ps (each xs f)
+          ∙ ap (λ (c : Candidate). best lower c (each xs f)) (sym (firstLeast-chooses .from start p ps (lt-ltb (p .figure) (start .figure) (omega arith))) ∙ t start (omega arith))
 
 -- ---- the least distance, reached, and the first
 module _ (ss : List Summand) (cs : List ℕ) where
@@ -51,12 +51,12 @@ module _ (ss : List Summand) (cs : List ℕ) where
   unfolding sumNonlinearity sumPairs
   least c v b m l h =
       subst (λ (z : ℕ). sumNonlinearity ss cs .figure ≤ sumDistance ss c z b) (joined-apart ss v l)
-      (firstLeast-le (sumPairs ss cs) (sumPair ss c (apart ss v) b)
+      (firstLeast-chooses .all (sumPairs ss cs) (sumPair ss c (apart ss v) b)
       (in-each cs (sumPairsOf ss) c (sumPair ss c (apart ss v) b) m (in-sumPairsOf ss c (apart ss v) b (apart-fits ss v) h)))
 
   -- what stands in the list of pairs
   pub mem-sumPairs : (p : Candidate) → List·Memᴰ p (sumPairs ss cs)
-      → (c : ℕ) × (ws : List ℕ) × (b : ℕ) × List·Memᴰ c cs × Fits ss ws × (b < 2) × (p ≡ sumPair ss c ws b)
+      → (c : ℕ) × (ws : List ℕ) × (b : ℕ) × List·Memᴰ c cs × MasksFit ss ws × (b < 2) × (p ≡ sumPair ss c ws b)
   unfolding sumPairs
   mem-sumPairs p m =
       let t = mem-each cs (sumPairsOf ss) p m in
@@ -65,19 +65,19 @@ module _ (ss : List Summand) (cs : List ℕ) where
 
   -- where there is a component, some pair does so at exactly that many, and each pair before it in the list at more
   module _ (c : ℕ) (some : List·Memᴰ c cs) where
-    first-in : (l : List Candidate) → (p : Candidate) → List·Memᴰ p l → List·Memᴰ (firstLeast l) l × First (λ r q. r .figure < q .figure) (firstLeast l) l
+    first-in : (l : List Candidate) → (p : Candidate) → List·Memᴰ p l → List·Memᴰ (firstLeast l) l × FirstIn (λ r q. r .figure < q .figure) (firstLeast l) l
     first-in [] p m = absurd (List·Memᴰ·not-nil m)
-    first-in (q ∷ qs) p m = (firstLeast-mem q qs, firstLeast-first q qs)
+    first-in (q ∷ qs) p m = (firstLeast-chooses .mem refl, firstLeast-chooses .early refl)
 
     one-pair : List·Memᴰ (sumPair ss c (apart ss 0) 0) (sumPairs ss cs)
     unfolding sumPairs
     one-pair = in-each cs (sumPairsOf ss) c (sumPair ss c (apart ss 0) 0) some (in-sumPairsOf ss c (apart ss 0) 0 (apart-fits ss 0) (omega arith))
 
-    pub reached : (c : ℕ) × (ws : List ℕ) × (b : ℕ) × List·Memᴰ c cs × Fits ss ws × (b < 2) × (sumNonlinearity ss cs ≡ sumPair ss c ws b)
+    pub reached : (c : ℕ) × (ws : List ℕ) × (b : ℕ) × List·Memᴰ c cs × MasksFit ss ws × (b < 2) × (sumNonlinearity ss cs ≡ sumPair ss c ws b)
     unfolding sumNonlinearity
     reached = mem-sumPairs (sumNonlinearity ss cs) (first-in (sumPairs ss cs) (sumPair ss c (apart ss 0) 0) one-pair .0)
 
-    pub first : First (λ r q. r .figure < q .figure) (sumNonlinearity ss cs) (sumPairs ss cs)
+    pub first : FirstIn (λ r q. r .figure < q .figure) (sumNonlinearity ss cs) (sumPairs ss cs)
     unfolding sumNonlinearity
     first = first-in (sumPairs ss cs) (sumPair ss c (apart ss 0) 0) one-pair .1
 

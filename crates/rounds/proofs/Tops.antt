@@ -1,12 +1,9 @@
--- What the analyser gives of a component: the peak, by its least count; and, by its spectrum, the peak's place and the sign there, with the loop that
--- finds them. Assumes nothing.
-use mathlib.Core.Path.{_≡_, refl, sym, ap, _∙_, subst}
+-- What the analyser gives of a component: the peak, by its least count; and, by its spectrum, the peak's place and the sign there. Assumes nothing.
+use mathlib.Core.Path.{_≡_, refl, sym, ap, _∙_}
 use mathlib.Core.List.{List}
 use Prim.Native.Nat.{ℕ, _+_, _-_, _*_, _<_, _≤_, _^_}
-use native.Mathlib.Nat.{le-of-eq, zero-lt-suc}
 use native.Mathlib.Omega.{arith}
 use native.Mathlib.Decide.{decLt}
-use borrow.Author.Count.{below-more}
 use borrow.Author.Tests.{eq-eqb}
 use lib.IntN.{ℤ, pos, negsuc, _+ℤ_, natAbs}
 use lib.ListN.{length}
@@ -14,70 +11,37 @@ use Rattle.boolean.specs.Functions.{at, valueAt, component, approximation, spec
 use Rattle.boolean.specs.Selection.{firstLeast}
 use Rattle.boolean.proofs.Lists.{length-listBelow, getD-listBelow}
 use Rattle.boolean.proofs.Approximations.{walsh-twice, walsh-size}
-use Rattle.refusals.specs.Table.{first, boxChecks, contentAfter, Box}
+use Rattle.refusals.specs.Table.{first, boxChecks, after, Box}
 use Rattle.refusals.specs.declared.Checked.the-variants.{Accepted}
 use Rattle.refusals.proofs.Bounds.{range-true}
-use Rattle.refusals.proofs.Checks.{accepted, box-accepted, first-append, content-accepted}
+use Rattle.refusals.proofs.Checks.{accepted, box-accepted, first-append, after-accepted}
 use Rattle.linear.specs.Nonlinearity.{pairsOf}
 use Rattle.linear.specs.Calls.{componentChecks}
 use Rattle.linear.proofs.Theorems.{component-within, component-met}
-use Rattle.rounds.specs.Round.{Summand, boxOf}
+use Rattle.rounds.specs.Round.{Summand, summandOf}
 use Rattle.rounds.specs.Spectra.{peak}
 use Rattle.rounds.specs.Work.{Highest, TopOf}
 use Rattle.rounds.specs.declared.Top.{Top}
 use Rattle.rounds.proofs.Peaks.{sizeOf, Peak}
 use Rattle.rounds.proofs.Spectra.{place-peak, peak-size}
+use Rattle.walsh.specs.Work.{FirstOfMagnitude}
+use Rattle.walsh.proofs.Magnitudes.{Largest, place-inside, place-has}
 
 -- the magnitude of a value
 abbrev pub sizes : List ℤ → ℕ → ℕ
 sizes values w = natAbs (valueAt values w)
 
--- ---- the loop that takes its first place
--- the largest magnitude of the first k values, and its first place
-pub record Leading (values : List ℤ) (k size place : ℕ) : Type 0 where
-  pub within : k ≤ length values
-  pub inside : place < k
-  pub has : size ≡ sizes values place
-  pub bounds : (w : ℕ) → w < k → sizes values w ≤ size
-  pub first : (w : ℕ) → w < place → sizes values w < size
-
-pub leading-one : (values : List ℤ) (size : ℕ) → 0 < length values → size ≡ sizes values 0 → Leading values 1 size 0
-leading-one values size h e = record {
-  within = h;
-  inside = zero-lt-suc 0;
-  has = e;
-  bounds = λ w l. subst (λ (k : ℕ). sizes values k ≤ size) (omega arith) (le-of-eq (sym e));
-  first = λ w l. absurd (omega arith);
-}
-
-module _ {values : List ℤ} {k size place : ℕ} (t : Leading values k size place) where
-  -- one value more: no larger, or larger
-  pub leading-keeps : k < length values → sizes values k ≤ size → Leading values (k + 1) size place
-  leading-keeps h l = record {
-    within = omega arith;
-    inside = omega (arith, t .inside);
-    has = t .has;
-    bounds = below-more _ _ (t .bounds) l;
-    first = t .first;
-  }
-
-  pub leading-takes : (next : ℕ) → k < length values → next ≡ sizes values k → size < next → Leading values (k + 1) next k
-  leading-takes next h e l = record {
-    within = omega arith;
-    inside = omega arith;
-    has = e;
-    bounds = below-more _ _ (λ w m. omega (arith, t .bounds w m)) (le-of-eq (sym e));
-    first = λ w m. omega (arith, t .bounds w m);
-  }
-
-  -- all of them
-  pub leading-all : (top : Top) → length values ≤ k → top .mask ≡ place → top .sign ≡ signBit (valueAt values place) → Highest values top
-  leading-all top h p s = record {
-    inside = omega (arith, t .inside, t .within);
-    bounds = λ w l. omega (arith, t .bounds w (omega arith), t .has, ap (sizes values) p);
-    first = λ w l. omega (arith, t .first w (omega arith), t .has, ap (sizes values) p);
-    signed = s ∙ ap (λ (w : ℕ). signBit (valueAt values w)) (sym p);
-  }
+-- ---- the first place of the largest magnitude is the highest
+pub highest-is : (values : List ℤ) (size place : ℕ) → Largest values size → FirstOfMagnitude values size place → (top : Top) → top .mask ≡ place
+    → top .sign ≡ signBit (valueAt values place) → Highest values top
+highest-is values size place t f top p s =
+    let has = place-has f (t .place) (t .inside) (t .reached) in
+    record {
+      inside = omega (arith, place-inside f (t .place) (t .inside) (t .reached));
+      bounds = λ w l. omega (arith, t .bounds w, has, ap (sizes values) p);
+      first = λ w l. let other : ¬ (sizes values w ≡ size) = f .first w (omega arith) in omega (arith, t .bounds w, has, ap (sizes values) p);
+      signed = s ∙ ap (λ (w : ℕ). signBit (valueAt values w)) (sym p);
+    }
 
 -- ---- a box has one peak
 pub peak-unique : (s : Summand) (c w v : ℕ) → Peak s c w → Peak s c v → w ≡ v
@@ -89,9 +53,9 @@ peak-unique s c w v p q = pick (decLt w v) (decLt v w)
     pick (no l) (no k) = omega arith
 
 -- ---- twice the fewest inputs at which a component differs from an affine function, and its peak, make 2^n
-pub count-peak : (n m : ℕ) (rows : List ℕ) (c : ℕ) → 2 * firstLeast (pairsOf n rows c) .figure + peak (boxOf n m rows) c .figure ≡ 2 ^ n
+pub count-peak : (n m : ℕ) (rows : List ℕ) (c : ℕ) → 2 * firstLeast (pairsOf n rows c) .figure + peak (summandOf n m rows) c .figure ≡ 2 ^ n
 count-peak n m rows c =
-    let box = boxOf n m rows in
+    let box = summandOf n m rows in
     let place = at (peak box c .witness) 0 in
     let p = place-peak box c in
     let t = component-met n rows c in
@@ -107,8 +71,8 @@ module _ (n m : ℕ) (rows : List ℕ) (c : ℕ) (b : Box n m rows) (low : 1 ≤
 
   -- so the array holds the spectrum
   pub spectrum-written : {values : List ℤ} (old : List ℤ) → length old ≡ 2 ^ n
-      → values ≡ contentAfter (first (componentChecks n m rows c (length old))) (spectrum n (component rows c)) old → values ≡ spectrum n (component rows c)
-  spectrum-written old e h = h ∙ sym (content-accepted (component-accepted (length old) e) (spectrum n (component rows c)) old)
+      → values ≡ after (first (componentChecks n m rows c (length old))) (spectrum n (component rows c)) old → values ≡ spectrum n (component rows c)
+  spectrum-written old e h = h ∙ sym (after-accepted (component-accepted (length old) e) (spectrum n (component rows c)) old)
 
 -- ---- and the first place of its largest magnitude is the peak's
 twice-sign : (z : ℤ) → signBit (z +ℤ z) ≡ signBit z
@@ -118,7 +82,7 @@ twice-sign (negsuc k) = refl
 
 module _ (n m : ℕ) (rows : List ℕ) (c : ℕ) (low : 1 ≤ n) {values : List ℤ} (e : values ≡ spectrum n (component rows c)) where
   abbrev box : Summand
-  box = boxOf n m rows
+  box = summandOf n m rows
 
   pub values-length : length values ≡ 2 ^ n
   unfolding spectrum

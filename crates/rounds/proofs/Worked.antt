@@ -7,11 +7,11 @@ use Rattle.boolean.specs.Bits.{parity, dot, affine}
 use Rattle.boolean.specs.Sums.{countBelow, one-if, each, keep, listFrom, listBelow}
 use Rattle.boolean.specs.Functions.{component, components, distance}
 use Rattle.boolean.specs.Selection.{Candidate, best, firstLeast}
-use Rattle.rounds.specs.Round.{Summand, boxOf, inputsOf, sumAt, sumRows, masks, joined, sumPairsOf, sumPairs, sumNonlinearity}
+use Rattle.rounds.specs.Round.{Summand, summandOf, inputsOf, sumAt, sumRows, masksOfInputs, joined, sumPairsOf, sumPairs, sumNonlinearity}
 
 abbrev both-bits : Summand
-both-bits = boxOf 2 1 (0 ∷ 0 ∷ 0 ∷ 1 ∷ [])
+both-bits = summandOf 2 1 (0 ∷ 0 ∷ 0 ∷ 1 ∷ [])
 
 pub bent-sum : sumNonlinearity (both-bits ∷ both-bits ∷ []) (components 1 1) ≡ record { figure = 6; witness = 1 ∷ 0 ∷ 0 ∷ 0 ∷ [] }
-unfolding sumNonlinearity sumPairs sumPairsOf masks joined sumRows sumAt inputsOf components keep firstLeast best each listBelow listFrom distance countBelow one-if affine dot parity ones onesIn component
+unfolding sumNonlinearity sumPairs sumPairsOf masksOfInputs joined sumRows sumAt inputsOf components keep firstLeast best each listBelow listFrom distance countBelow one-if affine dot parity ones onesIn component
 bent-sum = refl

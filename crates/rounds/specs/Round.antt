@@ -34,10 +34,10 @@ unfolding inputsOf sumAt listBelow
 sumRows ss = listBelow (2 ^ inputsOf ss) (λ x. sumAt ss x)
 
 -- the masks of affine functions, one for each box from box 1 on, in ascending order of the first, then the second, and so on
-unfoldable pub masks : List Summand → List (List ℕ)
+unfoldable pub masksOfInputs : List Summand → List (List ℕ)
 unfolding each listBelow
-masks [] = [] ∷ []
-masks (s ∷ ss) = each (listBelow (2 ^ s .inputs) (λ w. w)) (λ w. each (masks ss) (λ ws. (w ∷ ws) ∷ []))
+masksOfInputs [] = [] ∷ []
+masksOfInputs (s ∷ ss) = each (listBelow (2 ^ s .inputs) (λ w. w)) (λ w. each (masksOfInputs ss) (λ ws. (w ∷ ws) ∷ []))
 
 -- one mask put together of a mask for each box, the first box's in the lowest bits
 unfoldable pub joined : (ss : List Summand) (ws : List ℕ) → ℕ
@@ -55,8 +55,8 @@ sumPair ss c ws b = record { figure = sumDistance ss c (joined ss ws) b; witness
 
 -- the pairs of one component, in the masks' order, then b
 unfoldable pub sumPairsOf : (ss : List Summand) (c : ℕ) → List Candidate
-unfolding each masks
-sumPairsOf ss c = each (masks ss) (λ ws. sumPair ss c ws 0 ∷ sumPair ss c ws 1 ∷ [])
+unfolding each masksOfInputs
+sumPairsOf ss c = each (masksOfInputs ss) (λ ws. sumPair ss c ws 0 ∷ sumPair ss c ws 1 ∷ [])
 
 -- all pairs of the components cs, in their order, then the masks', then b
 unfoldable pub sumPairs : (ss : List Summand) (cs : List ℕ) → List Candidate
@@ -71,12 +71,12 @@ sumNonlinearity ss cs = firstLeast (sumPairs ss cs)
 -- The call: which boxes it reads, its checks, and what it replies.
 
 -- a box as it is handed over
-abbrev pub boxOf : (n m : ℕ) (rows : List ℕ) → Summand
-boxOf n m rows = record { inputs = n; outputs = m; rows = rows }
+abbrev pub summandOf : (n m : ℕ) (rows : List ℕ) → Summand
+summandOf n m rows = record { inputs = n; outputs = m; rows = rows }
 
--- the boxes that are given, of those handed over: the first so many. No other is read.
-abbrev pub given : (count : ℕ) (handed : List Summand) → List Summand
-given count handed = take count handed
+-- the boxes that are given, of those handed over: the first `count`. No other is read.
+abbrev pub firstGiven : (count : ℕ) (handed : List Summand) → List Summand
+firstGiven count handed = take count handed
 
 -- the outputs of the sum: those of box 1
 abbrev pub outputsOf : List Summand → ℕ
@@ -89,16 +89,16 @@ sameOutputs [] = true
 sameOutputs (s ∷ ss) = every (λ t. eqb (t .outputs) (s .outputs)) ss
 
 -- the checks of one box
-abbrev pub checksOf : Summand → List Check
-checksOf s = boxChecks (s .inputs) (s .outputs) (s .rows)
+abbrev pub summandChecks : Summand → List Check
+summandChecks s = boxChecks (s .inputs) (s .outputs) (s .rows)
 
 -- the checks: the number of boxes, each given box's own in box order, their output widths, and the limit
 unfoldable pub sumChecks : (count : ℕ) (handed : List Summand) (i : ℕ) → List Check
 unfolding each
 sumChecks count handed i =
-    let ss : List Summand = given count handed in
+    let ss : List Summand = firstGiven count handed in
     (BoxCount unless inRange 1 4 count)
-    ∷ (each ss checksOf ++ (
+    ∷ (each ss summandChecks ++ (
     (OutputWidths unless sameOutputs ss)
     ∷ (Parameter unless inRange 1 (outputsOf ss) i)
     ∷ []))
@@ -106,5 +106,5 @@ sumChecks count handed i =
 -- what the call replies: of the sum of the given boxes the figure, c, a mask for each box, b; or the number of the refusal
 abbrev pub sumReply : (count : ℕ) (handed : List Summand) (i : ℕ) → Reply
 sumReply count handed i =
-    let ss : List Summand = given count handed in
+    let ss : List Summand = firstGiven count handed in
     replyAfter (first (sumChecks count handed i)) (shown (sumNonlinearity ss (components (outputsOf ss) i)))

@@ -24,10 +24,10 @@ product [] c = 1
 product (s ∷ ss) c = peak s c .figure * product ss c
 
 -- the first masks that have them, from box 1 on
-unfoldable pub places : (ss : List Summand) (c : ℕ) → List ℕ
+unfoldable pub peakPlaces : (ss : List Summand) (c : ℕ) → List ℕ
 unfolding peak
-places [] c = []
-places (s ∷ ss) c = at (peak s c .witness) 0 ∷ places ss c
+peakPlaces [] c = []
+peakPlaces (s ∷ ss) c = at (peak s c .witness) 0 ∷ peakPlaces ss c
 
 -- the sign bit of the product of W(w) at a mask for each box: the XOR of their sign bits
 unfoldable pub signAt : (ss : List Summand) (c : ℕ) (ws : List ℕ) → ℕ
@@ -39,7 +39,7 @@ signAt (s ∷ ss) c (w ∷ ws) = bitXor (signBit (walsh (s .inputs) (component (
 -- what the spectra give for component c: 2^(N − 1) less half the product, with the masks and b
 abbrev pub bySpectra : (ss : List Summand) (c : ℕ) → Candidate
 bySpectra ss c =
-    record { figure = 2 ^ (inputsOf ss - 1) - product ss c / 2; witness = c ∷ (places ss c ++ (signAt ss c (places ss c) ∷ [])) }
+    record { figure = 2 ^ (inputsOf ss - 1) - product ss c / 2; witness = c ∷ (peakPlaces ss c ++ (signAt ss c (peakPlaces ss c) ∷ [])) }
 
 -- a larger product
 abbrev pub larger : (ss : List Summand) (c b : ℕ) → Bool

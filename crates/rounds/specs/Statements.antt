@@ -5,20 +5,20 @@ use mathlib.Core.Logic.{_⊎_}
 use mathlib.Core.List.{List, [], _∷_, _++_}
 use lib.IntN.{ℤ, pos, _*ℤ_}
 use lib.ListN.{length, drop}
-use Rattle.boolean.specs.Functions.{at, component, walsh, Within, MaskBefore, maskRank}
+use Rattle.boolean.specs.Functions.{at, component, walsh, MaskWithin, MaskBefore, maskRank}
 use Rattle.boolean.specs.Selection.{Candidate}
 use Rattle.refusals.specs.Table.{figures}
 use Rattle.linear.specs.Nonlinearity.{nonlinearity}
 use Rattle.linear.specs.Statements.{IsPair}
-use Rattle.rounds.specs.Round.{Summand, inputsOf, given, outputsOf, sumRows, joined, sumDistance, sumReply}
+use Rattle.rounds.specs.Round.{Summand, inputsOf, firstGiven, outputsOf, sumRows, joined, sumDistance, sumReply}
 use Rattle.rounds.specs.Spectra.{product}
 
 -- a mask for each box, of its inputs' number of bits
-abbrev pub Fits : (ss : List Summand) (ws : List ℕ) → Type 0
-Fits [] [] = Unit {0}
-Fits [] (w ∷ ws) = ⊥
-Fits (s ∷ ss) [] = ⊥
-Fits (s ∷ ss) (w ∷ ws) = (w < 2 ^ s .inputs) × Fits ss ws
+abbrev pub MasksFit : (ss : List Summand) (ws : List ℕ) → Type 0
+MasksFit [] [] = Unit {0}
+MasksFit [] (w ∷ ws) = ⊥
+MasksFit (s ∷ ss) [] = ⊥
+MasksFit (s ∷ ss) (w ∷ ws) = (w < 2 ^ s .inputs) × MasksFit ss ws
 
 -- the Walsh value of component c of one box
 abbrev pub walshOf : (s : Summand) (c w : ℕ) → ℤ
@@ -32,8 +32,8 @@ productAt (s ∷ ss) c (w ∷ ws) = walshOf s c w *ℤ productAt ss c ws
 
 -- component c of the sum and the affine function of a mask for each box and b are a pair, within the limit i
 pub record IsSumPair (ss : List Summand) (i c : ℕ) (ws : List ℕ) (b : ℕ) : Type 0 where
-  pub mask : Within i (2 ^ outputsOf ss) c
-  pub fits : Fits ss ws
+  pub mask : MaskWithin i (2 ^ outputsOf ss) c
+  pub fits : MasksFit ss ws
   pub b-high : b < 2
 
 -- masks vs come before masks ws: by the first box's, then the second's, and so on
@@ -43,8 +43,8 @@ Lex (v ∷ vs) [] = ⊥
 Lex (v ∷ vs) (w ∷ ws) = (v < w) ⊎ ((v ≡ w) × Lex vs ws)
 
 -- (c′, ws′, b′) comes before (c, ws, b): by the components' order, then the masks', then b
-abbrev pub Before : (c′ : ℕ) (ws′ : List ℕ) (b′ c : ℕ) (ws : List ℕ) (b : ℕ) → Type 0
-Before c′ ws′ b′ c ws b = MaskBefore c′ c ⊎ (((c′ ≡ c) × Lex ws′ ws) ⊎ ((c′ ≡ c) × (ws′ ≡ ws) × (b′ < b)))
+abbrev pub SumBefore : (c′ : ℕ) (ws′ : List ℕ) (b′ c : ℕ) (ws : List ℕ) (b : ℕ) → Type 0
+SumBefore c′ ws′ b′ c ws b = MaskBefore c′ c ⊎ (((c′ ≡ c) × Lex ws′ ws) ⊎ ((c′ ≡ c) × (ws′ ≡ ws) × (b′ < b)))
 
 -- the number of the masks in that order: box 1's weighs most
 abbrev pub masksRank : (ss : List Summand) (ws : List ℕ) → ℕ
@@ -60,7 +60,7 @@ sumRank ss m p =
 module _ (count : ℕ) (handed : List Summand) (i : ℕ) where
   -- the boxes that are given
   abbrev ss : List Summand
-  ss = given count handed
+  ss = firstGiven count handed
 
   -- What is reported of accepted boxes within the limit i: the figure d and the witness, c, a mask for each box, and b.
   pub record SumReported : Type 0 where
@@ -74,10 +74,10 @@ module _ (count : ℕ) (handed : List Summand) (i : ℕ) where
     -- the witness is a pair and differs at d of them, and every pair before it at more
     pub member : IsSumPair ss i c ws b
     pub reached : sumDistance ss c (joined ss ws) b ≡ d
-    pub before : (c′ : ℕ) (ws′ : List ℕ) (b′ : ℕ) → IsSumPair ss i c′ ws′ b′ → Before c′ ws′ b′ c ws b
+    pub before : (c′ : ℕ) (ws′ : List ℕ) (b′ : ℕ) → IsSumPair ss i c′ ws′ b′ → SumBefore c′ ws′ b′ c ws b
         → d < sumDistance ss c′ (joined ss ws′) b′
     -- it is the nonlinearity of the sum as one box of N inputs, with its witness: the masks put together come first there too
     pub as-box : nonlinearity (inputsOf ss) (outputsOf ss) (sumRows ss) i ≡ record { figure = d; witness = c ∷ joined ss ws ∷ b ∷ [] }
     -- d is 2^(N − 1) less half the largest product; doubled, so that nothing is rounded or cut off
-    pub product-largest : (c′ : ℕ) → Within i (2 ^ outputsOf ss) c′ → product ss c′ ≤ product ss c
+    pub product-largest : (c′ : ℕ) → MaskWithin i (2 ^ outputsOf ss) c′ → product ss c′ ≤ product ss c
     pub whole : 2 * d + product ss c ≡ 2 ^ inputsOf ss

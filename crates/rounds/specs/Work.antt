@@ -9,15 +9,15 @@ use lib.ListN.{length, take, drop}
 use Rattle.boolean.specs.Functions.{at, valueAt, component, walsh, signBit}
 use Rattle.boolean.specs.Selection.{Candidate}
 use Rattle.refusals.specs.Table.{Check, Box}
-use Rattle.rounds.specs.Round.{Summand, checksOf}
-use Rattle.rounds.specs.Spectra.{peak, places, signAt}
+use Rattle.rounds.specs.Round.{Summand, summandChecks}
+use Rattle.rounds.specs.Spectra.{peak, peakPlaces, signAt}
 use Rattle.rounds.specs.declared.Top.{Top}
 use Rattle.rounds.specs.declared.Witness.{Witness}
 use Rattle.rounds.specs.declared.Found.{Found}
 
 -- the checks of a box, or none
 abbrev pub checksIf : (used : Bool) (s : Summand) → List Check
-checksIf true s = checksOf s
+checksIf true s = summandChecks s
 checksIf false s = []
 
 -- whether a box has as many outputs as box 1
@@ -62,7 +62,7 @@ pub record Highest (values : List ℤ) (t : Top) : Type 0 where
   pub first : (w : ℕ) → w < t .mask → natAbs (valueAt values w) < natAbs (valueAt values (t .mask))
   pub signed : t .sign ≡ signBit (valueAt values (t .mask))
 
--- the same of the spectrum of component c of a box
+-- the first mask of the largest magnitude, and the sign there, in the spectrum of component c of a box
 pub record TopOf (s : Summand) (c : ℕ) (t : Top) : Type 0 where
   pub mask-is : t .mask ≡ at (peak s c .witness) 0
   pub sign-is : t .sign ≡ signBit (walsh (s .inputs) (component (s .rows) c) (t .mask))
@@ -76,8 +76,8 @@ TopIf false s c t = (t .mask ≡ 0) × (t .sign ≡ 0)
 abbrev pub masksOf : Witness → List ℕ
 masksOf t = t .w1 ∷ t .w2 ∷ t .w3 ∷ t .w4 ∷ []
 
--- component c's first masks of the largest magnitudes, one for each of so many boxes and 0 past them, and the sign of the product there
+-- component c's first masks of the largest magnitudes, one for each of `count` boxes and 0 past them, and the sign of the product there
 pub record WitnessOf (ss : List Summand) (count c : ℕ) (t : Witness) : Type 0 where
-  pub masks-are : take count (masksOf t) ≡ places ss c
+  pub masks-are : take count (masksOf t) ≡ peakPlaces ss c
   pub past : drop count (masksOf t) ≡ drop count (0 ∷ 0 ∷ 0 ∷ 0 ∷ [])
-  pub sign-is : t .b ≡ signAt ss c (places ss c)
+  pub sign-is : t .b ≡ signAt ss c (peakPlaces ss c)

@@ -12,10 +12,10 @@ ghost use Rattle.boolean.specs.Functions.{component, components, spectrum};
 ghost use Rattle.refusals.specs.Table.{first, Box};
 ghost use Rattle.walsh.specs.Work.{Spectra};
 ghost use Rattle.masks.specs.Work.{preferred};
-ghost use Rattle.linear.specs.Work.{Swept};
-ghost use Rattle.rounds.specs.Round.{boxOf, checksOf, sumChecks, sumReply};
+ghost use Rattle.linear.specs.Work.{PairsSwept};
+ghost use Rattle.rounds.specs.Round.{summandOf, summandChecks, sumChecks, sumReply};
 ghost use Rattle.rounds.specs.Spectra.{peak, product, largestProduct};
-ghost use Rattle.rounds.specs.Calls.{handed, read, SumAnswer};
+ghost use Rattle.rounds.specs.Calls.{summandsOf, boxesRead, SumAnswer};
 ghost use Rattle.rounds.specs.Work.{checksIf, sameIf, inputsIf, sizeIf, Round, Roomy};
 ghost use Rattle.rounds.specs.Work.{foundCandidate, Highest, TopOf, TopIf, WitnessOf};
 
@@ -77,8 +77,8 @@ fn size_in(
     bits: &mut [u8],
     out: &mut [i32],
 ) -> u32
-    requires { ⌜ Swept n m (now rows) (now bits) (now out) × Spectra (now fixed) ⌝ }
-    ensures { λ r. ⌜ (r ≡ peak (boxOf n m (now (rows .entry))) c .figure) × (r ≤ 256)
+    requires { ⌜ PairsSwept n m (now rows) (now bits) (now out) × Spectra (now fixed) ⌝ }
+    ensures { λ r. ⌜ (r ≡ peak (summandOf n m (now (rows .entry))) c .figure) × (r ≤ 256)
         × AnyContent (now (bits .entry)) (now (bits .exit)) × AnyContent (now (out .entry)) (now (out .exit)) ⌝ }
 {
     let count = linear::component_count(fixed, n, m, rows, c, bits, out);
@@ -97,7 +97,7 @@ fn size_if(
     out: &mut [i32],
 ) -> u32
     requires { ⌜ (used ≡ true → Box n m (now rows)) × Spectra (now fixed) × Roomy (now bits) (now out) ⌝ }
-    ensures { λ r. ⌜ (r ≡ sizeIf used (boxOf n m (now (rows .entry))) c) × (r ≤ 256)
+    ensures { λ r. ⌜ (r ≡ sizeIf used (summandOf n m (now (rows .entry))) c) × (r ≤ 256)
         × AnyContent (now (bits .entry)) (now (bits .exit)) × AnyContent (now (out .entry)) (now (out .exit)) ⌝ }
 {
     if used {
@@ -121,10 +121,10 @@ fn product_at(
     bits: &mut [u8],
     out: &mut [i32],
 ) -> u64
-    requires { ⌜ Round count (widths .m1) (read count widths (now rows1) (now rows2) (now rows3) (now rows4))
+    requires { ⌜ Round count (widths .m1) (boxesRead count widths (now rows1) (now rows2) (now rows3) (now rows4))
         × Spectra (now fixed) × Roomy (now bits) (now out) ⌝ }
     ensures { λ r. ⌜ (r
-        ≡ product (read count widths (now (rows1 .entry)) (now (rows2 .entry)) (now (rows3 .entry)) (now (rows4 .entry))) c)
+        ≡ product (boxesRead count widths (now (rows1 .entry)) (now (rows2 .entry)) (now (rows3 .entry)) (now (rows4 .entry))) c)
         × AnyContent (now (bits .entry)) (now (bits .exit)) × AnyContent (now (out .entry)) (now (out .exit)) ⌝ }
 {
     let size1 = size_if(true, fixed, widths.n1, widths.m1, rows1, c, bits, out);
@@ -162,10 +162,10 @@ fn sweep(
     bits: &mut [u8],
     out: &mut [i32],
 ) -> Found
-    requires { ⌜ Round count (widths .m1) (read count widths (now rows1) (now rows2) (now rows3) (now rows4)) × (1 ≤ i)
+    requires { ⌜ Round count (widths .m1) (boxesRead count widths (now rows1) (now rows2) (now rows3) (now rows4)) × (1 ≤ i)
         × Spectra (now fixed) × Roomy (now bits) (now out) ⌝ }
     ensures { λ r. ⌜ (foundCandidate r
-        ≡ largestProduct (read count widths (now (rows1 .entry)) (now (rows2 .entry)) (now (rows3 .entry)) (now (rows4 .entry)))
+        ≡ largestProduct (boxesRead count widths (now (rows1 .entry)) (now (rows2 .entry)) (now (rows3 .entry)) (now (rows4 .entry)))
         (components (widths .m1) i))
         × AnyContent (now (bits .entry)) (now (bits .exit)) × AnyContent (now (out .entry)) (now (out .exit)) ⌝ }
 {
@@ -204,9 +204,9 @@ fn largest_product(
     rows4: &[u32],
     i: u32,
 ) -> Found
-    requires { ⌜ Round count (widths .m1) (read count widths (now rows1) (now rows2) (now rows3) (now rows4)) × (1 ≤ i) ⌝ }
+    requires { ⌜ Round count (widths .m1) (boxesRead count widths (now rows1) (now rows2) (now rows3) (now rows4)) × (1 ≤ i) ⌝ }
     ensures { λ r. ⌜ foundCandidate r
-        ≡ largestProduct (read count widths (now (rows1 .entry)) (now (rows2 .entry)) (now (rows3 .entry)) (now (rows4 .entry)))
+        ≡ largestProduct (boxesRead count widths (now (rows1 .entry)) (now (rows2 .entry)) (now (rows3 .entry)) (now (rows4 .entry)))
         (components (widths .m1) i) ⌝ }
 {
     let fixed = walsh::spectra();
@@ -231,17 +231,8 @@ fn highest(values: &[i32]) -> Top
     requires { ⌜ (0 < length (now values)) × (length (now values) ≤ 256) ⌝ }
     ensures { λ r. ⌜ Highest (now (values .entry)) r ⌝ }
 {
-    let mut most = boolean::magnitude(values[0]);
-    let mut place = 0;
-    let mut w = 1;
-    while w < values.len() {
-        let next = boolean::magnitude(values[w]);
-        if most < next {
-            most = next;
-            place = w;
-        }
-        w += 1;
-    }
+    let most = walsh::largest_magnitude(values);
+    let place = walsh::first_place(values, most);
     let sign = boolean::sign_bit(values[place]);
     Top {
         mask: place as u32,
@@ -249,10 +240,10 @@ fn highest(values: &[i32]) -> Top
     }
 }
 
-// The same of the spectrum of component c of a box, with an array for the spectrum lent.
+// The largest magnitude in the spectrum of component c of a box, with its first mask and the sign there; an array for the spectrum is lent.
 fn top_in(n: u32, m: u32, rows: &[u32], c: u32, array: &mut [i32]) -> Top
     requires { ⌜ Box n m (now rows) × (1 ≤ c) × (c < 2 ^ m) × (length (now array) ≡ 2 ^ n) ⌝ }
-    ensures reply { λ r. ⌜ TopOf (boxOf n m (now (rows .entry))) c r ⌝ }
+    ensures reply { λ r. ⌜ TopOf (summandOf n m (now (rows .entry))) c r ⌝ }
     ensures content { λ r. ⌜ now (array .exit) ≡ spectrum n (component (now (rows .entry)) c) ⌝ }
 {
     linear::spectrum_of_component(n, m, rows, c, array);
@@ -262,7 +253,7 @@ fn top_in(n: u32, m: u32, rows: &[u32], c: u32, array: &mut [i32]) -> Top
 // The same for a box that the sum has, and else the mask 0, with no sign.
 fn top_if(used: bool, n: u32, m: u32, rows: &[u32], c: u32) -> Top
     requires { ⌜ (used ≡ true → Box n m (now rows) × (c < 2 ^ m)) × (1 ≤ c) ⌝ }
-    ensures { λ r. ⌜ TopIf used (boxOf n m (now (rows .entry))) c r ⌝ }
+    ensures { λ r. ⌜ TopIf used (summandOf n m (now (rows .entry))) c r ⌝ }
 {
     if used {
         let mut values = [0i32; 256];
@@ -283,10 +274,10 @@ fn witness_at(
     rows4: &[u32],
     c: u32,
 ) -> Witness
-    requires { ⌜ Round count (widths .m1) (read count widths (now rows1) (now rows2) (now rows3) (now rows4))
+    requires { ⌜ Round count (widths .m1) (boxesRead count widths (now rows1) (now rows2) (now rows3) (now rows4))
         × (1 ≤ c) × (c < 2 ^ widths .m1) ⌝ }
     ensures { λ r. ⌜ WitnessOf
-        (read count widths (now (rows1 .entry)) (now (rows2 .entry)) (now (rows3 .entry)) (now (rows4 .entry))) count c r ⌝ }
+        (boxesRead count widths (now (rows1 .entry)) (now (rows2 .entry)) (now (rows3 .entry)) (now (rows4 .entry))) count c r ⌝ }
 {
     let t1 = top_if(true, widths.n1, widths.m1, rows1, c);
     let t2 = top_if(1 < count, widths.n2, widths.m2, rows2, c);
@@ -303,7 +294,7 @@ fn witness_at(
 
 // The checks of a box that the sum has.
 fn check_if(used: bool, n: u32, m: u32, rows: &[u32]) -> Checked
-    ensures { λ r. ⌜ r ≡ first (checksIf used (boxOf n m (now (rows .entry)))) ⌝ }
+    ensures { λ r. ⌜ r ≡ first (checksIf used (summandOf n m (now (rows .entry)))) ⌝ }
 {
     if used {
         refusals::check_box(n, m, rows)
@@ -323,7 +314,8 @@ fn check_boxes(
 ) -> Checked
     requires { ⌜ (1 ≤ count) × (count ≤ 4) ⌝ }
     ensures { λ r. ⌜ r
-        ≡ first (each (read count widths (now (rows1 .entry)) (now (rows2 .entry)) (now (rows3 .entry)) (now (rows4 .entry))) checksOf) ⌝ }
+        ≡ first (each (boxesRead count widths (now (rows1 .entry)) (now (rows2 .entry)) (now (rows3 .entry)) (now (rows4 .entry)))
+        summandChecks) ⌝ }
 {
     if let Checked::Refused(e) = refusals::check_box(widths.n1, widths.m1, rows1) {
         return Checked::Refused(e);
@@ -368,7 +360,8 @@ pub fn check_sum(
     i: u32,
 ) -> Checked
     ensures { λ r. ⌜ r
-        ≡ first (sumChecks count (handed widths (now (rows1 .entry)) (now (rows2 .entry)) (now (rows3 .entry)) (now (rows4 .entry))) i) ⌝ }
+        ≡ first (sumChecks count (summandsOf widths (now (rows1 .entry)) (now (rows2 .entry)) (now (rows3 .entry)) (now (rows4 .entry))) i)
+        ⌝ }
 {
     if !refusals::in_range(1, 4, count) {
         return Checked::Refused(Refusal::BoxCount);
@@ -415,7 +408,7 @@ pub fn sum_nonlinearity(
     i: u32,
 ) -> LeastSum
     ensures { λ r. ⌜ SumAnswer count r
-        (sumReply count (handed widths (now (rows1 .entry)) (now (rows2 .entry)) (now (rows3 .entry)) (now (rows4 .entry))) i) ⌝ }
+        (sumReply count (summandsOf widths (now (rows1 .entry)) (now (rows2 .entry)) (now (rows3 .entry)) (now (rows4 .entry))) i) ⌝ }
 {
     let checked = check_sum(count, widths, rows1, rows2, rows3, rows4, i);
     if let Checked::Refused(e) = checked {

@@ -3,6 +3,7 @@ use Prim.Native.Nat.{ℕ}
 use mathlib.Core.Path.{_≡_, refl, sym, ap}
 use mathlib.Core.List.{List, [], _∷_}
 use lib.ListN.{length}
+use Rattle.boolean.specs.Sums.{firstOf}
 use Rattle.boolean.specs.Selection.{Candidate, shown}
 use Rattle.refusals.specs.Table.{first, limitChecks}
 use Rattle.refusals.specs.declared.Checked.the-variants.{Accepted}
@@ -15,7 +16,7 @@ use Rattle.avalanche.specs.Calls.{distanceChecks}
 use Rattle.avalanche.proofs.Theorems.{autocorrelation-reported, distance-reported}
 use Rattle.algebraic.specs.Algebraic.{boxDegree}
 use Rattle.algebraic.proofs.Theorems.{degree-reported}
-use Rattle.swaps.specs.Swaps.{Swap, swaps, raises, firstOf, shownSwap, raised}
+use Rattle.swaps.specs.Swaps.{Swap, swaps, raises, shownSwap, raised}
 
 module _ (n m : ℕ) (rows : List ℕ) (i : ℕ) (accepted : first (limitChecks n m rows i) ≡ Accepted) where
   pub pair-size : length (shown (nonlinearity n m rows i)) ≡ 4

@@ -1,9 +1,16 @@
 // The calls for C and for everything that speaks C. A slice is a pointer and its number of elements. Every function returns 0 or the number
 // of a refusal, and its figures go to an array that is lent for them.
+mod giving;
+
+use algebraic::DegreeFound;
 use boxfile::BoxFile;
+use catalogue::Fetched;
 use catalogue::Told;
 use differential::CellList;
+use differential::LargestCell;
+use linear::LeastPair;
 use rounds::Widths;
+use swaps::RaisingSwap;
 ghost use mathlib.Core.List.{[], _∷_};
 ghost use Prim.Native.Nat.{_^_};
 ghost use lib.ListN.{length};
@@ -15,16 +22,16 @@ ghost use Rattle.linear.specs.Calls.{componentChecks};
 ghost use Rattle.linear.specs.Nonlinearity.{nonlinearityReply};
 ghost use Rattle.columns.specs.Addition.{additionChecks, addedRows};
 ghost use Rattle.differential.specs.XorTable.{xorRow, largestCells};
-ghost use Rattle.differential.specs.Calls.{rowChecks, xorReply, listAfter};
+ghost use Rattle.differential.specs.Calls.{rowChecks, largestCellReply, listAfter};
 ghost use Rattle.avalanche.specs.Calls.{autocorrelationReply, distanceReply, completeReply};
 ghost use Rattle.algebraic.specs.Calls.{boxDegreeReply, bijectiveReply};
 ghost use Rattle.constructions.specs.Enlargement.{enlargedTable, enlargedRows};
 ghost use Rattle.constructions.specs.BentForm.{bentTable};
 ghost use Rattle.constructions.specs.Calls.{columnChecks, enlargeChecks, bentChecks};
-ghost use Rattle.boxfile.specs.File.{rowsOf};
-ghost use Rattle.rounds.specs.Round.{boxOf, sumReply};
+ghost use Rattle.boxfile.specs.File.{fileRows};
+ghost use Rattle.rounds.specs.Round.{summandOf, sumReply};
 ghost use Rattle.swaps.specs.Swaps.{raisingReply};
-ghost use Rattle.answers.specs.Answers.{WroteOut, FiguresOut};
+ghost use Rattle.border.specs.Border.{WroteOut, FiguresOut};
 ghost use Rattle.satmegwo.specs.Exports.{cellsChecks, readBoxChecks, addRecordChecks};
 ghost use Rattle.catalogue.specs.Calls.{checkReply, fetchReply, catalogueChecks, indexChecks, gapFor, gapIndex, removed, added, compacted};
 ghost use Rattle.packing.specs.Packing.{packed as packedForm, unpacked, packChecks, unpackChecks};
@@ -35,7 +42,7 @@ pub extern "C" fn satmegwo_spectrum(n: u32, table: &[u8], out: &mut [i32]) -> u3
     ensures { λ r. ⌜ WroteOut (tableCallChecks n (now (table .entry)) (length (now (out .entry))))
         (spectrum n (at (now (table .entry)))) (now (out .entry)) r (now (out .exit)) ⌝ }
 {
-    answers::status_of(walsh::spectrum(n, table, out))
+    border::status_of(walsh::spectrum(n, table, out))
 }
 
 // The truth table of a spectrum.
@@ -44,7 +51,7 @@ pub extern "C" fn satmegwo_inverse_spectrum(n: u32, values: &[i32], table: &mut 
     ensures { λ r. ⌜ WroteOut (inverseChecks n (now (values .entry)) (length (now (table .entry))))
         (listBelow (2 ^ n) (λ x. inverse n (valueAt (now (values .entry))) x)) (now (table .entry)) r (now (table .exit)) ⌝ }
 {
-    answers::status_of(walsh::inverse_spectrum(n, values, table))
+    border::status_of(walsh::inverse_spectrum(n, values, table))
 }
 
 // The spectrum of component c of a box.
@@ -59,7 +66,7 @@ pub extern "C" fn satmegwo_component_spectrum(
     ensures { λ r. ⌜ WroteOut (componentChecks n m (now (rows .entry)) c (length (now (out .entry))))
         (spectrum n (component (now (rows .entry)) c)) (now (out .entry)) r (now (out .exit)) ⌝ }
 {
-    answers::status_of(linear::spectrum_of_component(n, m, rows, c, out))
+    border::status_of(linear::spectrum_of_component(n, m, rows, c, out))
 }
 
 // The nonlinearity of a box over its combinations of at most i outputs, with c, w and b.
@@ -73,11 +80,13 @@ pub extern "C" fn satmegwo_nonlinearity(
 ) -> u32
     ensures { λ r. ⌜ FiguresOut (nonlinearityReply n m (now (rows .entry)) i) (now (figures .entry)) r (now (figures .exit)) ⌝ }
 {
-    let room = figures.len();
-    if room != 4 {
-        return answers::number_for_room(refusals::check_limited(n, m, rows, i));
+    if figures.len() != 4 { // the count, c, w and b
+        return border::number_for_room(refusals::check_limited(n, m, rows, i));
     }
-    answers::give_pair(linear::nonlinearity(n, m, rows, i), figures)
+    match linear::nonlinearity(n, m, rows, i) {
+        LeastPair::Reached { count, c, w, b } => border::give(&[count, c, w, b], figures),
+        LeastPair::Declined(e) => refusals::number_of(e),
+    }
 }
 
 // Adds the affine function (w, b) to column j.
@@ -94,7 +103,7 @@ pub extern "C" fn satmegwo_add_to_column(
     ensures { λ r. ⌜ WroteOut (additionChecks n m (now (rows .entry)) j w b (length (now (out .entry))))
         (addedRows j w b (now (rows .entry))) (now (out .entry)) r (now (out .exit)) ⌝ }
 {
-    answers::status_of(columns::add_to_column(n, m, rows, j, w, b, out))
+    border::status_of(columns::add_to_column(n, m, rows, j, w, b, out))
 }
 
 // One row of the XOR table of a box of at most 16 outputs.
@@ -103,15 +112,18 @@ pub extern "C" fn satmegwo_xor_row(n: u32, m: u32, rows: &[u32], a: u32, counts:
     ensures { λ r. ⌜ WroteOut (rowChecks n m (now (rows .entry)) a (length (now (counts .entry))))
         (xorRow n m (now (rows .entry)) a) (now (counts .entry)) r (now (counts .exit)) ⌝ }
 {
-    answers::status_of(differential::xor_row(n, m, rows, a, counts))
+    border::status_of(differential::xor_row(n, m, rows, a, counts))
 }
 
 // The largest cell of the XOR table, with a and beta.
 #[no_mangle]
 pub extern "C" fn satmegwo_largest_cell(n: u32, m: u32, rows: &[u32], figures: &mut [u32]) -> u32
-    ensures { λ r. ⌜ FiguresOut (xorReply n m (now (rows .entry))) (now (figures .entry)) r (now (figures .exit)) ⌝ }
+    ensures { λ r. ⌜ FiguresOut (largestCellReply n m (now (rows .entry))) (now (figures .entry)) r (now (figures .exit)) ⌝ }
 {
-    answers::give_cell(differential::largest_cell(n, m, rows), figures)
+    match differential::largest_cell(n, m, rows) {
+        LargestCell::Reached { count, a, beta } => border::give(&[count, a, beta], figures),
+        LargestCell::Declined(e) => refusals::number_of(e),
+    }
 }
 
 // The list of all cells that reach the largest count, by ascending a, then beta. It is written to only where its number can be given too.
@@ -128,11 +140,11 @@ pub extern "C" fn satmegwo_largest_cells(
     ensures cells { λ r. ⌜ WroteOut (cellsChecks n m (now (rows .entry)) (length (now (figures .entry))) (length (now (list .entry))))
         (listAfter (largestCells n m (now (rows .entry))) (now (list .entry))) (now (list .entry)) r (now (list .exit)) ⌝ }
 {
-    if figures.len() != 1 {
-        return answers::number_for_room(refusals::check_box(n, m, rows));
+    if figures.len() != 1 { // the number of cells
+        return border::number_for_room(refusals::check_box(n, m, rows));
     }
     match differential::largest_cells(n, m, rows, list) {
-        CellList::Listed { count } => answers::give(&[count], figures),
+        CellList::Listed { count } => border::give(&[count], figures),
         CellList::Unlisted(e) => refusals::number_of(e),
     }
 }
@@ -148,11 +160,10 @@ pub extern "C" fn satmegwo_autocorrelation(
 ) -> u32
     ensures { λ r. ⌜ FiguresOut (autocorrelationReply n m (now (rows .entry)) i) (now (figures .entry)) r (now (figures .exit)) ⌝ }
 {
-    let room = figures.len();
-    if room != 3 {
-        return answers::number_for_room(refusals::check_limited(n, m, rows, i));
+    if figures.len() != 3 { // the figure, c and s
+        return border::number_for_room(refusals::check_limited(n, m, rows, i));
     }
-    answers::give_change(avalanche::autocorrelation(n, m, rows, i), figures)
+    giving::give_change(avalanche::autocorrelation(n, m, rows, i), figures)
 }
 
 // The dynamic distance of order (i, j), doubled, with c and d.
@@ -167,11 +178,10 @@ pub extern "C" fn satmegwo_dynamic_distance(
 ) -> u32
     ensures { λ r. ⌜ FiguresOut (distanceReply n m (now (rows .entry)) i j) (now (figures .entry)) r (now (figures .exit)) ⌝ }
 {
-    let room = figures.len();
-    if room != 3 {
-        return answers::number_for_room(avalanche::check_distance(n, m, rows, i, j));
+    if figures.len() != 3 { // the doubled distance, c and d
+        return border::number_for_room(avalanche::check_distance(n, m, rows, i, j));
     }
-    answers::give_change(avalanche::dynamic_distance(n, m, rows, i, j), figures)
+    giving::give_change(avalanche::dynamic_distance(n, m, rows, i, j), figures)
 }
 
 // The normal form of a truth table.
@@ -180,7 +190,7 @@ pub extern "C" fn satmegwo_normal_form(n: u32, table: &[u8], out: &mut [u8]) -> 
     ensures { λ r. ⌜ WroteOut (tableCallChecks n (now (table .entry)) (length (now (out .entry))))
         (normalForm n (at (now (table .entry)))) (now (out .entry)) r (now (out .exit)) ⌝ }
 {
-    answers::status_of(algebraic::normal_form(n, table, out))
+    border::status_of(algebraic::normal_form(n, table, out))
 }
 
 // The least degree of the combinations of at most i outputs, with c.
@@ -188,11 +198,13 @@ pub extern "C" fn satmegwo_normal_form(n: u32, table: &[u8], out: &mut [u8]) -> 
 pub extern "C" fn satmegwo_degree(n: u32, m: u32, rows: &[u32], i: u32, figures: &mut [u32]) -> u32
     ensures { λ r. ⌜ FiguresOut (boxDegreeReply n m (now (rows .entry)) i) (now (figures .entry)) r (now (figures .exit)) ⌝ }
 {
-    let room = figures.len();
-    if room != 2 {
-        return answers::number_for_room(refusals::check_limited(n, m, rows, i));
+    if figures.len() != 2 { // the degree and c
+        return border::number_for_room(refusals::check_limited(n, m, rows, i));
     }
-    answers::give_degree(algebraic::degree(n, m, rows, i), figures)
+    match algebraic::degree(n, m, rows, i) {
+        DegreeFound::Reached { degree, c } => border::give(&[degree, c], figures),
+        DegreeFound::Declined(e) => refusals::number_of(e),
+    }
 }
 
 // Whether every input bit changes every column.
@@ -200,7 +212,7 @@ pub extern "C" fn satmegwo_degree(n: u32, m: u32, rows: &[u32], i: u32, figures:
 pub extern "C" fn satmegwo_complete(n: u32, m: u32, rows: &[u32], figures: &mut [u32]) -> u32
     ensures { λ r. ⌜ FiguresOut (completeReply n m (now (rows .entry))) (now (figures .entry)) r (now (figures .exit)) ⌝ }
 {
-    answers::give_verdict(avalanche::is_complete(n, m, rows), figures)
+    giving::give_verdict(avalanche::is_complete(n, m, rows), figures)
 }
 
 // Whether n = m and no two rows are equal.
@@ -208,7 +220,7 @@ pub extern "C" fn satmegwo_complete(n: u32, m: u32, rows: &[u32], figures: &mut 
 pub extern "C" fn satmegwo_bijective(n: u32, m: u32, rows: &[u32], figures: &mut [u32]) -> u32
     ensures { λ r. ⌜ FiguresOut (bijectiveReply n m (now (rows .entry))) (now (figures .entry)) r (now (figures .exit)) ⌝ }
 {
-    answers::give_verdict(algebraic::is_bijective(n, m, rows), figures)
+    giving::give_verdict(algebraic::is_bijective(n, m, rows), figures)
 }
 
 // A column with one more input.
@@ -223,7 +235,7 @@ pub extern "C" fn satmegwo_enlarge_column(
     ensures { λ r. ⌜ WroteOut (columnChecks n (now (table .entry)) k a (length (now (out .entry))))
         (enlargedTable n (now (table .entry)) k a) (now (out .entry)) r (now (out .exit)) ⌝ }
 {
-    answers::status_of(constructions::enlarge_column(n, table, k, a, out))
+    border::status_of(constructions::enlarge_column(n, table, k, a, out))
 }
 
 // A box with one more input and one more output.
@@ -238,7 +250,7 @@ pub extern "C" fn satmegwo_enlarge_box(
     ensures { λ r. ⌜ WroteOut (enlargeChecks n (now (rows .entry)) (now (table .entry)) k (length (now (out .entry))))
         (enlargedRows n (now (rows .entry)) (now (table .entry)) k) (now (out .entry)) r (now (out .exit)) ⌝ }
 {
-    answers::status_of(constructions::enlarge_box(n, rows, table, k, out))
+    border::status_of(constructions::enlarge_box(n, rows, table, k, out))
 }
 
 // A bent function.
@@ -252,7 +264,7 @@ pub extern "C" fn satmegwo_bent_function(
     ensures { λ r. ⌜ WroteOut (bentChecks n (now (permutation .entry)) (now (table .entry)) (length (now (out .entry))))
         (bentTable n (now (permutation .entry)) (now (table .entry))) (now (out .entry)) r (now (out .exit)) ⌝ }
 {
-    answers::status_of(constructions::bent_function(n, permutation, table, out))
+    border::status_of(constructions::bent_function(n, permutation, table, out))
 }
 
 // Reads a box file: the rows go to one array, n and m to another. Neither is written to unless both can be.
@@ -261,13 +273,13 @@ pub extern "C" fn satmegwo_read_box(file: &[u8], rows: &mut [u32], figures: &mut
     ensures widths { λ r. ⌜ WroteOut (readBoxChecks (now (file .entry)) (length (now (rows .entry))) (length (now (figures .entry))))
         (at (now (file .entry)) 0 ∷ at (now (file .entry)) 1 ∷ []) (now (figures .entry)) r (now (figures .exit)) ⌝ }
     ensures rows { λ r. ⌜ WroteOut (readBoxChecks (now (file .entry)) (length (now (rows .entry))) (length (now (figures .entry))))
-        (rowsOf (now (file .entry)) (at (now (file .entry)) 0)) (now (rows .entry)) r (now (rows .exit)) ⌝ }
+        (fileRows (now (file .entry)) (at (now (file .entry)) 0)) (now (rows .entry)) r (now (rows .exit)) ⌝ }
 {
-    if figures.len() != 2 {
-        return answers::number_for_room(boxfile::check_file(file, rows.len()));
+    if figures.len() != 2 { // n and m
+        return border::number_for_room(boxfile::check_file(file, rows.len()));
     }
     match boxfile::read_box(file, rows) {
-        BoxFile::Read { n, m } => answers::give(&[n, m], figures),
+        BoxFile::Read { n, m } => border::give(&[n, m], figures),
         BoxFile::Declined(e) => refusals::number_of(e),
     }
 }
@@ -292,8 +304,9 @@ pub extern "C" fn satmegwo_sum_nonlinearity(
     i: u32,
     figures: &mut [u32],
 ) -> u32
-    ensures { λ r. ⌜ FiguresOut (sumReply count (boxOf n1 m1 (now (rows1 .entry)) ∷ boxOf n2 m2 (now (rows2 .entry))
-        ∷ boxOf n3 m3 (now (rows3 .entry)) ∷ boxOf n4 m4 (now (rows4 .entry)) ∷ []) i) (now (figures .entry)) r (now (figures .exit)) ⌝ }
+    ensures { λ r. ⌜ FiguresOut (sumReply count (summandOf n1 m1 (now (rows1 .entry)) ∷ summandOf n2 m2 (now (rows2 .entry))
+        ∷ summandOf n3 m3 (now (rows3 .entry)) ∷ summandOf n4 m4 (now (rows4 .entry)) ∷ []) i) (now (figures .entry)) r
+        (now (figures .exit)) ⌝ }
 {
     let widths = Widths {
         n1,
@@ -307,10 +320,10 @@ pub extern "C" fn satmegwo_sum_nonlinearity(
     };
     if figures.len() != 3 + count as usize {
         let found = rounds::check_sum(count, widths, rows1, rows2, rows3, rows4, i);
-        return answers::number_for_room(found);
+        return border::number_for_room(found);
     }
     let answer = rounds::sum_nonlinearity(count, widths, rows1, rows2, rows3, rows4, i);
-    answers::give_sum(count, answer, figures)
+    giving::give_sum(count, answer, figures)
 }
 
 // Checks a catalogue: the number of its records.
@@ -318,7 +331,10 @@ pub extern "C" fn satmegwo_sum_nonlinearity(
 pub extern "C" fn satmegwo_check_catalogue(catalogue: &[u8], figures: &mut [u32]) -> u32
     ensures { λ r. ⌜ FiguresOut (checkReply (now (catalogue .entry))) (now (figures .entry)) r (now (figures .exit)) ⌝ }
 {
-    answers::give_number(catalogue::check(catalogue), figures)
+    match catalogue::check(catalogue) {
+        Told::Number(records) => border::give(&[records], figures),
+        Told::Declined(e) => refusals::number_of(e),
+    }
 }
 
 // Adds a box file to a catalogue: the index of the new record. The catalogue is written to only where the index can be given too.
@@ -329,11 +345,11 @@ pub extern "C" fn satmegwo_add_record(catalogue: &mut [u8], file: &[u8], figures
     ensures records { λ r. ⌜ WroteOut (addRecordChecks (now (catalogue .entry)) (now (file .entry)) (length (now (figures .entry))))
         (added (now (catalogue .entry)) (now (file .entry))) (now (catalogue .entry)) r (now (catalogue .exit)) ⌝ }
 {
-    if 1 != figures.len() {
-        return answers::number_for_room(catalogue::check_offered(catalogue, file));
+    if figures.len() != 1 { // the index
+        return border::number_for_room(catalogue::check_offered(catalogue, file));
     }
     match catalogue::add(catalogue, file) {
-        Told::Number(index) => answers::give(&[index], figures),
+        Told::Number(index) => border::give(&[index], figures),
         Told::Declined(e) => refusals::number_of(e),
     }
 }
@@ -344,7 +360,7 @@ pub extern "C" fn satmegwo_remove_record(catalogue: &mut [u8], index: u32) -> u3
     ensures { λ r. ⌜ WroteOut (indexChecks (now (catalogue .entry)) index)
         (removed (now (catalogue .entry)) index) (now (catalogue .entry)) r (now (catalogue .exit)) ⌝ }
 {
-    answers::status_of(catalogue::remove(catalogue, index))
+    border::status_of(catalogue::remove(catalogue, index))
 }
 
 // Where a record of a catalogue lies, and its length.
@@ -352,7 +368,10 @@ pub extern "C" fn satmegwo_remove_record(catalogue: &mut [u8], index: u32) -> u3
 pub extern "C" fn satmegwo_fetch_record(catalogue: &[u8], index: u32, figures: &mut [u32]) -> u32
     ensures { λ r. ⌜ FiguresOut (fetchReply (now (catalogue .entry)) index) (now (figures .entry)) r (now (figures .exit)) ⌝ }
 {
-    answers::give_place(catalogue::fetch_status(catalogue, index), figures)
+    match catalogue::fetch_status(catalogue, index) {
+        Fetched::Lies { offset, size } => border::give(&[offset, size], figures),
+        Fetched::Unfetched(e) => refusals::number_of(e),
+    }
 }
 
 // Compacts a catalogue.
@@ -361,7 +380,7 @@ pub extern "C" fn satmegwo_compact_catalogue(catalogue: &mut [u8]) -> u32
     ensures { λ r. ⌜ WroteOut (catalogueChecks (now (catalogue .entry)))
         (compacted (now (catalogue .entry))) (now (catalogue .entry)) r (now (catalogue .exit)) ⌝ }
 {
-    answers::status_of(catalogue::compact(catalogue))
+    border::status_of(catalogue::compact(catalogue))
 }
 
 // The columns of a box, packed for the mask.
@@ -370,7 +389,7 @@ pub extern "C" fn satmegwo_pack_columns(n: u32, m: u32, rows: &[u32], packed: &m
     ensures { λ r. ⌜ WroteOut (packChecks n m (now (rows .entry)) (length (now (packed .entry))))
         (packedForm n m (now (rows .entry))) (now (packed .entry)) r (now (packed .exit)) ⌝ }
 {
-    answers::status_of(packing::pack(n, m, rows, packed))
+    border::status_of(packing::pack(n, m, rows, packed))
 }
 
 // The rows of packed columns.
@@ -379,7 +398,7 @@ pub extern "C" fn satmegwo_unpack_columns(n: u32, m: u32, packed: &[u8], rows: &
     ensures { λ r. ⌜ WroteOut (unpackChecks n m (now (packed .entry)) (length (now (rows .entry))))
         (unpacked n m (now (packed .entry))) (now (rows .entry)) r (now (rows .exit)) ⌝ }
 {
-    answers::status_of(packing::unpack(n, m, packed, rows))
+    border::status_of(packing::unpack(n, m, packed, rows))
 }
 
 // The first swap of two unlike rows that raises the nonlinearity over all combinations: 1, both inputs and the new figure, or four zeros
@@ -388,9 +407,12 @@ pub extern "C" fn satmegwo_unpack_columns(n: u32, m: u32, packed: &[u8], rows: &
 pub extern "C" fn satmegwo_raising_swap(n: u32, m: u32, rows: &[u32], figures: &mut [u32]) -> u32
     ensures { λ r. ⌜ FiguresOut (raisingReply n m (now (rows .entry))) (now (figures .entry)) r (now (figures .exit)) ⌝ }
 {
-    let size = figures.len();
-    if size != 4 {
-        return answers::number_for_room(refusals::check_box_up_to(8, n, m, rows));
+    if figures.len() != 4 { // 1, x, y and the new figure
+        return border::number_for_room(refusals::check_box_up_to(8, n, m, rows));
     }
-    answers::give_swap(swaps::raising_swap(n, m, rows), figures)
+    match swaps::raising_swap(n, m, rows) {
+        RaisingSwap::Raised { low, high, figure } => border::give(&[1, low, high, figure], figures),
+        RaisingSwap::NoSwap => border::give(&[0u32, 0, 0, 0], figures),
+        RaisingSwap::Declined(e) => refusals::number_of(e),
+    }
 }

@@ -4,14 +4,14 @@ use mathlib.Core.Path.{_≡_, refl}
 use mathlib.Core.Bool.{Bool, true, false}
 use mathlib.Core.List.{[], _∷_}
 use lib.Dec.{eqb}
-use Rattle.refusals.specs.Table.{_unless_, first, Reply, refusal, number, inRange, written}
+use Rattle.refusals.specs.Table.{_unless_, first, Reply, refusal, number, inRange, saidWritten}
 use Rattle.refusals.specs.declared.Refusal.{Refusal}
 use Rattle.refusals.specs.declared.Refusal.the-variants.{InputWidth, OutputWidth, ReadLength, Value, Permutation, Parameter, WrittenLength, NoFunction, ListTooShort, FileLength, BoxCount, OutputWidths, Catalogue, NoRoom, NoRecord, UnusedBit, UnsetMark, NoPlace, PlaceState}
 use Rattle.refusals.specs.declared.Written.{Written}
 use Rattle.refusals.specs.declared.Written.the-variants.{Done, Declined}
 use Rattle.design.specs.declared.Design.{Design}
-use Rattle.design.specs.Model.{State, readChecks}
-use Rattle.answers.specs.Answers.{status, roomNumber}
+use Rattle.design.specs.Model.{DesignState, designReadChecks}
+use Rattle.border.specs.Border.{status, roomNumber}
 use Rattle.satmegwo_design.specs.Exports.{numberSays}
 
 -- no refusal has the number 0
@@ -36,7 +36,7 @@ says-refusal UnsetMark = refl
 says-refusal NoPlace = refl
 says-refusal PlaceState = refl
 
-pub says-answer : (answer : Written) → numberSays (status (written answer)) ≡ written answer
+pub says-answer : (answer : Written) → numberSays (status (saidWritten answer)) ≡ saidWritten answer
 unfolding status
 says-answer Done = refl
 says-answer (Declined e) = says-refusal e
@@ -52,6 +52,6 @@ by-seven true false = refl
 by-seven false b = refl
 
 -- reading is refused by 7 alone, so the array for n and m may be looked at first
-pub only-seven : (s : State) (room : ℕ) → number WrittenLength ≡ roomNumber (first (readChecks s room))
-unfolding readChecks
+pub only-seven : (s : DesignState) (room : ℕ) → number WrittenLength ≡ roomNumber (first (designReadChecks s room))
+unfolding designReadChecks
 only-seven s room = by-seven (inRange 1 8 (s .n)) (eqb room (2 ^ s .n))

@@ -6,8 +6,8 @@ use design::Design;
 use design::Tuned;
 use refusals::Refusal;
 ghost use mathlib.Core.Path.{_≡_};
-ghost use Rattle.refusals.specs.Table.{written};
-ghost use Rattle.design.specs.Calls.{Begun, Swapped, Added, Marked, Returned};
+ghost use Rattle.refusals.specs.Table.{saidWritten};
+ghost use Rattle.design.specs.Calls.{DesignBegun, DesignSwapped, DesignAdded, DesignMarked, DesignReturned};
 ghost use Rattle.satmegwo_design.specs.Exports.{numberSays, ReadOut};
 
 // The design after an operation, with 0 or the number of the refusal.
@@ -19,18 +19,18 @@ pub struct Outcome {
 
 // An operation's answer as a number.
 fn numbered(tuned: Tuned) -> Outcome
-    ensures { λ r. ⌜ (r .design ≡ tuned .design) × (numberSays (r .status) ≡ written (tuned .answer)) ⌝ }
+    ensures { λ r. ⌜ (r .design ≡ tuned .design) × (numberSays (r .status) ≡ saidWritten (tuned .answer)) ⌝ }
 {
     let design = tuned.design;
     let answer = tuned.answer;
-    let status = answers::status_of(answer);
+    let status = border::status_of(answer);
     Outcome { design, status }
 }
 
 // A design of this box, with no mark set. Refused, it is a design without a box.
 #[no_mangle]
 pub extern "C" fn satmegwo_design_begin(n: u32, m: u32, rows: &[u32]) -> Outcome
-    ensures { λ r. ⌜ Begun n m (now (rows .entry)) (numberSays (r .status)) (r .design) ⌝ }
+    ensures { λ r. ⌜ DesignBegun n m (now (rows .entry)) (numberSays (r .status)) (r .design) ⌝ }
 {
     numbered(Design::begin(n, m, rows))
 }
@@ -38,7 +38,7 @@ pub extern "C" fn satmegwo_design_begin(n: u32, m: u32, rows: &[u32]) -> Outcome
 // Exchanges the rows of inputs x and y.
 #[no_mangle]
 pub extern "C" fn satmegwo_design_swap(design: Design, x: u32, y: u32) -> Outcome
-    ensures { λ r. ⌜ Swapped design x y (numberSays (r .status)) (r .design) ⌝ }
+    ensures { λ r. ⌜ DesignSwapped design x y (numberSays (r .status)) (r .design) ⌝ }
 {
     numbered(design.swap(x, y))
 }
@@ -46,7 +46,7 @@ pub extern "C" fn satmegwo_design_swap(design: Design, x: u32, y: u32) -> Outcom
 // Adds the affine function (w, b) to column j.
 #[no_mangle]
 pub extern "C" fn satmegwo_design_add(design: Design, j: u32, w: u32, b: u32) -> Outcome
-    ensures { λ r. ⌜ Added design j w b (numberSays (r .status)) (r .design) ⌝ }
+    ensures { λ r. ⌜ DesignAdded design j w b (numberSays (r .status)) (r .design) ⌝ }
 {
     numbered(design.add(j, w, b))
 }
@@ -54,7 +54,7 @@ pub extern "C" fn satmegwo_design_add(design: Design, j: u32, w: u32, b: u32) ->
 // Sets mark k: it keeps the box of this moment.
 #[no_mangle]
 pub extern "C" fn satmegwo_design_mark(design: Design, k: u32) -> Outcome
-    ensures { λ r. ⌜ Marked design k (numberSays (r .status)) (r .design) ⌝ }
+    ensures { λ r. ⌜ DesignMarked design k (numberSays (r .status)) (r .design) ⌝ }
 {
     numbered(design.mark(k))
 }
@@ -62,7 +62,7 @@ pub extern "C" fn satmegwo_design_mark(design: Design, k: u32) -> Outcome
 // Brings back the box of mark k; all marks remain.
 #[no_mangle]
 pub extern "C" fn satmegwo_design_return(design: Design, k: u32) -> Outcome
-    ensures { λ r. ⌜ Returned design k (numberSays (r .status)) (r .design) ⌝ }
+    ensures { λ r. ⌜ DesignReturned design k (numberSays (r .status)) (r .design) ⌝ }
 {
     numbered(design.return_to(k))
 }
@@ -76,7 +76,7 @@ pub extern "C" fn satmegwo_design_read(design: Design, rows: &mut [u32], figures
         return refusals::number_of(Refusal::WrittenLength);
     }
     match design.read_box(rows) {
-        BoxHeld::Given { n, m } => answers::give(&[n, m], figures),
+        BoxHeld::Given { n, m } => border::give(&[n, m], figures),
         BoxHeld::Declined(e) => refusals::number_of(e),
     }
 }

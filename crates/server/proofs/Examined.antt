@@ -10,7 +10,7 @@ use native.Mathlib.Decide.{ℕ-discrete}
 use borrow.Author.Tests.{leb-true, le-leb, lt-leb}
 use lib.Dec.{leb}
 use Rattle.boolean.specs.Sums.{listFrom, keep, each}
-use Rattle.boolean.specs.Functions.{components, Within}
+use Rattle.boolean.specs.Functions.{components, MaskWithin}
 use Rattle.boolean.proofs.Components.{in-components, mem-components, ascending-components, whole-within}
 use Rattle.boolean.proofs.Kept.{keep-takes, keep-drops, mem-keep, in-keep, ascending-keep}
 use Rattle.boolean.proofs.Lists.{mem-listFrom, in-listFrom, ascending-listFrom}
@@ -44,7 +44,7 @@ module _ (m : ℕ) where
   unfolding examinedOf
   examined-has k c l h j = in-keep (λ c. leb c k) (components m m) c (in-components m m c (whole-within m c l j)) (le-leb c k h)
 
-  pub was-examined : (k c : ℕ) → List·Memᴰ c (examinedOf m k) → Within m (2 ^ m) c × (c ≤ k)
+  pub was-examined : (k c : ℕ) → List·Memᴰ c (examinedOf m k) → MaskWithin m (2 ^ m) c × (c ≤ k)
   unfolding examinedOf
   was-examined k c h = let t = mem-keep (λ c. leb c k) (components m m) c h in (mem-components m m c (t .0), leb-true c k (t .1))
 
@@ -59,7 +59,7 @@ module _ (m : ℕ) where
         (λ e. examined-has (suc k) c (omega arith) (omega arith) (omega arith)),
   )
     where
-      split : Within m (2 ^ m) c × (c ≤ suc k) → Dec (c ≡ suc k) → List·Memᴰ c (examinedOf m k) ⊎ (c ≡ suc k)
+      split : MaskWithin m (2 ^ m) c × (c ≤ suc k) → Dec (c ≡ suc k) → List·Memᴰ c (examinedOf m k) ⊎ (c ≡ suc k)
       split t (yes e) = inr e
       split t (no e) = inl (examined-has k c (t .0 .low) (omega (arith, t .1)) (t .0 .high))
 

@@ -9,7 +9,7 @@ use Rattle.boolean.proofs.Lists.{each-append, listFrom-more}
 use Rattle.boolean.proofs.Selection.{best-append}
 use Rattle.masks.specs.Masks.{outputs}
 use Rattle.masks.proofs.Fewest.{least-visited}
-use Rattle.linear.specs.Calls.{candidate}
+use Rattle.linear.specs.Calls.{pairCandidate}
 use Rattle.linear.proofs.Nearest.{blocks, nearestOf, least-le}
 use Rattle.server.specs.Model.{among, heldOf}
 use Rattle.server.proofs.Examined.{visit-examined}

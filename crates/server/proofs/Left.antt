@@ -15,10 +15,10 @@ use Rattle.boolean.specs.Sums.{totalBelow}
 use Rattle.boolean.specs.Selection.{Candidate}
 use Rattle.boolean.proofs.Counts.{total-cong, total-le}
 use Rattle.refusals.proofs.Bounds.{range-high}
-use Rattle.linear.specs.Calls.{candidate}
-use Rattle.server.specs.Model.{Analysis, Spot, empty, holds, State, spotAt, more, unfinished, circle, served, step}
+use Rattle.linear.specs.Calls.{pairCandidate}
+use Rattle.server.specs.Model.{Analysis, Spot, empty, holds, ServerState, spotAt, more, unfinished, roundRobin, served, step}
 use Rattle.server.specs.declared.Place.{Place}
-use Rattle.server.specs.Calls.{boxOf, rowsOf, spot, oneMore}
+use Rattle.server.specs.Calls.{analysisIn, placeRows, spotIn, oneMore}
 use Rattle.server.proofs.Circle.{found-high}
 use Rattle.server.proofs.Places.{spot-box, more-left, more-is, unfinished-holds, unfinished-taken, unfinished-inside}
 use Rattle.server.proofs.Steps.{served-left}
@@ -28,7 +28,7 @@ abbrev pub leftOf : Spot → ℕ
 leftOf empty = 0
 leftOf (holds a) = cond (more a) (2 ^ a .m - 1 - a .examined) 0
 
-unfoldable pub leftIn : State → ℕ
+unfoldable pub leftIn : ServerState → ℕ
 unfolding totalBelow
 leftIn s = totalBelow 8 (λ i. leftOf (getD (s .spots) i empty))
 
@@ -96,22 +96,22 @@ left-next a rows found h = go (decLt (suc (a .examined)) (2 ^ a .m - 1))
         omega (arith, e, left-more a h, t .left)
 
 -- of a place that a step serves, one less is left
-pub fewer : (p : Place) → unfinished (spot p) ≡ true → suc (leftOf (spot (oneMore p))) ≡ leftOf (spot p)
+pub fewer : (p : Place) → unfinished (spotIn p) ≡ true → suc (leftOf (spotIn (oneMore p))) ≡ leftOf (spotIn p)
 unfolding oneMore
 fewer p u =
     let t = unfinished-taken p u in
     let is = spot-box p t in
     ap (λ (y : Spot). suc (leftOf y)) (spot-box (oneMore p) t)
-    ∙ ap (λ (k : ℕ). suc (leftOf (holds (record { n = p .n; m = p .m; rows = rowsOf p; examined = k; found = candidate (oneMore p .found) })))) (add-one (p .examined))
-    ∙ left-next (boxOf p) (rowsOf p) (candidate (oneMore p .found)) (sym (ap unfinished is) ∙ u) ∙ ap leftOf (sym is)
+    ∙ ap (λ (k : ℕ). suc (leftOf (holds (record { n = p .n; m = p .m; rows = placeRows p; examined = k; found = pairCandidate (oneMore p .found) })))) (add-one (p .examined))
+    ∙ left-next (analysisIn p) (placeRows p) (pairCandidate (oneMore p .found)) (sym (ap unfinished is) ∙ u) ∙ ap leftOf (sym is)
 
 -- ---- all places
-pub left-bound : (s : State) → leftIn s ≤ 8 * 65535
+pub left-bound : (s : ServerState) → leftIn s ≤ 8 * 65535
 unfolding leftIn
 left-bound s = total-le 8 65535 (λ i. leftOf (getD (s .spots) i empty)) (λ i l. left-few (getD (s .spots) i empty))
 
 -- where the box on place i + 1 has one combination less left, so has the server
-pub left-less : (s : State) (i : ℕ) (x : Spot) (last : ℕ) → i < 8 → unfinished (getD (s .spots) i empty) ≡ true
+pub left-less : (s : ServerState) (i : ℕ) (x : Spot) (last : ℕ) → i < 8 → unfinished (getD (s .spots) i empty) ≡ true
     → suc (leftOf x) ≡ leftOf (getD (s .spots) i empty)
     → suc (leftIn (record { spots = set (s .spots) i x; last = last })) ≡ leftIn s
 unfolding leftIn
@@ -120,14 +120,14 @@ left-less s i x last l u e =
     (ap (λ (y : Spot). suc (leftOf y)) (getD-set-same (s .spots) i x empty (unfinished-inside (s .spots) i u)) ∙ e)
     (λ j h. ap leftOf (getD-set-other (s .spots) i j x empty h))
 
-pub served-high : (s : State) → served s ≤ 8
-unfolding served circle
+pub served-high : (s : ServerState) → served s ≤ 8
+unfolding served roundRobin
 served-high s =
     let high : (k : ℕ) → (s .last + k) % 8 + 1 ≤ 8 = λ k. omega arith in
     found-high (λ p. unfinished (spotAt s p)) high 0 8
 
 -- where nothing is left, none is unfinished
-pub left-none : (s : State) → leftIn s ≡ 0 → served s ≡ 0
+pub left-none : (s : ServerState) → leftIn s ≡ 0 → served s ≡ 0
 unfolding leftIn
 left-none s h = go (ℕ-discrete (served s) 0)
   where

@@ -1,7 +1,7 @@
 -- What is held of a box of which k combinations were examined: the least count among exactly those, with the first pair that has it.
 -- Assumes nothing.
 use Prim.Native.Nat.{ℕ, suc, _+_, _*_, _^_, _≤_, _<_}
-use mathlib.Core.Path.{_≡_, sym, ap}
+use mathlib.Core.Path.{_≡_, sym, ap, refl}
 use mathlib.Core.List.{List, [], _∷_, List·Memᴰ, List·Memᴰ·not-nil}
 use native.Mathlib.Nat.{suc-mul}
 use native.Mathlib.Omega.{arith}
@@ -9,11 +9,11 @@ use lib.Dec.{leb}
 use lib.Pow.{pow-pos}
 use Rattle.boolean.specs.Sums.{each}
 use Rattle.boolean.specs.Functions.{components, maskRank}
-use Rattle.boolean.specs.Selection.{Candidate, firstLeast, Ascending, First}
+use Rattle.boolean.specs.Selection.{Candidate, firstLeast, Ascending, FirstIn}
 use Rattle.boolean.proofs.Components.{ascending-components, first-mask}
 use Rattle.boolean.proofs.Kept.{ascending-keep}
 use Rattle.boolean.proofs.Lists.{mem-each, in-each, ascending-blocks}
-use Rattle.boolean.proofs.Selection.{firstLeast-le, firstLeast-mem, firstLeast-first, first-ranked}
+use Rattle.boolean.proofs.Selection.{firstLeast-chooses, first-ranked}
 use Rattle.linear.specs.Nonlinearity.{pair, pairsOf}
 use Rattle.linear.specs.Statements.{IsPair, pairRank}
 use Rattle.linear.proofs.Pairs.{before-rank, in-pairsOf, mem-pairsOf, ascending-pairsOf}
@@ -23,9 +23,9 @@ use Rattle.server.proofs.Examined.{examined-has, was-examined}
 
 -- the first least of candidates that there are
 chosen : (x : Candidate) (l : List Candidate) → List·Memᴰ x l
-    → List·Memᴰ (firstLeast l) l × First (λ r p. r .figure < p .figure) (firstLeast l) l
+    → List·Memᴰ (firstLeast l) l × FirstIn (λ r p. r .figure < p .figure) (firstLeast l) l
 chosen x [] h = absurd (List·Memᴰ·not-nil h)
-chosen x (c ∷ cs) h = (firstLeast-mem c cs, firstLeast-first c cs)
+chosen x (c ∷ cs) h = (firstLeast-chooses .mem refl, firstLeast-chooses .early refl)
 
 module _ (n m : ℕ) (rows : List ℕ) (k : ℕ) where
   abbrev candidates : List Candidate
@@ -49,7 +49,7 @@ module _ (n m : ℕ) (rows : List ℕ) (k : ℕ) where
 
   -- from the pair that was chosen
   built : (c w b : ℕ) → IsPair n m m c w b → c ≤ k → firstLeast candidates ≡ pair n rows c w b
-      → First (λ r p. r .figure < p .figure) (firstLeast candidates) candidates → HeldSoFar n m rows k
+      → FirstIn (λ r p. r .figure < p .figure) (firstLeast candidates) candidates → HeldSoFar n m rows k
   unfolding among
   built c w b p l is first = record {
     d = firstLeast candidates .figure;
@@ -57,7 +57,7 @@ module _ (n m : ℕ) (rows : List ℕ) (k : ℕ) where
     w = w;
     b = b;
     holds = ap (λ (p : Candidate). record { figure = firstLeast candidates .figure; witness = p .witness }) is;
-    least = λ c w b l h. firstLeast-le candidates (pair n rows c w b) (is-in c w b l h);
+    least = λ c w b l h. firstLeast-chooses .all candidates (pair n rows c w b) (is-in c w b l h);
     examined = l;
     member = p;
     reached = sym (ap (λ (p : Candidate). p .figure) is);

@@ -10,7 +10,7 @@ use lib.Seq.{getD-set-same, getD-set-other}
 use Rattle.server.specs.declared.Place.{Place}
 use Rattle.server.specs.declared.Server.{Server}
 use Rattle.server.specs.Model.{Spot, empty, unfinished}
-use Rattle.server.specs.Calls.{spot, spots}
+use Rattle.server.specs.Calls.{spotIn, spots}
 use Rattle.server.specs.Work.{Waiting}
 use Rattle.server.proofs.Places.{nowhere, spots-at, spots-set, unfinished-inside}
 
@@ -23,7 +23,7 @@ pub marked-none : (s : Server) (waiting : List Bool) → length waiting ≡ 8 �
 marked-none s waiting e = record { size = e; marked = λ i l. absurd (omega arith) }
 
 pub marked-more : (s : Server) (waiting : List Bool) (k : ℕ) (b : Bool) → k < 8 → Marked s waiting k
-    → b ≡ unfinished (spot (getD (s .places) k nowhere)) → Marked s (set waiting k b) (k + 1)
+    → b ≡ unfinished (spotIn (getD (s .places) k nowhere)) → Marked s (set waiting k b) (k + 1)
 marked-more s waiting k b l m e = record { size = length-set waiting k b ∙ m .size; marked = λ i h. go i h (ℕ-discrete i k) }
   where
     go : (i : ℕ) → i < k + 1 → Dec (i ≡ k) → getD (set waiting k b) i false ≡ unfinished (getD (spots (s .places)) i empty)
@@ -37,18 +37,18 @@ marked-all m = record { size = m .size; marked = m .marked }
 
 -- an unfinished box gives way to another, or to the same after a step, and its mark is made anew
 pub waiting-served : (s : Server) (waiting : List Bool) (k last : ℕ) (v : Place) (b : Bool) → k < 8 → Waiting s waiting
-    → unfinished (getD (spots (s .places)) k empty) ≡ true → b ≡ unfinished (spot v)
+    → unfinished (getD (spots (s .places)) k empty) ≡ true → b ≡ unfinished (spotIn v)
     → Waiting (record { places = set (s .places) k v; last = last }) (set waiting k b)
 waiting-served s waiting k last v b l w u e = record { size = length-set waiting k b ∙ w .size; marked = λ i h. go i h (ℕ-discrete i k) }
   where
-    same : (i : ℕ) → unfinished (getD (spots (set (s .places) k v)) i empty) ≡ unfinished (getD (set (spots (s .places)) k (spot v)) i empty)
+    same : (i : ℕ) → unfinished (getD (spots (set (s .places) k v)) i empty) ≡ unfinished (getD (set (spots (s .places)) k (spotIn v)) i empty)
     same i = ap (λ (xs : List Spot). unfinished (getD xs i empty)) (spots-set (s .places) k v)
 
     go : (i : ℕ) → i < 8 → Dec (i ≡ k) → getD (set waiting k b) i false ≡ unfinished (getD (spots (set (s .places) k v)) i empty)
     go i h (yes q) =
         ap (λ (j : ℕ). getD (set waiting k b) j false) q ∙ getD-set-same waiting k b false (omega (arith, w .size)) ∙ e
-        ∙ sym (ap unfinished (getD-set-same (spots (s .places)) k (spot v) empty (unfinished-inside (spots (s .places)) k u)))
+        ∙ sym (ap unfinished (getD-set-same (spots (s .places)) k (spotIn v) empty (unfinished-inside (spots (s .places)) k u)))
         ∙ sym (same k) ∙ sym (ap (λ (j : ℕ). unfinished (getD (spots (set (s .places) k v)) j empty)) q)
     go i h (no q) =
-        getD-set-other waiting k i b false q ∙ w .marked i h ∙ sym (ap unfinished (getD-set-other (spots (s .places)) k i (spot v) empty q))
+        getD-set-other waiting k i b false q ∙ w .marked i h ∙ sym (ap unfinished (getD-set-other (spots (s .places)) k i (spotIn v) empty q))
         ∙ sym (same i)

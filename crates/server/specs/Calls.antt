@@ -3,61 +3,55 @@
 use Prim.Native.Nat.{ℕ, zero, suc, _+_, _-_, _^_, _≤_}
 use mathlib.Core.Path.{_≡_}
 use mathlib.Core.Bool.{Bool, true, false}
-use mathlib.Core.List.{List, [], _∷_, _++_}
+use mathlib.Core.List.{List, [], _∷_}
 use lib.Dec.{eqb}
-use lib.ListN.{take, length, getD, set, replicate}
+use lib.ListN.{take, getD, set, replicate}
 use Rattle.boolean.specs.Functions.{at}
 use Rattle.boolean.specs.Selection.{Candidate, best, lower, firstLeast, ranked}
-use Rattle.refusals.specs.Table.{Box, boxChecks, Reply, first, replyAfter, number}
-use Rattle.refusals.specs.declared.Checked.{Checked}
-use Rattle.refusals.specs.declared.Checked.the-variants.{Accepted, Refused}
+use Rattle.refusals.specs.Table.{Box, boxChecks, Reply, first, replyAfter, after, number, filled}
 use Rattle.masks.specs.Masks.{outputs}
 use Rattle.linear.specs.declared.Found.{Found}
-use Rattle.linear.specs.Calls.{candidate}
+use Rattle.linear.specs.Calls.{pairCandidate}
 use Rattle.linear.specs.Nonlinearity.{pairsOf}
 use Rattle.server.specs.declared.Place.{Place}
 use Rattle.server.specs.declared.Server.{Server}
 use Rattle.server.specs.declared.Asked.{Asked}
 use Rattle.server.specs.declared.Asked.the-variants.{Unfinished, Finished, Declined}
-use Rattle.server.specs.Model.{Analysis, heldOf, analysis, Spot, empty, holds, State, start, putChecks, heldChecks}
-use Rattle.server.specs.Model.{served, step, Standing, declined, stillUnfinished, finished, ask}
+use Rattle.server.specs.Model.{Analysis, heldOf, analysisOf, Spot, empty, holds, ServerState, start, putChecks, heldChecks}
+use Rattle.server.specs.Model.{served, step, Progress, declined, stillUnfinished, finished, ask}
 
 -- ---- what the code's values stand for
 -- a box's rows, the first 2^n of the array
-abbrev pub rowsOf : Place → List ℕ
-rowsOf p = take (2 ^ p .n) (p .rows)
+abbrev pub placeRows : Place → List ℕ
+placeRows p = take (2 ^ p .n) (p .rows)
 
-abbrev pub boxOf : Place → Analysis
-boxOf p = record { n = p .n; m = p .m; rows = rowsOf p; examined = p .examined; found = candidate (p .found) }
+abbrev pub analysisIn : Place → Analysis
+analysisIn p = record { n = p .n; m = p .m; rows = placeRows p; examined = p .examined; found = pairCandidate (p .found) }
 
 abbrev pub spotOf : (taken : Bool) (a : Analysis) → Spot
 spotOf true a = holds a
 spotOf false a = empty
 
 -- what stands on a place: a box where `taken` is 1, and else none
-unfoldable pub spot : Place → Spot
-spot p = spotOf (eqb (p .taken) 1) (boxOf p)
+unfoldable pub spotIn : Place → Spot
+spotIn p = spotOf (eqb (p .taken) 1) (analysisIn p)
 
 unfoldable pub spots : List Place → List Spot
-unfolding spot
+unfolding spotIn
 spots [] = []
-spots (p ∷ ps) = spot p ∷ spots ps
+spots (p ∷ ps) = spotIn p ∷ spots ps
 
 -- the server that the code's value stands for
-abbrev pub state : Server → State
-state s = record { spots = spots (s .places); last = s .last }
+abbrev pub stateOfServer : Server → ServerState
+stateOfServer s = record { spots = spots (s .places); last = s .last }
 
 -- what an answer to asking says
-abbrev pub answered : Asked → Standing
-answered Unfinished = stillUnfinished
-answered (Finished count c w b) = finished (count ∷ c ∷ w ∷ b ∷ [])
-answered (Declined e) = declined (number e)
+abbrev pub saidAsked : Asked → Progress
+saidAsked Unfinished = stillUnfinished
+saidAsked (Finished count c w b) = finished (count ∷ c ∷ w ∷ b ∷ [])
+saidAsked (Declined e) = declined (number e)
 
 -- ---- all that the code's values hold
--- the array for the most rows that a box has: the rows, then zeros
-abbrev pub filled : List ℕ → List ℕ
-filled rows = rows ++ replicate (256 - length rows) 0
-
 abbrev pub foundOf : Candidate → Found
 foundOf p = record { count = p .figure; c = at (p .witness) 0; w = at (p .witness) 1; b = at (p .witness) 2 }
 
@@ -73,7 +67,7 @@ placesOf [] = []
 placesOf (x ∷ xs) = placeOf x ∷ placesOf xs
 
 -- the code's value, from what it stands for
-abbrev pub serverOf : State → Server
+abbrev pub serverOf : ServerState → Server
 serverOf s = record { places = placesOf (s .spots); last = s .last }
 
 -- ---- a server that its own calls made: it begins so, and each call keeps it so
@@ -93,13 +87,13 @@ SoundSpots [] = Unit {0}
 SoundSpots (x ∷ xs) = SoundSpot x × SoundSpots xs
 
 -- each place is empty or has such a box, and the value holds nothing else
-pub record Sound (s : Server) : Type 0 where
+pub record SoundServer (s : Server) : Type 0 where
   pub places : SoundSpots (spots (s .places))
-  pub only : s ≡ serverOf (state s)
+  pub only : s ≡ serverOf (stateOfServer s)
 
 -- ---- the outcome of each call
 -- an empty server
-pub record Began (r : Server) : Type 0 where
+pub record ServerBegan (r : Server) : Type 0 where
   pub server : r ≡ serverOf start
 
 -- the server with another place at an index, and with another thing on a place
@@ -109,35 +103,26 @@ replaced s i p = record { places = set (s .places) i p; last = s .last }
 abbrev pub withPlace : (s : Server) (place : ℕ) (x : Spot) → Server
 withPlace s place x = replaced s (place - 1) (placeOf x)
 
--- what a call leaves whose checks found this
-abbrev pub serverAfter : (k : Checked) (new old : Server) → Server
-serverAfter Accepted new old = new
-serverAfter (Refused e) new old = old
-
 -- Putting a box on a place, of every server: what is said, and the server that is left. A refusal leaves it as it was.
-pub record Put (self : Server) (place n m : ℕ) (rows : List ℕ) (said : Reply) (r : Server) : Type 0 where
-  pub reply : said ≡ replyAfter (first (putChecks (state self) place n m rows)) []
-  pub server : r ≡ serverAfter (first (putChecks (state self) place n m rows)) (withPlace self place (holds (analysis n m rows 0))) self
+pub record ServerPut (self : Server) (place n m : ℕ) (rows : List ℕ) (said : Reply) (r : Server) : Type 0 where
+  pub reply : said ≡ replyAfter (first (putChecks (stateOfServer self) place n m rows)) []
+  pub server : r ≡ after (first (putChecks (stateOfServer self) place n m rows)) (withPlace self place (holds (analysisOf n m rows 0))) self
 
 -- taking the box off a place, of every server
-pub record Withdrew (self : Server) (place : ℕ) (said : Reply) (r : Server) : Type 0 where
-  pub reply : said ≡ replyAfter (first (heldChecks (state self) place)) []
-  pub server : r ≡ serverAfter (first (heldChecks (state self) place)) (withPlace self place empty) self
+pub record ServerWithdrew (self : Server) (place : ℕ) (said : Reply) (r : Server) : Type 0 where
+  pub reply : said ≡ replyAfter (first (heldChecks (stateOfServer self) place)) []
+  pub server : r ≡ after (first (heldChecks (stateOfServer self) place)) (withPlace self place empty) self
 
 -- asking, of every server
-pub record Told (self : Server) (place : ℕ) (said : Standing) : Type 0 where
-  pub standing : said ≡ ask (state self) place
+pub record ServerTold (self : Server) (place : ℕ) (said : Progress) : Type 0 where
+  pub standing : said ≡ ask (stateOfServer self) place
 
 -- What is held after combination c: the better of the pair that was held and that combination's first nearest pair, and where they are as
 -- good the one of fewer outputs. What is no box, which only a server that was made up can have, keeps its pair.
-abbrev pub pairAfter : (k : Checked) (new old : Candidate) → Candidate
-pairAfter Accepted new old = new
-pairAfter (Refused e) new old = old
-
 unfoldable pub better : (n m : ℕ) (rows : List ℕ) (held : Candidate) (c : ℕ) → Candidate
 unfolding first best firstLeast pairsOf
 better n m rows held c =
-    pairAfter (first (boxChecks n m rows)) (best (ranked lower outputs) held (firstLeast (pairsOf n rows c) ∷ [])) held
+    after (first (boxChecks n m rows)) (best (ranked lower outputs) held (firstLeast (pairsOf n rows c) ∷ [])) held
 
 -- a place of which one combination more was examined
 unfoldable pub oneMore : Place → Place
@@ -148,7 +133,7 @@ oneMore p = record {
   m = p .m;
   rows = p .rows;
   examined = p .examined + 1;
-  found = foundOf (better (p .n) (p .m) (rowsOf p) (candidate (p .found)) (p .examined + 1));
+  found = foundOf (better (p .n) (p .m) (placeRows p) (pairCandidate (p .found)) (p .examined + 1));
 }
 
 -- the server after a step that serves place i + 1, or none
@@ -157,11 +142,11 @@ serverServed s zero = s
 serverServed s (suc i) = record { places = set (s .places) i (oneMore (getD (s .places) i (placeOf empty))); last = suc i }
 
 -- A step, of every server; and of one that its own calls made, that it holds then what the model says, and nothing else.
-pub record Stepped (self r : Server) : Type 0 where
-  pub server : r ≡ serverServed self (served (state self))
-  pub stands : Sound self → r ≡ serverOf (step (state self))
+pub record ServerStepped (self r : Server) : Type 0 where
+  pub server : r ≡ serverServed self (served (stateOfServer self))
+  pub stands : SoundServer self → r ≡ serverOf (step (stateOfServer self))
 
--- so many steps, one after the other
-pub data Ran (self : Server) : (budget : ℕ) (r : Server) → Type 0 where
-  none : Ran self 0 self
-  more : {k : ℕ} {t r : Server} → Ran self k t → Stepped t r → Ran self (suc k) r
+-- `budget` steps, one after the other
+pub data ServerRan (self : Server) : (budget : ℕ) (r : Server) → Type 0 where
+  none : ServerRan self 0 self
+  more : {k : ℕ} {t r : Server} → ServerRan self k t → ServerStepped t r → ServerRan self (suc k) r

@@ -5,10 +5,10 @@ use mathlib.Core.Bool.{Bool, true, false, not, _&&_}
 use mathlib.Core.List.{List, [], _∷_}
 use lib.Dec.{ltb, leb}
 use lib.ListN.{getD, set}
-use Rattle.boolean.specs.Sums.{listBelow, each, keep}
-use Rattle.boolean.specs.Functions.{components}
+use Rattle.boolean.specs.Sums.{listBelow, each, keep, firstOf}
+use Rattle.boolean.specs.Functions.{at, components}
 use Rattle.boolean.specs.Selection.{Candidate, firstLeast, shown}
-use Rattle.refusals.specs.Table.{Check, _unless_, first, inRange, boxChecksUpTo, number}
+use Rattle.refusals.specs.Table.{Check, _unless_, first, inRange, boxChecksUpTo, after, number}
 use Rattle.refusals.specs.declared.Refusal.the-variants.{NoPlace, PlaceState}
 use Rattle.refusals.specs.declared.Checked.{Checked}
 use Rattle.refusals.specs.declared.Checked.the-variants.{Accepted, Refused}
@@ -39,9 +39,9 @@ heldOf n m rows zero = record { figure = 2 ^ n + 1; witness = 0 ∷ 0 ∷ 0 ∷ 
 heldOf n m rows (suc k) = among n m rows (suc k)
 
 -- a box of which k combinations were examined
-unfoldable pub analysis : (n m : ℕ) (rows : List ℕ) (k : ℕ) → Analysis
+unfoldable pub analysisOf : (n m : ℕ) (rows : List ℕ) (k : ℕ) → Analysis
 unfolding among
-analysis n m rows k = record { n = n; m = m; rows = rows; examined = k; found = heldOf n m rows k }
+analysisOf n m rows k = record { n = n; m = m; rows = rows; examined = k; found = heldOf n m rows k }
 
 -- what stands on a place
 pub data Spot : Type 0 where
@@ -49,25 +49,25 @@ pub data Spot : Type 0 where
   holds : Analysis → Spot
 
 -- the server: eight places, and the one last served, which is 0 at the start
-pub record State : Type 0 where
+pub record ServerState : Type 0 where
   pub spots : List Spot
   pub last : ℕ
 
-unfoldable pub start : State
+unfoldable pub start : ServerState
 unfolding listBelow
 start = record { spots = listBelow 8 (λ i. empty); last = 0 }
 
 -- what stands on place p
-abbrev pub spotAt : (s : State) (p : ℕ) → Spot
+abbrev pub spotAt : (s : ServerState) (p : ℕ) → Spot
 spotAt s p = getD (s .spots) (p - 1) empty
 
 -- the server with another thing on place p
-abbrev pub withSpot : (s : State) (p : ℕ) (x : Spot) → State
+abbrev pub withSpot : (s : ServerState) (p : ℕ) (x : Spot) → ServerState
 withSpot s p x = record { spots = set (s .spots) (p - 1) x; last = s .last }
 
-abbrev pub taken : Spot → Bool
-taken empty = false
-taken (holds a) = true
+abbrev pub isTaken : Spot → Bool
+isTaken empty = false
+isTaken (holds a) = true
 
 -- A box is unfinished until all its combinations, 1 to 2^m − 1, were examined. (What has other widths than a box that may be put here has
 -- none to examine. No call puts it on a place, but a server that was made up may hold it.)
@@ -80,82 +80,76 @@ unfinished (holds a) = more a
 
 -- ---- the checks
 -- a box has at most sixteen outputs here
-unfoldable pub putChecks : (s : State) (p n m : ℕ) (rows : List ℕ) → List Check
-putChecks s p n m rows = (NoPlace unless inRange 1 8 p) ∷ (PlaceState unless not (taken (spotAt s p))) ∷ boxChecksUpTo 16 n m rows
+unfoldable pub putChecks : (s : ServerState) (p n m : ℕ) (rows : List ℕ) → List Check
+putChecks s p n m rows = (NoPlace unless inRange 1 8 p) ∷ (PlaceState unless not (isTaken (spotAt s p))) ∷ boxChecksUpTo 16 n m rows
 
-unfoldable pub heldChecks : (s : State) (p : ℕ) → List Check
-heldChecks s p = (NoPlace unless inRange 1 8 p) ∷ (PlaceState unless taken (spotAt s p)) ∷ []
+unfoldable pub heldChecks : (s : ServerState) (p : ℕ) → List Check
+heldChecks s p = (NoPlace unless inRange 1 8 p) ∷ (PlaceState unless isTaken (spotAt s p)) ∷ []
 
--- a refusal leaves the server as it was
-abbrev pub stateAfter : (k : Checked) (new old : State) → State
-stateAfter Accepted new old = new
-stateAfter (Refused e) new old = old
-
--- ---- the calls
+-- ---- the calls: a refusal leaves the server as it was
 -- putting examines no combination
-unfoldable pub put : (s : State) (p n m : ℕ) (rows : List ℕ) → State
-unfolding first putChecks analysis
-put s p n m rows = stateAfter (first (putChecks s p n m rows)) (withSpot s p (holds (analysis n m rows 0))) s
+unfoldable pub put : (s : ServerState) (p n m : ℕ) (rows : List ℕ) → ServerState
+unfolding first putChecks analysisOf
+put s p n m rows = after (first (putChecks s p n m rows)) (withSpot s p (holds (analysisOf n m rows 0))) s
 
-unfoldable pub withdraw : (s : State) (p : ℕ) → State
+unfoldable pub withdraw : (s : ServerState) (p : ℕ) → ServerState
 unfolding first heldChecks
-withdraw s p = stateAfter (first (heldChecks s p)) (withSpot s p empty) s
+withdraw s p = after (first (heldChecks s p)) (withSpot s p empty) s
 
 -- the places in a circle, from the one after the place last served
-unfoldable pub circle : (last : ℕ) → List ℕ
+unfoldable pub roundRobin : (last : ℕ) → List ℕ
 unfolding listBelow
-circle last = listBelow 8 (λ k. (last + k) % 8 + 1)
+roundRobin last = listBelow 8 (λ k. (last + k) % 8 + 1)
 
--- the first number that passes the test, and 0 where there is none
-unfoldable pub firstWhere : (p : ℕ → Bool) (xs : List ℕ) → ℕ
-firstWhere p [] = 0
-firstWhere p (x ∷ xs) = elim (p x) [ true ↦ x | false ↦ firstWhere p xs ]
+-- the first place in it that passes a test, and 0 where there is none
+abbrev pub firstPlace : (p : ℕ → Bool) (places : List ℕ) → ℕ
+firstPlace p places = at (firstOf p places) 0
 
 -- the place that a step serves: the first in the circle whose box is unfinished, and 0 where there is none
-unfoldable pub served : State → ℕ
-unfolding circle firstWhere
-served s = firstWhere (λ p. unfinished (spotAt s p)) (circle (s .last))
+unfoldable pub served : ServerState → ℕ
+unfolding roundRobin firstOf
+served s = firstPlace (λ p. unfinished (spotAt s p)) (roundRobin (s .last))
 
 -- one combination more
 abbrev pub advanced : Spot → Spot
 advanced empty = empty
-advanced (holds a) = holds (analysis (a .n) (a .m) (a .rows) (suc (a .examined)))
+advanced (holds a) = holds (analysisOf (a .n) (a .m) (a .rows) (suc (a .examined)))
 
 -- the server after a step that serves place i + 1, or none
-abbrev pub serve : (s : State) (place : ℕ) → State
+abbrev pub serve : (s : ServerState) (place : ℕ) → ServerState
 serve s zero = s
 serve s (suc i) = record { spots = set (s .spots) i (advanced (getD (s .spots) i empty)); last = suc i }
 
-unfoldable pub step : State → State
+unfoldable pub step : ServerState → ServerState
 unfolding served
 step s = serve s (served s)
 
--- so many steps, one after the other
-unfoldable pub run : (s : State) (budget : ℕ) → State
+-- `budget` steps, one after the other
+unfoldable pub run : (s : ServerState) (budget : ℕ) → ServerState
 unfolding step
 run s zero = s
 run s (suc k) = step (run s k)
 
 -- asking: the number of a refusal, "unfinished", or the figure and its witness
-pub data Standing : Type 0 where
-  declined : ℕ → Standing
-  stillUnfinished : Standing
-  finished : List ℕ → Standing
+pub data Progress : Type 0 where
+  declined : ℕ → Progress
+  stillUnfinished : Progress
+  finished : List ℕ → Progress
 
 -- whether more is to be examined, and what is held
-abbrev pub standingOf : (left : Bool) (found : Candidate) → Standing
-standingOf true found = stillUnfinished
-standingOf false found = finished (shown found)
+abbrev pub progressOf : (left : Bool) (found : Candidate) → Progress
+progressOf true found = stillUnfinished
+progressOf false found = finished (shown found)
 
 -- (`heldChecks` refuses an empty place before its standing is looked at: what this says of it is never answered.)
-abbrev pub standing : Spot → Standing
-standing empty = stillUnfinished
-standing (holds a) = standingOf (more a) (a .found)
+abbrev pub progressIn : Spot → Progress
+progressIn empty = stillUnfinished
+progressIn (holds a) = progressOf (more a) (a .found)
 
-abbrev pub standingAfter : (k : Checked) (x : Spot) → Standing
-standingAfter Accepted x = standing x
-standingAfter (Refused e) x = declined (number e)
+abbrev pub progressAfter : (k : Checked) (x : Spot) → Progress
+progressAfter Accepted x = progressIn x
+progressAfter (Refused e) x = declined (number e)
 
-unfoldable pub ask : (s : State) (p : ℕ) → Standing
+unfoldable pub ask : (s : ServerState) (p : ℕ) → Progress
 unfolding first heldChecks
-ask s p = standingAfter (first (heldChecks s p)) (spotAt s p)
+ask s p = progressAfter (first (heldChecks s p)) (spotAt s p)

@@ -2,14 +2,15 @@
 use Prim.Native.Nat.{ℕ, suc, _+_, _≤_, _<_}
 use mathlib.Core.Path.{_≡_}
 use mathlib.Core.Bool.{Bool, true, false}
-use mathlib.Core.List.{List, [], _∷_, _++_}
+use mathlib.Core.List.{List, [], _∷_, foldl}
 use lib.Dec.{eqb}
 use Rattle.boolean.specs.Functions.{component, distance}
+use Rattle.boolean.specs.Statements.{MadeBy}
 use Rattle.refusals.specs.Table.{Reply}
-use Rattle.linear.specs.Statements.{IsPair, Before}
+use Rattle.linear.specs.Statements.{IsPair, PairBefore}
 use Rattle.server.specs.declared.Server.{Server}
-use Rattle.server.specs.Model.{among, State, put, withdraw, step, run, Standing}
-use Rattle.server.specs.Calls.{Began, Put, Withdrew, Told, Stepped, Ran}
+use Rattle.server.specs.Model.{among, ServerState, put, withdraw, step, run, Progress}
+use Rattle.server.specs.Calls.{ServerBegan, ServerPut, ServerWithdrew, ServerTold, ServerStepped, ServerRan}
 
 pub data Call : Type 0 where
   puts : (place n m : ℕ) (rows : List ℕ) → Call
@@ -18,18 +19,18 @@ pub data Call : Type 0 where
   steps : Call
   runs : (budget : ℕ) → Call
 
-unfoldable pub after : (s : State) (c : Call) → State
+-- the state that one of them makes, and that after several, one after the other
+unfoldable pub afterCall : (s : ServerState) (c : Call) → ServerState
 unfolding put withdraw step run
-after s (puts p n m rows) = put s p n m rows
-after s (asks p) = s
-after s (withdraws p) = withdraw s p
-after s steps = step s
-after s (runs k) = run s k
+afterCall s (puts p n m rows) = put s p n m rows
+afterCall s (asks p) = s
+afterCall s (withdraws p) = withdraw s p
+afterCall s steps = step s
+afterCall s (runs k) = run s k
 
-unfoldable pub afterAll : (s : State) (calls : List Call) → State
-unfolding after
-afterAll s [] = s
-afterAll s (c ∷ cs) = afterAll (after s c) cs
+unfoldable pub afterAll : (s : ServerState) (calls : List Call) → ServerState
+unfolding afterCall
+afterAll s calls = foldl afterCall s calls
 
 -- how many steps calls make
 unfoldable pub stepCount : List Call → ℕ
@@ -49,17 +50,17 @@ keeps q (withdraws p ∷ cs) = elim (eqb p q) [ true ↦ false | false ↦ keeps
 keeps q (steps ∷ cs) = keeps q cs
 keeps q (runs k ∷ cs) = keeps q cs
 
--- A server of the code that these calls made, from an empty one on: each call's outcome is its contract.
-pub data Made : (calls : List Call) (s : Server) → Type 0 where
-  begins : {r : Server} → Began r → Made [] r
-  then-put : {calls : List Call} {s r : Server} {place n m : ℕ} {rows : List ℕ} {said : Reply} → Made calls s → Put s place n m rows said r
-      → Made (calls ++ (puts place n m rows ∷ [])) r
-  then-withdraw : {calls : List Call} {s r : Server} {place : ℕ} {said : Reply} → Made calls s → Withdrew s place said r
-      → Made (calls ++ (withdraws place ∷ [])) r
-  then-ask : {calls : List Call} {s : Server} {place : ℕ} {said : Standing} → Made calls s → Told s place said
-      → Made (calls ++ (asks place ∷ [])) s
-  then-step : {calls : List Call} {s r : Server} → Made calls s → Stepped s r → Made (calls ++ (steps ∷ [])) r
-  then-run : {calls : List Call} {s r : Server} {budget : ℕ} → Made calls s → Ran s budget r → Made (calls ++ (runs budget ∷ [])) r
+-- what a call does with a server s, whatever it says: its contract. Asking leaves the caller's server as it is.
+abbrev pub ServerCalled : (c : Call) (s r : Server) → Type 0
+ServerCalled (puts place n m rows) s r = (said : Reply) × ServerPut s place n m rows said r
+ServerCalled (asks place) s r = (said : Progress) × ServerTold s place said × (r ≡ s)
+ServerCalled (withdraws place) s r = (said : Reply) × ServerWithdrew s place said r
+ServerCalled steps s r = ServerStepped s r
+ServerCalled (runs budget) s r = ServerRan s budget r
+
+-- A server of the code that these calls made, from an empty one on.
+abbrev pub ServerMade : (calls : List Call) (s : Server) → Type 0
+ServerMade calls s = MadeBy ServerBegan ServerCalled calls s
 
 -- What is held of a box of which the combinations 1 to k were examined: the least count among exactly their pairs, and the first that has
 -- it.
@@ -73,4 +74,4 @@ pub record HeldSoFar (n m : ℕ) (rows : List ℕ) (k : ℕ) : Type 0 where
   pub examined : c ≤ k
   pub member : IsPair n m m c w b
   pub reached : distance n (component rows c) w b ≡ d
-  pub before : (c′ w′ b′ : ℕ) → c′ ≤ k → IsPair n m m c′ w′ b′ → Before c′ w′ b′ c w b → d < distance n (component rows c′) w′ b′
+  pub before : (c′ w′ b′ : ℕ) → c′ ≤ k → IsPair n m m c′ w′ b′ → PairBefore c′ w′ b′ c w b → d < distance n (component rows c′) w′ b′

@@ -4,8 +4,9 @@ use mathlib.Core.Path.{_≡_}
 use mathlib.Core.Bool.{Bool, false}
 use mathlib.Core.List.{List}
 use lib.ListN.{length, getD}
+use Rattle.boolean.specs.Sums.{firstOf}
 use Rattle.server.specs.declared.Server.{Server}
-use Rattle.server.specs.Model.{empty, unfinished, circle, firstWhere}
+use Rattle.server.specs.Model.{empty, unfinished, roundRobin, firstPlace}
 use Rattle.server.specs.Calls.{spots}
 
 -- Kept beside a server while it runs, so that a step looks at no place that it does not serve: of each place, whether its box is
@@ -16,5 +17,5 @@ pub record Waiting (s : Server) (waiting : List Bool) : Type 0 where
 
 -- the first place in the circle that is marked, and 0 where there is none
 unfoldable pub turn : (waiting : List Bool) (last : ℕ) → ℕ
-unfolding circle firstWhere
-turn waiting last = firstWhere (λ p. getD waiting (p - 1) false) (circle last)
+unfolding roundRobin firstOf
+turn waiting last = firstPlace (λ p. getD waiting (p - 1) false) (roundRobin last)

@@ -7,18 +7,18 @@ ghost use mathlib.Core.Path.{_≡_};
 ghost use mathlib.Core.List.{[], _∷_};
 ghost use mathlib.Core.Bool.{true};
 ghost use Prim.Native.Nat.{_≤_, _<_};
-ghost use lib.ListN.{length};
 ghost use Rattle.boolean.specs.Sums.{AnyContent};
 ghost use Rattle.boolean.specs.Selection.{best, lower, firstLeast, ranked};
-ghost use Rattle.refusals.specs.Table.{Box, first, written};
+ghost use Rattle.refusals.specs.Table.{Box, first, saidWritten};
+ghost use Rattle.refusals.specs.declared.Written.the-variants as answers;
 ghost use Rattle.walsh.specs.Work.{Spectra};
 ghost use Rattle.masks.specs.Masks.{outputs};
 ghost use Rattle.linear.specs.Nonlinearity.{pairsOf};
-ghost use Rattle.linear.specs.Work.{Swept};
-ghost use Rattle.linear.specs.Calls.{candidate};
+ghost use Rattle.linear.specs.Work.{PairsSwept};
+ghost use Rattle.linear.specs.Calls.{pairCandidate};
 ghost use Rattle.server.specs.Model as model;
-ghost use Rattle.server.specs.Calls.{spot, state, answered, filled, foundOf, placeOf, replaced, better};
-ghost use Rattle.server.specs.Calls.{oneMore, Began, Put, Withdrew, Told, Stepped, Ran};
+ghost use Rattle.server.specs.Calls.{spotIn, stateOfServer, saidAsked, foundOf, placeOf, replaced, better};
+ghost use Rattle.server.specs.Calls.{oneMore, ServerBegan, ServerPut, ServerWithdrew, ServerTold, ServerStepped, ServerRan};
 ghost use Rattle.server.specs.Work.{Waiting, turn};
 
 // A place: a box with the number of its combinations that were examined and the best pair among exactly those, or, where `taken` is not
@@ -78,7 +78,7 @@ fn vacant() -> Place
 // Whether a box stands there of which a combination is left. A server that was made up may hold widths that no box has here: it is not
 // served for them, so that every server is soon done.
 fn unfinished(p: Place) -> bool
-    ensures { λ r. ⌜ r ≡ model.unfinished (spot p) ⌝ }
+    ensures { λ r. ⌜ r ≡ model.unfinished (spotIn p) ⌝ }
 {
     if p.taken != 1 {
         return false;
@@ -94,24 +94,18 @@ fn unfinished(p: Place) -> bool
     p.examined < masks - 1
 }
 
-// The rows of a box, in an array for the most rows that a box has.
-fn padded(rows: &[u32]) -> [u32; 256]
-    requires { ⌜ length (now rows) ≤ 256 ⌝ }
-    ensures { λ r. ⌜ r ≡ filled (now (rows .entry)) ⌝ }
+// A refused call hands the server back beside the number.
+fn declined(server: Server, e: Refusal) -> Served
+    ensures { λ r. ⌜ (r .server ≡ server) × (r .answer ≡ answers.Declined e) ⌝ }
 {
-    let mut out = [0u32; 256];
-    let mut i = 0;
-    while i < rows.len() {
-        out[i] = rows[i];
-        i += 1;
-    }
-    out
+    let answer = Written::Declined(e);
+    Served { server, answer }
 }
 
 // A box of which no combination was examined, with a count that no pair has.
 fn fresh(n: u32, m: u32, rows: &[u32]) -> Place
     requires { ⌜ Box n m (now rows) ⌝ }
-    ensures { λ r. ⌜ r ≡ placeOf (model.holds (model.analysis n m (now (rows .entry)) 0)) ⌝ }
+    ensures { λ r. ⌜ r ≡ placeOf (model.holds (model.analysisOf n m (now (rows .entry)) 0)) ⌝ }
 {
     let found = Found {
         count: rows.len() as u32 + 1,
@@ -119,7 +113,8 @@ fn fresh(n: u32, m: u32, rows: &[u32]) -> Place
         w: 0,
         b: 0,
     };
-    let kept = padded(rows);
+    let mut kept = [0u32; 256];
+    boolean::copy(rows, &mut kept[..rows.len()]);
     Place {
         taken: 1,
         n,
@@ -141,9 +136,9 @@ fn with_arrays(
     table: &mut [u8],
     values: &mut [i32],
 ) -> Found
-    requires { ⌜ Swept n m (now rows) (now table) (now values) × Spectra (now fixed) ⌝ }
+    requires { ⌜ PairsSwept n m (now rows) (now table) (now values) × Spectra (now fixed) ⌝ }
     ensures pair { λ r. ⌜
-        candidate r ≡ best (ranked lower outputs) (candidate found) (firstLeast (pairsOf n (now (rows .entry)) c) ∷ [])
+        pairCandidate r ≡ best (ranked lower outputs) (pairCandidate found) (firstLeast (pairsOf n (now (rows .entry)) c) ∷ [])
         ⌝ }
     ensures work { λ r. ⌜
         AnyContent (now (table .entry)) (now (table .exit)) × AnyContent (now (values .entry)) (now (values .exit))
@@ -157,7 +152,7 @@ fn with_arrays(
 // by its calls may hold anything.
 fn with_component(fixed: &[i32; 2048], found: Found, n: u32, m: u32, rows: &[u32], c: u32) -> Found
     requires { ⌜ Spectra (now fixed) ⌝ }
-    ensures { λ r. ⌜ r ≡ foundOf (better n m (now (rows .entry)) (candidate found) c) ⌝ }
+    ensures { λ r. ⌜ r ≡ foundOf (better n m (now (rows .entry)) (pairCandidate found) c) ⌝ }
 {
     if let Checked::Refused(_) = refusals::check_box(n, m, rows) {
         return found;
@@ -180,7 +175,7 @@ fn with_component(fixed: &[i32; 2048], found: Found, n: u32, m: u32, rows: &[u32
 // The next combination of an unfinished box is examined.
 fn examine(fixed: &[i32; 2048], p: Place) -> Place
     requires { ⌜ Spectra (now fixed) ⌝ }
-    ensures { λ r. ⌜ (model.unfinished (spot p) ≡ true → r ≡ oneMore p) ⌝ }
+    ensures { λ r. ⌜ (model.unfinished (spotIn p) ≡ true → r ≡ oneMore p) ⌝ }
 {
     let n = p.n;
     let k = p.examined;
@@ -230,7 +225,7 @@ fn next_place(waiting: &[bool; 8], last: u32) -> u32
 impl Server {
     // No box on any place.
     pub fn begin() -> Self
-        ensures { λ r. ⌜ Began r ⌝ }
+        ensures { λ r. ⌜ ServerBegan r ⌝ }
     {
         let none = vacant();
         let places = [none; 8];
@@ -249,7 +244,7 @@ impl Server {
 
     // The checks of asking and withdrawing: a place of the server, and a box on it.
     fn check_held(self, place: u32) -> Checked
-        ensures { λ r. ⌜ r ≡ first (model.heldChecks (state self) place) ⌝ }
+        ensures { λ r. ⌜ r ≡ first (model.heldChecks (stateOfServer self) place) ⌝ }
     {
         if !refusals::in_range(1, 8, place) {
             return Checked::Refused(Refusal::NoPlace);
@@ -264,7 +259,7 @@ impl Server {
 
     // Whether a box is finished, and its nonlinearity with the first pair that reaches it.
     pub fn ask(self, place: u32) -> Asked
-        ensures { λ r. ⌜ Told self place (answered r) ⌝ }
+        ensures { λ r. ⌜ ServerTold self place (saidAsked r) ⌝ }
     {
         if let Checked::Refused(e) = self.check_held(place) {
             return Asked::Declined(e);
@@ -285,26 +280,24 @@ impl Server {
 
     // Takes the box off a place.
     pub fn withdraw(self, place: u32) -> Served
-        ensures { λ r. ⌜ Withdrew self place (written (r .answer)) (r .server) ⌝ }
+        ensures { λ r. ⌜ ServerWithdrew self place (saidWritten (r .answer)) (r .server) ⌝ }
     {
         if let Checked::Refused(reason) = self.check_held(place) {
-            return Served {
-                server: self,
-                answer: Written::Declined(reason),
-            };
+            return declined(self, reason);
         }
         let i = (place - 1) as usize;
         let none = vacant();
         let cleared = self.with_place(i, none);
+        let answer = Written::Done;
         Served {
             server: cleared,
-            answer: Written::Done,
+            answer,
         }
     }
 
     // The checks of putting: a place of the server, no box on it, and a box.
     fn check_put(self, place: u32, n: u32, m: u32, rows: &[u32]) -> Checked
-        ensures { λ r. ⌜ r ≡ first (model.putChecks (state self) place n m (now (rows .entry))) ⌝ }
+        ensures { λ r. ⌜ r ≡ first (model.putChecks (stateOfServer self) place n m (now (rows .entry))) ⌝ }
     {
         if !refusals::in_range(1, 8, place) {
             return Checked::Refused(Refusal::NoPlace);
@@ -319,20 +312,18 @@ impl Server {
 
     // Puts a box on a place. No combination of it is examined yet.
     pub fn put(self, place: u32, n: u32, m: u32, rows: &[u32]) -> Served
-        ensures { λ r. ⌜ Put self place n m (now (rows .entry)) (written (r .answer)) (r .server) ⌝ }
+        ensures { λ r. ⌜ ServerPut self place n m (now (rows .entry)) (saidWritten (r .answer)) (r .server) ⌝ }
     {
         if let Checked::Refused(e) = self.check_put(place, n, m, rows) {
-            return Served {
-                server: self,
-                answer: Written::Declined(e),
-            };
+            return declined(self, e);
         }
         let i = (place - 1) as usize;
         let with_box = fresh(n, m, rows);
         let filled = self.with_place(i, with_box);
+        let answer = Written::Done;
         Served {
             server: filled,
-            answer: Written::Done,
+            answer,
         }
     }
 
@@ -352,15 +343,16 @@ impl Server {
 
     // Examines one combination, not examined before, of the next unfinished box; with none unfinished it does nothing.
     pub fn step(self) -> Self
-        ensures { λ r. ⌜ Stepped self r ⌝ }
+        ensures { λ r. ⌜ ServerStepped self r ⌝ }
     {
         self.run(1)
     }
 
-    // So many steps, one after the other. It stops where none is unfinished, since a step then does nothing. Which places have an
-    // unfinished box is kept beside the server, so that a step hands over no more of the server than the place that it serves.
+    // Steps, one after the other, as many as the budget says. It stops where none is unfinished, since a step then does nothing. Which
+    // places have an unfinished box is kept beside the server, so that a step hands over no more of the server than the place that it
+    // serves.
     pub fn run(self, budget: u32) -> Self
-        ensures { λ r. ⌜ Ran self budget r ⌝ }
+        ensures { λ r. ⌜ ServerRan self budget r ⌝ }
     {
         let fixed = walsh::spectra();
         let mut waiting = self.waiting_places();

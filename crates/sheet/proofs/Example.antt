@@ -1,7 +1,7 @@
 -- Document 01's example, the box 3 1 4 0 2 5 6 7 of three inputs and outputs: its sheet, computed from the definitions. Assumes nothing.
 use mathlib.Core.Path.{_≡_, refl}
 use lib.Count.{ones}
-use Rattle.boolean.specs.Bits.{parity, dot, affine, bit, within}
+use Rattle.boolean.specs.Bits.{parity, dot, affine, bit, onesWithin}
 use Rattle.boolean.specs.Sums.{sumBelow, countBelow, xorBelow, listFrom, listBelow, each, every, keep, largestBelow, distinct, one-if}
 use Rattle.boolean.specs.Functions.{agreement, distance, autocorrelation, changes, coefficient, degree, column, component, components}
 use Rattle.boolean.specs.Selection.{best, firstLeast, firstLargest}
@@ -11,13 +11,13 @@ use Rattle.differential.specs.XorTable.{difference, cell, cellsOf, cells, large
 use Rattle.avalanche.specs.Avalanche.{shifts, atMost, changesOf, measured, boxAutocorrelation, imbalance, dynamicDistance, complete}
 use Rattle.avalanche.specs.Calls.{distanceChecks}
 use Rattle.algebraic.specs.Algebraic.{degrees, boxDegree, bijective}
-use Rattle.boxfile.specs.File.{rowAt, rowsOf, readChecks, fileChecks, fileFound}
+use Rattle.boxfile.specs.File.{rowAt, fileRows, readChecks, fileChecks, fileFound}
 use Rattle.texts.specs.Text as text
 use Rattle.texts.specs.Text.{bytes, spaced, line}
-use Rattle.sheet.specs.Sheet.{yesOrNo, outcome, untilRefused, sheetLimit, sheetLines, fileReply, sheetText}
+use Rattle.sheet.specs.Sheet.{yesOrNo, outcomeOf, untilRefused, sheetLimit, sheetLines, fileReply, sheetText}
 use Rattle.sheet.specs.Statements.{exampleFile}
 
 -- The sheet that document 01 prints, with the degree and the limits of document 02.
 pub example-sheet : sheetText exampleFile ≡ bytes "box 3 3\nnonlinearity 0 7 7 0 3\nxor 4 3 3\nautocorrelation 8 1 3 3\nsac 0 1 1\nbic 0 1 1\ndegree 1 7 3\ncomplete yes\nbijective yes\n"
-unfolding parity dot affine bit within ones sumBelow one-if countBelow xorBelow listFrom listBelow each every keep largestBelow distinct agreement distance autocorrelation changes coefficient degree column component components best firstLeast firstLargest first limitChecks pairsOf pairs nonlinearity difference cell cellsOf cells largestCell shifts atMost changesOf measured boxAutocorrelation imbalance dynamicDistance complete distanceChecks degrees boxDegree bijective rowAt rowsOf readChecks fileChecks fileFound text.within spaced line yesOrNo outcome untilRefused sheetLimit sheetLines fileReply sheetText
+unfolding parity dot affine bit onesWithin ones sumBelow one-if countBelow xorBelow listFrom listBelow each every keep largestBelow distinct agreement distance autocorrelation changes coefficient degree column component components best firstLeast firstLargest first limitChecks pairsOf pairs nonlinearity difference cell cellsOf cells largestCell shifts atMost changesOf measured boxAutocorrelation imbalance dynamicDistance complete distanceChecks degrees boxDegree bijective rowAt fileRows readChecks fileChecks fileFound text.decimalDigits spaced line yesOrNo outcomeOf untilRefused sheetLimit sheetLines fileReply sheetText
 example-sheet = refl

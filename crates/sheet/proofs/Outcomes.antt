@@ -7,7 +7,7 @@ use borrow.Author.Tests.{le-leb, lt-leb, eq-eqb, ne-eqb}
 use Rattle.boolean.specs.Sums.{each}
 use Rattle.refusals.specs.Table.{Reply, figures, refusal}
 use Rattle.texts.specs.Text.{bytes, spaced, line}
-use Rattle.sheet.specs.Sheet.{numbers, limited, decided, prints, stops, outcome, yesOrNo, sheetLimit, bicLine}
+use Rattle.sheet.specs.Sheet.{numbers, limited, decided, prints, stops, outcomeOf, yesOrNo, sheetLimit, bicLine}
 use Rattle.avalanche.specs.Calls.{distanceReply}
 
 -- a line without figures is its word and the line's end
@@ -16,38 +16,38 @@ unfolding line spaced each
 line-of-word word = rw append-nil
 
 module _ (word : String) {reply : Reply} where
-  pub numbers-refused : {k : ℕ} → reply ≡ refusal k → outcome (numbers word reply) ≡ stops
-  unfolding outcome
+  pub numbers-refused : {k : ℕ} → reply ≡ refusal k → outcomeOf (numbers word reply) ≡ stops
+  unfolding outcomeOf
   numbers-refused h = rw h
 
-  pub numbers-shown : {given : List ℕ} → reply ≡ figures given → outcome (numbers word reply) ≡ prints (line (bytes word) given)
-  unfolding outcome
+  pub numbers-shown : {given : List ℕ} → reply ≡ figures given → outcomeOf (numbers word reply) ≡ prints (line (bytes word) given)
+  unfolding outcomeOf
   numbers-shown h = rw h
 
-  pub decided-refused : {k : ℕ} → reply ≡ refusal k → outcome (decided word reply) ≡ stops
-  unfolding outcome
+  pub decided-refused : {k : ℕ} → reply ≡ refusal k → outcomeOf (decided word reply) ≡ stops
+  unfolding outcomeOf
   decided-refused h = rw h
 
-  pub decided-shown : {given : List ℕ} → reply ≡ figures given → outcome (decided word reply) ≡ prints (line (bytes word ++ yesOrNo given) [])
-  unfolding outcome
+  pub decided-shown : {given : List ℕ} → reply ≡ figures given → outcomeOf (decided word reply) ≡ prints (line (bytes word ++ yesOrNo given) [])
+  unfolding outcomeOf
   decided-shown h = rw h
 
-  pub decided-yes : reply ≡ figures (1 ∷ []) → outcome (decided word reply) ≡ prints (bytes word ++ bytes " yes\n")
-  unfolding outcome yesOrNo
+  pub decided-yes : reply ≡ figures (1 ∷ []) → outcomeOf (decided word reply) ≡ prints (bytes word ++ bytes " yes\n")
+  unfolding outcomeOf yesOrNo
   decided-yes h = rw h (ap prints (line-of-word (bytes word ++ bytes " yes") ∙ append-assoc (bytes word) (bytes " yes") (bytes "\n")))
 
-  pub decided-no : reply ≡ figures (0 ∷ []) → outcome (decided word reply) ≡ prints (bytes word ++ bytes " no\n")
-  unfolding outcome yesOrNo
+  pub decided-no : reply ≡ figures (0 ∷ []) → outcomeOf (decided word reply) ≡ prints (bytes word ++ bytes " no\n")
+  unfolding outcomeOf yesOrNo
   decided-no h = rw h (ap prints (line-of-word (bytes word ++ bytes " no") ∙ append-assoc (bytes word) (bytes " no") (bytes "\n")))
 
 -- a figure that was asked for within i, where i is the limit of the line
 module _ (word : String) (ask : ℕ → Reply) {i limit : ℕ} (same : i ≡ limit) where
-  pub limited-refused : {k : ℕ} → ask i ≡ refusal k → outcome (limited word (ask limit) limit) ≡ stops
-  unfolding outcome
+  pub limited-refused : {k : ℕ} → ask i ≡ refusal k → outcomeOf (limited word (ask limit) limit) ≡ stops
+  unfolding outcomeOf
   limited-refused h = rw (← same, h)
 
-  pub limited-shown : {given : List ℕ} → ask i ≡ figures given → outcome (limited word (ask limit) limit) ≡ prints (line (bytes word) (given ++ (i ∷ [])))
-  unfolding outcome
+  pub limited-shown : {given : List ℕ} → ask i ≡ figures given → outcomeOf (limited word (ask limit) limit) ≡ prints (line (bytes word) (given ++ (i ∷ [])))
+  unfolding outcomeOf
   limited-shown h = rw (← same, h, ← same)
 
 -- the limit on combinations, up to 16 outputs and above
@@ -61,8 +61,8 @@ limit-four m h = sym (rw (lt-leb m 16 h))
 
 -- the sixth line: with m = 1 there is no figure, and else it shows one
 module _ (n m : ℕ) (rows : List ℕ) where
-  pub bic-none : m ≡ 1 → outcome (bicLine n m rows) ≡ prints (bytes "bic none\n")
-  unfolding outcome
+  pub bic-none : m ≡ 1 → outcomeOf (bicLine n m rows) ≡ prints (bytes "bic none\n")
+  unfolding outcomeOf
   bic-none h = rw (eq-eqb m 1 h) (ap prints (line-of-word (bytes "bic none")))
 
   pub bic-shown : (m ≡ 1 → ⊥) → bicLine n m rows ≡ numbers "bic" (distanceReply n m rows 2 1)

@@ -6,17 +6,16 @@ use native.Mathlib.Omega.{arith}
 use lib.ListN.{length, getD}
 use lib.Seq.{sets}
 use Rattle.boolean.specs.Functions.{at}
-use Rattle.boolean.proofs.Stored.{stored-none, stored-more}
-use Rattle.refusals.specs.Table.{first, figures, refusal, replyAfter, contentAfter}
+use Rattle.refusals.specs.Table.{first, figures, refusal, replyAfter, after}
 use Rattle.refusals.specs.declared.Checked.{Checked}
 use Rattle.refusals.specs.declared.Checked.the-variants.{Accepted, Refused}
-use Rattle.refusals.proofs.Checks.{content-accepted}
-use Rattle.boxfile.specs.File.{rowsOf, fileChecks, roomOf, fileFound}
+use Rattle.refusals.proofs.Checks.{after-accepted}
+use Rattle.boxfile.specs.File.{fileRows, fileChecks, roomOf, fileFound}
 use Rattle.boxfile.proofs.FileRoom.{room-same}
 use Rattle.texts.specs.Text.{bytes, line}
 use Rattle.texts.proofs.Lengths.{line-few}
-use Rattle.sheet.specs.Sheet.{untilRefused, sheetLines, fileReply, sheetText}
-use Rattle.sheet.specs.Work.{Printed}
+use Rattle.sheet.specs.Sheet.{SheetLine, untilRefused, sheetLines, fileReply, sheetText}
+use Rattle.sheet.specs.Work.{boxText, TextWritten}
 use Rattle.sheet.specs.Calls.{SheetWritten}
 
 -- a call that replied figures was accepted, and these are what it gives
@@ -39,8 +38,8 @@ module _ (file : List ℕ) where
     reply-with-room = ap (λ (k : Checked). replyAfter k (at file 0 ∷ at file 1 ∷ [])) found-with-room
 
     pub rows-with-room : {shows : List ℕ} → fileReply file ≡ figures shows → (old : List ℕ)
-        → contentAfter (first (fileChecks file room)) (rowsOf file (at file 0)) old ≡ rowsOf file (at file 0)
-    rows-with-room h old = sym (content-accepted (found-with-room ∙ read-accepted h .0) (rowsOf file (at file 0)) old)
+        → after (first (fileChecks file room)) (fileRows file (at file 0)) old ≡ fileRows file (at file 0)
+    rows-with-room h old = sym (after-accepted (found-with-room ∙ read-accepted h .0) (fileRows file (at file 0)) old)
 
   -- the sheet of a refused file, and of one that is read
   pub sheet-refused : {k : ℕ} → fileReply file ≡ refusal k → sheetText file ≡ line (bytes "refused") (k ∷ [])
@@ -48,35 +47,25 @@ module _ (file : List ℕ) where
   sheet-refused h = rw (h, sheetText)
 
   pub sheet-read : {shows : List ℕ} → fileReply file ≡ figures shows
-      → sheetText file ≡ line (bytes "box") shows ++ untilRefused (sheetLines (at file 0) (at file 1) (rowsOf file (at file 0)))
+      → sheetText file ≡ line (bytes "box") shows ++ untilRefused (sheetLines (at file 0) (at file 1) (fileRows file (at file 0)))
   unfolding sheetText
   sheet-read h = rw (h, sheetText)
 
-  -- the text that the sheet stands in from its start on
-  pub wrote-refused : (old : List ℕ) {k r : ℕ} {new : List ℕ} → fileReply file ≡ refusal k → r ≡ 0 + length (line (bytes "refused") (k ∷ []))
-      → new ≡ sets old 0 (line (bytes "refused") (k ∷ [])) → SheetWritten file old r new
-  wrote-refused old {k} {r} h p q =
-      let whole = sheet-refused h in
-      record {
-        size = omega (arith, ap length whole);
-        inside = omega (arith, line-few (bytes "refused") (k ∷ []));
-        text = q ∙ ap (sets old 0) (sym whole);
-      }
-
-  pub wrote-box : (old : List ℕ) {n m : ℕ} {rows : List ℕ} {next r : ℕ} {middle new : List ℕ} → fileReply file ≡ figures (n ∷ m ∷ []) → rows ≡ rowsOf file (at file 0)
-      → next ≡ 0 + length (line (bytes "box") (n ∷ m ∷ [])) → middle ≡ sets old 0 (line (bytes "box") (n ∷ m ∷ []))
-      → Printed (sheetLines n m rows) 306 next middle r new → SheetWritten file old r new
-  wrote-box old {n} {m} {rows} h rows-are p q t =
+  pub sheet-of-box : {n m : ℕ} {rows : List ℕ} → fileReply file ≡ figures (n ∷ m ∷ []) → rows ≡ fileRows file (at file 0) → sheetText file ≡ boxText n m rows
+  unfolding boxText
+  sheet-of-box {n} {m} {rows} h rows-are =
       let widths = read-accepted h .1 in
       let n-is : n ≡ at file 0 = ap (λ (l : List ℕ). getD l 0 0) widths in
       let m-is : m ≡ at file 1 = ap (λ (l : List ℕ). getD l 1 0) widths in
-      let lines : sheetLines n m rows ≡ sheetLines (at file 0) (at file 1) (rowsOf file (at file 0)) = cc in
-      let both = stored-more (stored-more (stored-none 0 old) (line (bytes "box") (n ∷ m ∷ [])) p q) (untilRefused (sheetLines n m rows)) (t .place) (t .text) in
-      let whole : line (bytes "box") (n ∷ m ∷ []) ++ untilRefused (sheetLines n m rows) ≡ sheetText file =
-      ap (λ (ls : _). line (bytes "box") (n ∷ m ∷ []) ++ untilRefused ls) lines ∙ sym (sheet-read h) in
-      let long = line-few (bytes "box") (n ∷ m ∷ []) in
-      record {
-        size = omega (arith, both .place, ap length whole);
-        inside = omega (arith, t .place, t .short);
-        text = both .stored ∙ ap (sets old 0) whole;
-      }
+      let lines : sheetLines (at file 0) (at file 1) (fileRows file (at file 0)) ≡ sheetLines n m rows = cc in
+      sheet-read h ∙ ap (λ (ls : List SheetLine). line (bytes "box") (n ∷ m ∷ []) ++ untilRefused ls) lines
+
+  -- the text that the sheet stands in from its start on
+  pub wrote-sheet : {text old : List ℕ} {r : ℕ} {new : List ℕ} → sheetText file ≡ text → TextWritten text old r new → SheetWritten file old r new
+  wrote-sheet {old = old} whole t =
+      record { size = t .size ∙ ap length (sym whole); inside = t .inside; text = t .content ∙ ap (sets old 0) (sym whole) }
+
+  pub wrote-refused : (old : List ℕ) {k r : ℕ} {new : List ℕ} → fileReply file ≡ refusal k → r ≡ 0 + length (line (bytes "refused") (k ∷ []))
+      → new ≡ sets old 0 (line (bytes "refused") (k ∷ [])) → SheetWritten file old r new
+  wrote-refused old {k} h p q =
+      wrote-sheet (sheet-refused h) (record { size = omega arith; inside = omega (arith, line-few (bytes "refused") (k ∷ [])); content = q })

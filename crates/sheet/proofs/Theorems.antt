@@ -20,10 +20,10 @@ use Rattle.refusals.proofs.Checks.{found, found-after, skip, stop, end, box-acc
 use Rattle.linear.specs.Nonlinearity.{nonlinearityReply}
 use Rattle.avalanche.specs.Calls.{distanceChecks, autocorrelationReply}
 use Rattle.algebraic.specs.Calls.{boxDegreeReply}
-use Rattle.boxfile.specs.File.{rowsOf, readChecks, fileChecks, fileFound}
+use Rattle.boxfile.specs.File.{fileRows, readChecks, fileChecks, fileFound}
 use Rattle.boxfile.proofs.FileRows.{box-of-file}
 use Rattle.texts.specs.Text.{bytes, line}
-use Rattle.sheet.specs.Sheet.{Line, prints, stops, outcome, untilRefused, sheetLimit, bicLine, sheetLines, fileReply, sheetText}
+use Rattle.sheet.specs.Sheet.{SheetLine, prints, stops, outcomeOf, untilRefused, sheetLimit, bicLine, sheetLines, fileReply, sheetText}
 use Rattle.sheet.specs.Statements.{bicText, textsOf, longNumber}
 use Rattle.sheet.proofs.Outcomes.{numbers-shown, limited-shown, decided-shown}
 use Rattle.sheet.proofs.Printing.{until-prints}
@@ -32,7 +32,7 @@ use Rattle.sheet.proofs.Sheets.{read-accepted, sheet-refused, sheet-rea
 -- ---- a file that is accepted
 
 -- the box of a file that is read is accepted
-box-read : (file : List ℕ) {shows : List ℕ} → fileReply file ≡ figures shows → Box (at file 0) (at file 1) (rowsOf file (at file 0))
+box-read : (file : List ℕ) {shows : List ℕ} → fileReply file ≡ figures shows → Box (at file 0) (at file 1) (fileRows file (at file 0))
 box-read file h = box-of-file file (read-accepted file h .0)
 
 -- the limit of the sheet is one that a box of m outputs has
@@ -45,18 +45,18 @@ limit-inside m low = by (leb m 16) refl
     by false e = let many : 16 < m = leb-false m 16 e in rw e (lit≤ tt, omega arith)
 
 -- lines of which each is printed, with their texts
-data Print : List Line → List (List ℕ) → Type 0 where
+data Print : List SheetLine → List (List ℕ) → Type 0 where
   none : Print [] []
-  more : {l : Line} {ls : List Line} {text : List ℕ} {texts : List (List ℕ)} → outcome l ≡ prints text → Print ls texts → Print (l ∷ ls) (text ∷ texts)
+  more : {l : SheetLine} {ls : List SheetLine} {text : List ℕ} {texts : List (List ℕ)} → outcomeOf l ≡ prints text → Print ls texts → Print (l ∷ ls) (text ∷ texts)
 
-print-all : {ls : List Line} {texts : List (List ℕ)} → Print ls texts → untilRefused ls ≡ each texts (λ text. text)
+print-all : {ls : List SheetLine} {texts : List (List ℕ)} → Print ls texts → untilRefused ls ≡ each texts (λ text. text)
 unfolding untilRefused each
 print-all none = refl
 print-all (more {l} {ls} {text} h t) = until-prints l ls h ∙ ap (λ (rest : List ℕ). text ++ rest) (print-all t)
 
-print-each : {ls : List Line} {texts : List (List ℕ)} → Print ls texts → (l : Line) → List·Memᴰ l ls → outcome l ≡ stops → ⊥
+print-each : {ls : List SheetLine} {texts : List (List ℕ)} → Print ls texts → (l : SheetLine) → List·Memᴰ l ls → outcomeOf l ≡ stops → ⊥
 print-each none l i = absurd (List·Memᴰ·not-nil i)
-print-each (more h t) l i = of-cons (λ (k : Line). outcome k ≡ stops → ⊥) (λ e. let z : _≡_ {A = ℕ} 0 1 = cc in omega arith) (λ j. print-each t l j) i
+print-each (more h t) l i = of-cons (λ (k : SheetLine). outcomeOf k ≡ stops → ⊥) (λ e. let z : _≡_ {A = ℕ} 0 1 = cc in omega arith) (λ j. print-each t l j) i
 
 module _ (n m : ℕ) (rows : List ℕ) (b : Box n m rows) where
   all-accepted : first (boxChecks n m rows) ≡ Accepted
@@ -73,11 +73,11 @@ module _ (n m : ℕ) (rows : List ℕ) (b : Box n m rows) where
   order-accepted i j i-low i-high j-low j-high =
       sym (found-after (boxChecks n m rows) all-accepted (skip (range-true 1 m i i-low i-high) (skip (range-true 1 n j j-low j-high) end)))
 
-  bic-printed : outcome (bicLine n m rows) ≡ prints (bicText n m rows)
-  unfolding outcome
+  bic-printed : outcomeOf (bicLine n m rows) ≡ prints (bicText n m rows)
+  unfolding outcomeOf
   bic-printed = by (eqb m 1) refl
     where
-      by : (one : Bool) → eqb m 1 ≡ one → outcome (bicLine n m rows) ≡ prints (bicText n m rows)
+      by : (one : Bool) → eqb m 1 ≡ one → outcomeOf (bicLine n m rows) ≡ prints (bicText n m rows)
       by true e = rw e
       by false e =
           let two : 2 ≤ m = omega (arith, b .m-low, eqb-false m 1 e) in
@@ -98,17 +98,17 @@ module _ (n m : ℕ) (rows : List ℕ) (b : Box n m rows) where
 
 -- After an accepted file no figure is refused: of the lines of its sheet none stops it.
 pub no-figure-refused : (file : List ℕ) {shows : List ℕ} → fileReply file ≡ figures shows
-    → (l : Line) → List·Memᴰ l (sheetLines (at file 0) (at file 1) (rowsOf file (at file 0))) → outcome l ≡ stops → ⊥
-no-figure-refused file h = print-each (lines-printed (at file 0) (at file 1) (rowsOf file (at file 0)) (box-read file h))
+    → (l : SheetLine) → List·Memᴰ l (sheetLines (at file 0) (at file 1) (fileRows file (at file 0))) → outcomeOf l ≡ stops → ⊥
+no-figure-refused file h = print-each (lines-printed (at file 0) (at file 1) (fileRows file (at file 0)) (box-read file h))
 
 -- The sheet of an accepted file is its nine lines, one after the other: the widths, and the figures of the box that the file holds.
 pub nine-lines : (file : List ℕ) {shows : List ℕ} → fileReply file ≡ figures shows
-    → sheetText file ≡ each (line (bytes "box") (at file 0 ∷ at file 1 ∷ []) ∷ textsOf (at file 0) (at file 1) (rowsOf file (at file 0))) (λ text. text)
+    → sheetText file ≡ each (line (bytes "box") (at file 0 ∷ at file 1 ∷ []) ∷ textsOf (at file 0) (at file 1) (fileRows file (at file 0))) (λ text. text)
 unfolding each
 nine-lines file h =
     sheet-read file h
     ∙ ap₂ (λ (widths text : List ℕ). line (bytes "box") widths ++ text) (read-accepted file h .1)
-    (print-all (lines-printed (at file 0) (at file 1) (rowsOf file (at file 0)) (box-read file h)))
+    (print-all (lines-printed (at file 0) (at file 1) (fileRows file (at file 0)) (box-read file h)))
 
 -- ---- a file that is too long
 

@@ -7,12 +7,22 @@ use linear::LeastPair;
 use refusals::Verdict;
 ghost use mathlib.Core.Path.{_≡_};
 ghost use Prim.Native.Nat.{_+_, _≤_};
-ghost use lib.ListN.{length, drop};
+ghost use lib.ListN.{length};
 ghost use Rattle.boolean.specs.Sums.{AnyContent};
+ghost use Rattle.linear.specs.Nonlinearity.{nonlinearityReply};
+ghost use Rattle.differential.specs.Calls.{largestCellReply};
+ghost use Rattle.avalanche.specs.Calls.{autocorrelationReply, distanceReply, completeReply};
+ghost use Rattle.algebraic.specs.Calls.{boxDegreeReply, bijectiveReply};
 ghost use Rattle.boxfile.specs.File.{roomOf};
-ghost use Rattle.sheet.specs.Sheet.{sheetLimit, sheetLines};
-ghost use Rattle.sheet.specs.Work.{Printed};
+ghost use Rattle.sheet.specs.Sheet.{numbers, limited, decided, sheetLimit, bicLine};
+ghost use Rattle.sheet.specs.Work.{LineWritten, boxText, TextWritten};
 ghost use Rattle.sheet.specs.Calls.{SheetWritten};
+
+// What comes of a line: it is printed up to a place, or its figure is refused and the sheet stops before it.
+enum Printed {
+    UpTo(usize),
+    Stopped,
+}
 
 // The limit on combinations with which the sheet asks for its figures: all outputs up to 16 of them, and 4 above.
 fn limit_of(m: u32) -> u32
@@ -21,116 +31,149 @@ fn limit_of(m: u32) -> u32
     if m <= 16 { m } else { 4 }
 }
 
-// Each function below writes the line of one figure and the lines after it, or nothing where its figure is refused. The number in its
-// clauses is how many bytes these lines may take: a word's, eleven for each figure with its space, and the line's end.
+// Each function below writes the line of one figure, or nothing where its figure is refused. The number in its clauses is how many bytes
+// the line may take: its word's, eleven for each figure with its space, and one for the line's end.
 
-fn write_bijective(n: u32, m: u32, rows: &[u32], text: &mut [u8], at: usize) -> usize
-    requires { ⌜ at + 14 ≤ length (now text) ⌝ }
-    ensures { λ r. ⌜ Printed (drop 7 (sheetLines n m (now (rows .entry)))) 14 at (now (text .entry)) r (now (text .exit)) ⌝ }
-{
-    let answer = algebraic::is_bijective(n, m, rows);
-    let Verdict::Yes = answer else {
-        let Verdict::No = answer else {
-            return at;
-        };
-        return texts::put_bytes(text, at, b"bijective no\n");
-    };
-    texts::put_bytes(text, at, b"bijective yes\n")
-}
-
-fn write_from_complete(n: u32, m: u32, rows: &[u32], text: &mut [u8], at: usize) -> usize
-    requires { ⌜ at + 27 ≤ length (now text) ⌝ }
-    ensures { λ r. ⌜ Printed (drop 6 (sheetLines n m (now (rows .entry)))) 27 at (now (text .entry)) r (now (text .exit)) ⌝ }
-{
-    let answer = avalanche::is_complete(n, m, rows);
-    let Verdict::Yes = answer else {
-        let Verdict::No = answer else {
-            return at;
-        };
-        let after_no = texts::put_bytes(text, at, b"complete no\n");
-        return write_bijective(n, m, rows, text, after_no);
-    };
-    let after_yes = texts::put_bytes(text, at, b"complete yes\n");
-    write_bijective(n, m, rows, text, after_yes)
-}
-
-fn write_from_degree(n: u32, m: u32, rows: &[u32], text: &mut [u8], at: usize) -> usize
-    requires { ⌜ at + 67 ≤ length (now text) ⌝ }
-    ensures { λ r. ⌜ Printed (drop 5 (sheetLines n m (now (rows .entry)))) 67 at (now (text .entry)) r (now (text .exit)) ⌝ }
-{
-    let i = limit_of(m);
-    let answer = algebraic::degree(n, m, rows, i);
-    let DegreeFound::Reached { degree, c } = answer else {
-        return at;
-    };
-    let next = texts::put_line(text, at, b"degree", &[degree, c, i]);
-    write_from_complete(n, m, rows, text, next)
-}
-
-fn write_from_bic(n: u32, m: u32, rows: &[u32], text: &mut [u8], at: usize) -> usize
-    requires { ⌜ at + 104 ≤ length (now text) ⌝ }
-    ensures { λ r. ⌜ Printed (drop 4 (sheetLines n m (now (rows .entry)))) 104 at (now (text .entry)) r (now (text .exit)) ⌝ }
-{
-    if m == 1 {
-        let after_none = texts::put_bytes(text, at, b"bic none\n");
-        return write_from_degree(n, m, rows, text, after_none);
-    }
-    let answer = avalanche::dynamic_distance(n, m, rows, 2, 1);
-    let LargestChange::Reached { figure, c, s } = answer else {
-        return at;
-    };
-    let next = texts::put_line(text, at, b"bic", &[figure, c, s]);
-    write_from_degree(n, m, rows, text, next)
-}
-
-fn write_from_sac(n: u32, m: u32, rows: &[u32], text: &mut [u8], at: usize) -> usize
-    requires { ⌜ at + 141 ≤ length (now text) ⌝ }
-    ensures { λ r. ⌜ Printed (drop 3 (sheetLines n m (now (rows .entry)))) 141 at (now (text .entry)) r (now (text .exit)) ⌝ }
-{
-    let answer = avalanche::dynamic_distance(n, m, rows, 1, 1);
-    let LargestChange::Reached { figure, c, s } = answer else {
-        return at;
-    };
-    let next = texts::put_line(text, at, b"sac", &[figure, c, s]);
-    write_from_bic(n, m, rows, text, next)
-}
-
-fn write_from_autocorrelation(n: u32, m: u32, rows: &[u32], text: &mut [u8], at: usize) -> usize
-    requires { ⌜ at + 201 ≤ length (now text) ⌝ }
-    ensures { λ r. ⌜ Printed (drop 2 (sheetLines n m (now (rows .entry)))) 201 at (now (text .entry)) r (now (text .exit)) ⌝ }
-{
-    let i = limit_of(m);
-    let answer = avalanche::autocorrelation(n, m, rows, i);
-    let LargestChange::Reached { figure, c, s } = answer else {
-        return at;
-    };
-    let next = texts::put_line(text, at, b"autocorrelation", &[figure, c, s, i]);
-    write_from_sac(n, m, rows, text, next)
-}
-
-fn write_from_xor(n: u32, m: u32, rows: &[u32], text: &mut [u8], at: usize) -> usize
-    requires { ⌜ at + 238 ≤ length (now text) ⌝ }
-    ensures { λ r. ⌜ Printed (drop 1 (sheetLines n m (now (rows .entry)))) 238 at (now (text .entry)) r (now (text .exit)) ⌝ }
-{
-    let answer = differential::largest_cell(n, m, rows);
-    let LargestCell::Reached { count, a, beta } = answer else {
-        return at;
-    };
-    let next = texts::put_line(text, at, b"xor", &[count, a, beta]);
-    write_from_autocorrelation(n, m, rows, text, next)
-}
-
-fn write_from_nonlinearity(n: u32, m: u32, rows: &[u32], text: &mut [u8], at: usize) -> usize
-    requires { ⌜ at + 306 ≤ length (now text) ⌝ }
-    ensures { λ r. ⌜ Printed (sheetLines n m (now (rows .entry))) 306 at (now (text .entry)) r (now (text .exit)) ⌝ }
+fn write_nonlinearity(n: u32, m: u32, rows: &[u32], text: &mut [u8], at: usize) -> Printed
+    requires { ⌜ at + 68 ≤ length (now text) ⌝ }
+    ensures { λ r. ⌜ LineWritten
+        (limited "nonlinearity" (nonlinearityReply n m (now (rows .entry)) (sheetLimit m)) (sheetLimit m))
+        68 at (now (text .entry)) r (now (text .exit)) ⌝ }
 {
     let i = limit_of(m);
     let answer = linear::nonlinearity(n, m, rows, i);
     let LeastPair::Reached { count, c, w, b } = answer else {
-        return at;
+        return Printed::Stopped;
     };
-    let next = texts::put_line(text, at, b"nonlinearity", &[count, c, w, b, i]);
-    write_from_xor(n, m, rows, text, next)
+    Printed::UpTo(texts::put_line(text, at, b"nonlinearity", &[count, c, w, b, i]))
+}
+
+fn write_xor(n: u32, m: u32, rows: &[u32], text: &mut [u8], at: usize) -> Printed
+    requires { ⌜ at + 37 ≤ length (now text) ⌝ }
+    ensures { λ r. ⌜ LineWritten (numbers "xor" (largestCellReply n m (now (rows .entry))))
+        37 at (now (text .entry)) r (now (text .exit)) ⌝ }
+{
+    let answer = differential::largest_cell(n, m, rows);
+    let LargestCell::Reached { count, a, beta } = answer else {
+        return Printed::Stopped;
+    };
+    Printed::UpTo(texts::put_line(text, at, b"xor", &[count, a, beta]))
+}
+
+fn write_autocorrelation(n: u32, m: u32, rows: &[u32], text: &mut [u8], at: usize) -> Printed
+    requires { ⌜ at + 60 ≤ length (now text) ⌝ }
+    ensures { λ r. ⌜ LineWritten
+        (limited "autocorrelation" (autocorrelationReply n m (now (rows .entry)) (sheetLimit m)) (sheetLimit m))
+        60 at (now (text .entry)) r (now (text .exit)) ⌝ }
+{
+    let i = limit_of(m);
+    let answer = avalanche::autocorrelation(n, m, rows, i);
+    let LargestChange::Reached { figure, c, s } = answer else {
+        return Printed::Stopped;
+    };
+    Printed::UpTo(texts::put_line(text, at, b"autocorrelation", &[figure, c, s, i]))
+}
+
+fn write_sac(n: u32, m: u32, rows: &[u32], text: &mut [u8], at: usize) -> Printed
+    requires { ⌜ at + 37 ≤ length (now text) ⌝ }
+    ensures { λ r. ⌜ LineWritten (numbers "sac" (distanceReply n m (now (rows .entry)) 1 1))
+        37 at (now (text .entry)) r (now (text .exit)) ⌝ }
+{
+    let answer = avalanche::dynamic_distance(n, m, rows, 1, 1);
+    let LargestChange::Reached { figure, c, s } = answer else {
+        return Printed::Stopped;
+    };
+    Printed::UpTo(texts::put_line(text, at, b"sac", &[figure, c, s]))
+}
+
+fn write_bic(n: u32, m: u32, rows: &[u32], text: &mut [u8], at: usize) -> Printed
+    requires { ⌜ at + 37 ≤ length (now text) ⌝ }
+    ensures { λ r. ⌜ LineWritten (bicLine n m (now (rows .entry))) 37 at (now (text .entry)) r (now (text .exit)) ⌝ }
+{
+    if m == 1 {
+        return Printed::UpTo(texts::put_bytes(text, at, b"bic none\n"));
+    }
+    let answer = avalanche::dynamic_distance(n, m, rows, 2, 1);
+    let LargestChange::Reached { figure, c, s } = answer else {
+        return Printed::Stopped;
+    };
+    Printed::UpTo(texts::put_line(text, at, b"bic", &[figure, c, s]))
+}
+
+fn write_degree(n: u32, m: u32, rows: &[u32], text: &mut [u8], at: usize) -> Printed
+    requires { ⌜ at + 40 ≤ length (now text) ⌝ }
+    ensures { λ r. ⌜ LineWritten (limited "degree" (boxDegreeReply n m (now (rows .entry)) (sheetLimit m)) (sheetLimit m))
+        40 at (now (text .entry)) r (now (text .exit)) ⌝ }
+{
+    let i = limit_of(m);
+    let answer = algebraic::degree(n, m, rows, i);
+    let DegreeFound::Reached { degree, c } = answer else {
+        return Printed::Stopped;
+    };
+    Printed::UpTo(texts::put_line(text, at, b"degree", &[degree, c, i]))
+}
+
+fn write_complete(n: u32, m: u32, rows: &[u32], text: &mut [u8], at: usize) -> Printed
+    requires { ⌜ at + 13 ≤ length (now text) ⌝ }
+    ensures { λ r. ⌜ LineWritten (decided "complete" (completeReply n m (now (rows .entry))))
+        13 at (now (text .entry)) r (now (text .exit)) ⌝ }
+{
+    let answer = avalanche::is_complete(n, m, rows);
+    let Verdict::Yes = answer else {
+        let Verdict::No = answer else {
+            return Printed::Stopped;
+        };
+        return Printed::UpTo(texts::put_bytes(text, at, b"complete no\n"));
+    };
+    Printed::UpTo(texts::put_bytes(text, at, b"complete yes\n"))
+}
+
+fn write_bijective(n: u32, m: u32, rows: &[u32], text: &mut [u8], at: usize) -> Printed
+    requires { ⌜ at + 14 ≤ length (now text) ⌝ }
+    ensures { λ r. ⌜ LineWritten (decided "bijective" (bijectiveReply n m (now (rows .entry))))
+        14 at (now (text .entry)) r (now (text .exit)) ⌝ }
+{
+    let answer = algebraic::is_bijective(n, m, rows);
+    let Verdict::Yes = answer else {
+        let Verdict::No = answer else {
+            return Printed::Stopped;
+        };
+        return Printed::UpTo(texts::put_bytes(text, at, b"bijective no\n"));
+    };
+    Printed::UpTo(texts::put_bytes(text, at, b"bijective yes\n"))
+}
+
+// The nine lines of a box, in their order, up to the first whose figure is refused. The first line has no figure that could be.
+fn write_lines(n: u32, m: u32, rows: &[u32], text: &mut [u8]) -> usize
+    requires { ⌜ 332 ≤ length (now text) ⌝ }
+    ensures { λ r. ⌜ TextWritten (boxText n m (now (rows .entry))) (now (text .entry)) r (now (text .exit)) ⌝ }
+{
+    let box_end = texts::put_line(text, 0, b"box", &[n, m]);
+    let Printed::UpTo(nonlinearity_end) = write_nonlinearity(n, m, rows, text, box_end) else {
+        return box_end;
+    };
+    let Printed::UpTo(xor_end) = write_xor(n, m, rows, text, nonlinearity_end) else {
+        return nonlinearity_end;
+    };
+    let Printed::UpTo(autocorrelation_end) = write_autocorrelation(n, m, rows, text, xor_end) else {
+        return xor_end;
+    };
+    let Printed::UpTo(sac_end) = write_sac(n, m, rows, text, autocorrelation_end) else {
+        return autocorrelation_end;
+    };
+    let Printed::UpTo(bic_end) = write_bic(n, m, rows, text, sac_end) else {
+        return sac_end;
+    };
+    let Printed::UpTo(degree_end) = write_degree(n, m, rows, text, bic_end) else {
+        return bic_end;
+    };
+    let Printed::UpTo(complete_end) = write_complete(n, m, rows, text, degree_end) else {
+        return degree_end;
+    };
+    let Printed::UpTo(bijective_end) = write_bijective(n, m, rows, text, complete_end) else {
+        return complete_end;
+    };
+    bijective_end
 }
 
 // The sheet of a file, whose rows are read to an array that has room for them.
@@ -146,8 +189,7 @@ fn write_read(file: &[u8], rows: &mut [u32], text: &mut [u8]) -> usize
         };
         return texts::put_line(text, 0, b"refused", &[refusals::number_of(e)]);
     };
-    let next = texts::put_line(text, 0, b"box", &[n, m]);
-    write_from_nonlinearity(n, m, rows, text, next)
+    write_lines(n, m, rows, text)
 }
 
 // Writes the sheet of a box file at the start of the lent text, and answers how many bytes it has.

@@ -25,7 +25,7 @@ widthOf length = largestBelow 9 (λ n. cond (leb (2 ^ n) length) n 0)
 unfoldable pub digitOf : (byte : ℕ) → ℕ
 digitOf byte = cond (ltb byte 48) 255 (byte - 48)
 
--- the values of so many bytes
+-- the values of k bytes
 unfoldable pub digitsOf : (text : List ℕ) (k : ℕ) → List ℕ
 unfolding digitOf
 digitsOf text k = map digitOf (take k text)

@@ -119,7 +119,7 @@ fn show_table(table: &[u8]) {
     show_spectrum(n, &values[..size]);
 }
 
-// The same of a line of digits. More than 512 of them are refused as 512 are.
+// Writes the answer for a line of digits. More than 512 of them are refused as 512 are.
 fn show_line(text: &[u8]) {
     let mut table = [0u8; 512];
     let length = lines::smaller(text.len(), 512);

@@ -1,7 +1,7 @@
 -- Gathering nearest pairs: the present witness, the first nearest pair of a component, and their tables one after the other. Assumes nothing.
 use mathlib.Core.Path.{_≡_, refl, sym, ap, _∙_, subst}
 use mathlib.Core.Bool.{Bool, cond}
-use mathlib.Core.List.{List, [], _∷_, _++_, List·Memᴰ}
+use mathlib.Core.List.{List, [], _∷_, _++_}
 use Prim.Native.Nat.{ℕ, zero, suc, _+_, _*_, _^_, _<_, _≤_}
 use native.Mathlib.Nat.{le-refl}
 use native.Mathlib.Decide.{decLt}
@@ -13,24 +13,24 @@ use lib.IntN.{ℤ}
 use lib.ListN.{length, getD, set, length-set}
 use lib.Seq.{sets, length-sets, getD-set-same, getD-set-other}
 use Rattle.boolean.specs.Bits.{affine}
-use Rattle.boolean.specs.Functions.{at, component, distance, Within, spectrum}
+use Rattle.boolean.specs.Functions.{at, component, distance, MaskWithin, spectrum}
 use Rattle.boolean.specs.Sums.{listBelow}
 use Rattle.boolean.specs.Selection.{Candidate, best, firstLeast}
 use Rattle.boolean.proofs.Components.{whole-within}
 use Rattle.boolean.proofs.Counts.{count-le}
 use Rattle.boolean.proofs.Lists.{length-listBelow, listBelow-more}
-use Rattle.boolean.proofs.Selection.{best-step, firstLeast-mem}
+use Rattle.boolean.proofs.Selection.{best-step, firstLeast-chooses}
 use Rattle.boolean.proofs.Stored.{Stored, stored-more}
 use Rattle.refusals.specs.Table.{Box}
 use Rattle.linear.specs.Nonlinearity.{pair, pairsOf, nonlinearity}
-use Rattle.linear.specs.Work.{Swept}
-use Rattle.linear.specs.Calls.{candidate}
+use Rattle.linear.specs.Work.{PairsSwept}
+use Rattle.linear.specs.Calls.{pairCandidate}
 use Rattle.linear.specs.declared.Found.{Found}
 use Rattle.linear.proofs.Nearest.{values-length}
 use Rattle.linear.proofs.Pairs.{mem-pairsOf, pairsOf-some}
 use Rattle.linear.proofs.Theorems.{nonlinearity-reached}
 use Rattle.swaps.specs.Swaps.{figureOf}
-use Rattle.swaps.specs.Work.{entryOf, tableOf, NearestPair, NearestTable, Gathered}
+use Rattle.swaps.specs.Work.{entryOf, tableOf, NearestPair, NearestTable, PairsGathered}
 
 -- ---- a run of stores, before it and within it
 module _ {A : Type 0} (d : A) where
@@ -49,14 +49,14 @@ module _ {A : Type 0} (d : A) where
 
 -- ---- pairs
 -- a candidate that is a pair of a nonzero component
-module _ {n m : ℕ} {rows : List ℕ} {found : Found} {c w b : ℕ} (same : candidate found ≡ pair n rows c w b) where
-  pub pair-nearest : Within m (2 ^ m) c → w < 2 ^ n → b < 2 → {figure : ℕ} → found .count ≡ figure → NearestPair n m rows figure found
+module _ {n m : ℕ} {rows : List ℕ} {found : Found} {c w b : ℕ} (same : pairCandidate found ≡ pair n rows c w b) where
+  pub pair-nearest : MaskWithin m (2 ^ m) c → w < 2 ^ n → b < 2 → {figure : ℕ} → found .count ≡ figure → NearestPair n m rows figure found
   pair-nearest mask w-high b-high {figure} counted =
       let p : c ≡ found .c = sym (ap (λ (p : Candidate). at (p .witness) 0) same) in
       let q : w ≡ found .w = sym (ap (λ (p : Candidate). at (p .witness) 1) same) in
       let r : b ≡ found .b = sym (ap (λ (p : Candidate). at (p .witness) 2) same) in
       record {
-        mask = subst (Within m (2 ^ m)) p mask;
+        mask = subst (MaskWithin m (2 ^ m)) p mask;
         w-high = omega arith;
         b-high = omega arith;
         differs =
@@ -67,10 +67,10 @@ module _ {n m : ℕ} {rows : List ℕ} {found : Found} {c w b : ℕ} (same : can
 
 module _ (n m : ℕ) (rows : List ℕ) where
   -- the present witness
-  pub count-is : {present : Found} → candidate present ≡ nonlinearity n m rows m → present .count ≡ figureOf n m rows
+  pub count-is : {present : Found} → pairCandidate present ≡ nonlinearity n m rows m → present .count ≡ figureOf n m rows
   count-is e = ap (λ (p : Candidate). p .figure) e
 
-  pub witness-nearest : Box n m rows → {present : Found} → candidate present ≡ nonlinearity n m rows m → NearestPair n m rows (present .count) present
+  pub witness-nearest : Box n m rows → {present : Found} → pairCandidate present ≡ nonlinearity n m rows m → NearestPair n m rows (present .count) present
   witness-nearest box e =
       let t = nonlinearity-reached n m rows m (box .m-low) (box .m-low) in
       pair-nearest (e ∙ t .4) (t .3 .mask) (t .3 .w-high) (t .3 .b-high) refl
@@ -82,14 +82,14 @@ module _ (n m : ℕ) (rows : List ℕ) where
 
   -- a component's first nearest pair, where it was preferred to one that differs at more inputs
   pub preferred-nearest : (beats : Candidate → Candidate → Bool) (other : Found) {figure c : ℕ} {found : Found} → 1 ≤ c → c < 2 ^ m
-      → candidate found ≡ best beats (candidate other) (firstLeast (pairsOf n rows c) ∷ []) → figure < other .count → found .count ≡ figure
+      → pairCandidate found ≡ best beats (pairCandidate other) (firstLeast (pairsOf n rows c) ∷ []) → figure < other .count → found .count ≡ figure
       → NearestPair n m rows figure found
   unfolding best
   preferred-nearest beats other {figure} {c} {found} low high e farther counted =
-      best-step beats (λ p. candidate found ≡ p → NearestPair n m rows figure found) (candidate other) (firstLeast (pairsOf n rows c)) []
+      best-step beats (λ p. pairCandidate found ≡ p → NearestPair n m rows figure found) (pairCandidate other) (firstLeast (pairsOf n rows c)) []
       (λ t same.
       let some = pairsOf-some n rows c in
-      let k = mem-pairsOf n rows c (firstLeast (pairsOf n rows c)) (subst (λ (l : List Candidate). List·Memᴰ (firstLeast l) l) (sym (some .2)) (firstLeast-mem (some .0) (some .1))) in
+      let k = mem-pairsOf n rows c (firstLeast (pairsOf n rows c)) (firstLeast-chooses .mem (some .2)) in
       pair-nearest (same ∙ k .4) (whole-within m c low high) (k .2) (k .3) counted)
       (λ t same. absurd (omega (arith, ap (λ (p : Candidate). p .figure) same)))
       e
@@ -126,12 +126,12 @@ module _ {n m : ℕ} {rows : List ℕ} (box : Box n m rows) where
   unfolding tableOf
   table-long found = length-listBelow (length rows) _ ∙ box .size
 
-  pub none-gathered : {figure : ℕ} {tables : List ℕ} → length tables ≡ 4096 → Gathered n m rows figure tables 0
+  pub none-gathered : {figure : ℕ} {tables : List ℕ} → length tables ≡ 4096 → PairsGathered n m rows figure tables 0
   none-gathered e = record { room = e; few = omega arith; tables-are = λ k h. absurd (omega arith) }
 
   -- one table more
-  pub gathered-more : {figure count : ℕ} {tables tables′ : List ℕ} {found : Found} → Gathered n m rows figure tables count → count < 16
-      → NearestPair n m rows figure found → tables′ ≡ sets tables (256 * count) (tableOf rows found) → Gathered n m rows figure tables′ (count + 1)
+  pub gathered-more : {figure count : ℕ} {tables tables′ : List ℕ} {found : Found} → PairsGathered n m rows figure tables count → count < 16
+      → NearestPair n m rows figure found → tables′ ≡ sets tables (256 * count) (tableOf rows found) → PairsGathered n m rows figure tables′ (count + 1)
   gathered-more {figure} {count} {tables} {tables′} {found} g room nearest e = record {
     room = ap length e ∙ length-sets tables (256 * count) (tableOf rows found) ∙ g .room;
     few = omega arith;
@@ -164,20 +164,20 @@ module _ {n m : ℕ} {rows : List ℕ} (box : Box n m rows) where
 
   -- the first one
   pub gathered-one : {figure : ℕ} (tables : List ℕ) {tables′ : List ℕ} {found : Found} → length tables ≡ 4096 → NearestPair n m rows figure found
-      → tables′ ≡ sets tables 0 (tableOf rows found) → Gathered n m rows figure tables′ 1
+      → tables′ ≡ sets tables 0 (tableOf rows found) → PairsGathered n m rows figure tables′ 1
   gathered-one tables e nearest p = gathered-more (none-gathered e) (lit< tt) nearest p
 
 -- ---- the loop: the two arrays to work in, and what is gathered so far
 pub record Gathering (n m : ℕ) (rows : List ℕ) (figure : ℕ) (table : List ℕ) (values : List ℤ) (tables : List ℕ) (count c : ℕ) : Type 0 where
-  pub arrays : Swept n m rows table values
-  pub gathered : Gathered n m rows figure tables count
+  pub arrays : PairsSwept n m rows table values
+  pub gathered : PairsGathered n m rows figure tables count
   pub c-low : 1 ≤ c
 
 module _ {n m : ℕ} {rows : List ℕ} {figure : ℕ} {table : List ℕ} {values : List ℤ} {tables : List ℕ} {count c : ℕ} (t : Gathering n m rows figure table values tables count c) where
   -- the next component, with a pair gathered or without one
   pub gathering-next : {table′ : List ℕ} {values′ : List ℤ} {tables′ : List ℕ} {count′ : ℕ}
       → table′ ≡ listBelow (2 ^ n) (λ x. component rows c x) → values′ ≡ spectrum n (component rows c)
-      → Gathered n m rows figure tables′ count′ → Gathering n m rows figure table′ values′ tables′ count′ (c + 1)
+      → PairsGathered n m rows figure tables′ count′ → Gathering n m rows figure table′ values′ tables′ count′ (c + 1)
   gathering-next p q g = record {
     arrays = record {
       box = t .arrays .box;

@@ -1,4 +1,3 @@
-pub mod Firsts
 pub mod Apart
 pub mod Gathering
 pub mod Trying

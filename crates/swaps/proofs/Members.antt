@@ -9,7 +9,7 @@ use lib.Bits.{bitXor, xor-lt, xor-self, xor-zero-l}
 use lib.Count.{ones, onesIn, ones-le}
 use lib.Dec.{eqb}
 use Rattle.boolean.specs.Functions.{at}
-use Rattle.boolean.specs.Selection.{First, here, there}
+use Rattle.boolean.specs.Selection.{FirstIn, here, there}
 use Rattle.boolean.specs.Sums.{listFrom, listBelow}
 use Rattle.boolean.proofs.Lists.{mem-each, in-each, mem-listFrom, in-listFrom, in-listBelow}
 use Rattle.boolean.proofs.Members.{mem-if, in-if}
@@ -20,7 +20,7 @@ use Rattle.swaps.specs.Swaps.{Swap, swapAt, swapsFrom, swapsBy, swaps, r
 use Rattle.swaps.specs.Work.{SearchedIn, swapOf}
 use Rattle.swaps.specs.Statements.{IsSwap, rowDistance}
 use Rattle.swaps.specs.declared.Searched.{Searched}
-use Rattle.swaps.proofs.Firsts.{first-is}
+use Rattle.boolean.proofs.FirstOf.{first-is}
 
 -- ---- numbers differ exactly where their XOR has ones
 no-ones : ones 0 ≡ 0
@@ -90,7 +90,7 @@ module _ (n m : ℕ) (rows : List ℕ) where
       (in-if (eqb d d) s (eq-eqb d d refl))))
 
 -- the first of its kind is a member
-pub first-mem : {A : Type 0} {S : A → A → Type 0} {r : A} {xs : List A} → First S r xs → List·Memᴰ r xs
+pub first-mem : {A : Type 0} {S : A → A → Type 0} {r : A} {xs : List A} → FirstIn S r xs → List·Memᴰ r xs
 first-mem here = List·Memᴰ·head refl
 first-mem (there s f) = List·Memᴰ·tail (first-mem f)
 

@@ -10,19 +10,19 @@ use lib.Count.{ones}
 use lib.Dec.{eqb}
 use lib.ListN.{length}
 use Rattle.boolean.specs.Bits.{affine}
-use Rattle.boolean.specs.Functions.{at, component, Within, swapped}
-use Rattle.boolean.specs.Sums.{listBelow, every}
+use Rattle.boolean.specs.Functions.{at, component, MaskWithin, swapped}
+use Rattle.boolean.specs.Sums.{listBelow, every, firstOf}
 use Rattle.boolean.proofs.Every.{every-of}
 use Rattle.boolean.proofs.Lists.{length-listBelow, getD-listBelow}
 use Rattle.boolean.proofs.Members.{if-kept}
 use Rattle.refusals.specs.Table.{Box}
 use Rattle.linear.specs.declared.Found.{Found}
 use Rattle.linear.proofs.Theorems.{nonlinearity-least}
-use Rattle.swaps.specs.Swaps.{Swap, figureOf, swapAt, firstOf, raises}
-use Rattle.swaps.specs.Work.{Tried, Passed, entryOf, tableOf, apartIn, NearestPair, NearestTable, Gathered}
+use Rattle.swaps.specs.Swaps.{Swap, figureOf, swapAt, raises}
+use Rattle.swaps.specs.Work.{Tried, Passed, entryOf, tableOf, apartIn, NearestPair, NearestTable, PairsGathered}
 use Rattle.swaps.specs.declared.Attempt.{Attempt}
 use Rattle.swaps.proofs.Apart.{pair-stays}
-use Rattle.swaps.proofs.Firsts.{first-takes, first-skips}
+use Rattle.boolean.proofs.FirstOf.{first-takes, first-skips}
 
 -- the entry of a pair's table
 entry-is : (rows : List ℕ) (pair : Found) (x : ℕ) → x < length rows → at (tableOf rows pair) x ≡ entryOf (component rows (pair .c) x) (affine (pair .w) (pair .b) x)
@@ -59,7 +59,7 @@ module _ {n m : ℕ} {rows : List ℕ} (box : Box n m rows) {figure : ℕ} (figu
         pair-fails (t .nearest) (sym (ap₂ (λ (a b : ℕ). eqb (bitXor a b) 3) l h) ∙ e)
 
     -- so does any of those gathered
-    some-fails : {tables : List ℕ} {count : ℕ} → Gathered n m rows figure tables count → every (apartIn tables low high) (listBelow count (λ k. k)) ≡ false
+    some-fails : {tables : List ℕ} {count : ℕ} → PairsGathered n m rows figure tables count → every (apartIn tables low high) (listBelow count (λ k. k)) ≡ false
         → raises n m rows swap ≡ false
     some-fails {tables} {count} g e = go (raises n m rows swap) refl
       where
@@ -76,7 +76,7 @@ module _ {n m : ℕ} {rows : List ℕ} (box : Box n m rows) {figure : ℕ} (figu
             ∙ e
 
     -- the swap does not take every gathered pair apart
-    pub not-apart : {tables : List ℕ} {count hint : ℕ} {r : Attempt} → r .mask ≡ hint → Within m (2 ^ m) hint → Gathered n m rows figure tables count
+    pub not-apart : {tables : List ℕ} {count hint : ℕ} {r : Attempt} → r .mask ≡ hint → MaskWithin m (2 ^ m) hint → PairsGathered n m rows figure tables count
         → every (apartIn tables low high) (listBelow count (λ k. k)) ≡ false → Passed n m rows (swapAt rows d low high) low high r
     unfolding swapAt firstOf
     not-apart same k g e = record {
@@ -91,7 +91,7 @@ module _ {n m : ℕ} {rows : List ℕ} (box : Box n m rows) {figure : ℕ} (figu
         none false = refl
 
   -- the rows differ in another number of bits
-  pub other-distance : {hint : ℕ} {r : Attempt} → r .mask ≡ hint → Within m (2 ^ m) hint → (ones (bitXor (at rows low) (at rows high)) ≡ d → ⊥) → Passed n m rows (swapAt rows d low high) low high r
+  pub other-distance : {hint : ℕ} {r : Attempt} → r .mask ≡ hint → MaskWithin m (2 ^ m) hint → (ones (bitXor (at rows low) (at rows high)) ≡ d → ⊥) → Passed n m rows (swapAt rows d low high) low high r
   unfolding swapAt firstOf
   other-distance same k ne =
       let off = ne-eqb _ d ne in

@@ -6,14 +6,14 @@ use Prim.Native.Nat.{ℕ, suc, _+_, _-_, _^_, _<_, _≤_}
 use native.Mathlib.Omega.{arith}
 use lib.IntN.{ℤ}
 use lib.ListN.{length}
-use Rattle.boolean.specs.Functions.{Within}
-use Rattle.boolean.specs.Sums.{each, listFrom, listBelow}
+use Rattle.boolean.specs.Functions.{MaskWithin}
+use Rattle.boolean.specs.Sums.{each, listFrom, listBelow, firstOf}
 use Rattle.boolean.proofs.Components.{whole-within}
-use Rattle.swaps.specs.Swaps.{Swap, swapAt, swapsFrom, swapsBy, swaps, raises, firstOf}
+use Rattle.swaps.specs.Swaps.{Swap, swapAt, swapsFrom, swapsBy, swaps, raises}
 use Rattle.swaps.specs.Work.{Searching, Passed, SearchedIn, swapOf}
 use Rattle.swaps.specs.declared.Attempt.{Attempt}
 use Rattle.swaps.specs.declared.Searched.{Searched}
-use Rattle.swaps.proofs.Firsts.{Rest, rest-next, rest-found, rest-none}
+use Rattle.boolean.proofs.FirstOf.{Rest, rest-next, rest-found, rest-none}
 
 -- arrays that are as long as before serve again
 pub again : {n m : ℕ} {rows other other′ table table′ : List ℕ} {figure : ℕ} {tables : List ℕ} {count : ℕ} {values values′ : List ℤ} → Searching n m rows figure tables count other table values
@@ -31,7 +31,7 @@ again s p q r = record {
 -- a loop over the indices below the end, whose rule gives the swaps of each, and all of them are the list
 pub record Loop (n m : ℕ) (rows : List ℕ) (figure : ℕ) (tables : List ℕ) (count : ℕ) (f : ℕ → List Swap) (list : List Swap) (end : ℕ) (other table : List ℕ) (values : List ℤ) (hint i : ℕ) : Type 0 where
   pub arrays : Searching n m rows figure tables count other table values
-  pub hint-is : Within m (2 ^ m) hint
+  pub hint-is : MaskWithin m (2 ^ m) hint
   pub rest : Rest (raises n m rows) f list end i
 
 module _ {n m : ℕ} {rows : List ℕ} {figure : ℕ} {tables : List ℕ} {count : ℕ} {f : ℕ → List Swap} {list : List Swap} {end : ℕ} {other table : List ℕ} {values : List ℤ} {hint i : ℕ}
@@ -69,7 +69,7 @@ module _ {n m : ℕ} {rows : List ℕ} {figure : ℕ} {tables : List ℕ} {count
   none-found h = record { result = rest-none _ _ _ (t .rest) h; figure-is = λ z. absurd (let k : _≡_ {A = ℕ} 0 1 = cc in omega arith); hint-is = t .hint-is }
 
 -- ---- how they begin
-module _ {n m : ℕ} {rows : List ℕ} {figure : ℕ} {tables : List ℕ} {count : ℕ} {other table : List ℕ} {values : List ℤ} {hint : ℕ} (s : Searching n m rows figure tables count other table values) (k : Within m (2 ^ m) hint) where
+module _ {n m : ℕ} {rows : List ℕ} {figure : ℕ} {tables : List ℕ} {count : ℕ} {other table : List ℕ} {values : List ℤ} {hint : ℕ} (s : Searching n m rows figure tables count other table values) (k : MaskWithin m (2 ^ m) hint) where
   pub from-starts : (d low : ℕ) → Loop n m rows figure tables count (swapAt rows d low) (swapsFrom n rows d low) (2 ^ n) other table values hint (low + 1)
   unfolding swapsFrom
   from-starts d low =

@@ -14,16 +14,16 @@ use lib.Count.{ones}
 use lib.Dec.{eqb, lit≤}
 use Rattle.boolean.specs.Functions.{at}
 use Rattle.boolean.specs.Selection.{Ascending}
-use Rattle.boolean.specs.Sums.{each, listFrom, listBelow}
+use Rattle.boolean.specs.Sums.{each, listFrom, listBelow, firstOf}
 use Rattle.boolean.proofs.Lists.{ascending-listFrom, ascending-listBelow, ascending-each, ascending-blocks}
 use Rattle.boolean.proofs.Members.{if-kept, mem-if}
 use Rattle.boolean.proofs.Selection.{first-ranked}
 use Rattle.refusals.specs.Table.{Box, boxChecksUpTo, first, figures}
 use Rattle.refusals.specs.declared.Checked.the-variants.{Accepted}
 use Rattle.refusals.proofs.Checks.{box-up-to, reply-accepted}
-use Rattle.swaps.specs.Swaps.{Swap, figureOf, figureAfter, swapAt, swapsFrom, swapsBy, swaps, raises, firstOf, shownSwap, raised, raisingReply}
-use Rattle.swaps.specs.Statements.{IsSwap, rowDistance, Before, InOrder, FirstRaising}
-use Rattle.swaps.proofs.Firsts.{first-takes, first-skips, first-none, none-first, first-is}
+use Rattle.swaps.specs.Swaps.{Swap, figureOf, figureAfter, swapAt, swapsFrom, swapsBy, swaps, raises, shownSwap, raised, raisingReply}
+use Rattle.swaps.specs.Statements.{IsSwap, rowDistance, SwapBefore, InOrder, FirstRaising}
+use Rattle.boolean.proofs.FirstOf.{first-takes, first-skips, first-none, none-first, first-is}
 use Rattle.swaps.proofs.Members.{mem-swapsFrom, mem-swapsBy, mem-swaps, in-swaps, first-mem}
 
 -- ---- the list stands in that order
@@ -36,7 +36,7 @@ module _ (n : ℕ) (rows : List ℕ) where
   both-below : (l h : ℕ) → l < 2 ^ n → h < 2 ^ n → l * 2 ^ n + h < 2 ^ n * 2 ^ n
   both-below l h p q = omega (arith, suc-mul l (2 ^ n), mul-le-mul-right (2 ^ n) p)
 
-  before-rank : (t s : Swap) → t .low < 2 ^ n → t .high < 2 ^ n → Before rows t s → rank t < rank s
+  before-rank : (t s : Swap) → t .low < 2 ^ n → t .high < 2 ^ n → SwapBefore rows t s → rank t < rank s
   before-rank t s p q (inl l) =
       omega (arith, both-below (t .low) (t .high) p q, suc-mul (rowDistance rows t) (2 ^ n * 2 ^ n), mul-le-mul-right (2 ^ n * 2 ^ n) l)
   before-rank t s p q (inr (inl l)) =
@@ -44,21 +44,21 @@ module _ (n : ℕ) (rows : List ℕ) where
   before-rank t s p q (inr (inr l)) = omega (arith, ap (λ (d : ℕ). d * (2 ^ n * 2 ^ n)) (l .0), ap (λ (d : ℕ). d * 2 ^ n) (l .1))
 
   -- and back: of two numbers the lower is that of the swap that comes before
-  rank-before : (t s : Swap) → s .low < 2 ^ n → s .high < 2 ^ n → rank t < rank s → Before rows t s
+  rank-before : (t s : Swap) → s .low < 2 ^ n → s .high < 2 ^ n → rank t < rank s → SwapBefore rows t s
   rank-before t s p q l =
       by-distance (decLt (rowDistance rows t) (rowDistance rows s)) (decLt (rowDistance rows s) (rowDistance rows t))
     where
-      not-after : Before rows s t → Before rows t s
+      not-after : SwapBefore rows s t → SwapBefore rows t s
       not-after b = absurd (omega (arith, before-rank s t p q b))
 
-      by-low : rowDistance rows t ≡ rowDistance rows s → Dec (t .low < s .low) → Dec (s .low < t .low) → Before rows t s
+      by-low : rowDistance rows t ≡ rowDistance rows s → Dec (t .low < s .low) → Dec (s .low < t .low) → SwapBefore rows t s
       by-low d (yes h) k = inr (inl (d, h))
       by-low d (no h) (yes k) = not-after (inr (inl (sym d, k)))
       by-low d (no h) (no k) =
           let e : t .low ≡ s .low = omega arith in
           inr (inr (d, e, omega (arith, ap (λ (z : ℕ). z * (2 ^ n * 2 ^ n)) d, ap (λ (z : ℕ). z * 2 ^ n) e)))
 
-      by-distance : Dec (rowDistance rows t < rowDistance rows s) → Dec (rowDistance rows s < rowDistance rows t) → Before rows t s
+      by-distance : Dec (rowDistance rows t < rowDistance rows s) → Dec (rowDistance rows s < rowDistance rows t) → SwapBefore rows t s
       by-distance (yes h) k = inl h
       by-distance (no h) (yes k) = not-after (inl k)
       by-distance (no h) (no k) = by-low (omega arith) (decLt (t .low) (s .low)) (decLt (s .low) (t .low))

@@ -14,7 +14,7 @@ use Rattle.boolean.specs.Functions.{swapped}
 use Rattle.boolean.specs.Selection.{firstLeast}
 use Rattle.boolean.proofs.Components.{first-mask, whole-within}
 use Rattle.refusals.specs.Table.{Box}
-use Rattle.linear.specs.Work.{Swept}
+use Rattle.linear.specs.Work.{PairsSwept}
 use Rattle.linear.specs.Nonlinearity.{pairsOf}
 use Rattle.linear.proofs.Nearest.{least-le}
 use Rattle.linear.proofs.Theorems.{component-least, component-reached}
@@ -28,20 +28,20 @@ abbrev nearest : ℕ → List ℕ → ℕ → ℕ
 nearest n rows c = firstLeast (pairsOf n rows c) .figure
 
 pub record Reaching (n m : ℕ) (rows : List ℕ) (count : ℕ) (table : List ℕ) (values : List ℤ) (least c : ℕ) : Type 0 where
-  pub arrays : Swept n m rows table values
+  pub arrays : PairsSwept n m rows table values
   pub c-low : 1 ≤ c
   pub above : (k : ℕ) → k < c → 1 ≤ k → count < nearest n rows k
   pub lowest : (k : ℕ) → k < c → 1 ≤ k → least ≤ nearest n rows k
   pub enough : figureOf n m rows ≤ least
 
 -- arrays that are as long as before serve again
-pub again : {n m : ℕ} {rows table table′ : List ℕ} {values values′ : List ℤ} → Swept n m rows table values → length table′ ≡ length table → length values′ ≡ length values
-    → Swept n m rows table′ values′
+pub again : {n m : ℕ} {rows table table′ : List ℕ} {values values′ : List ℤ} → PairsSwept n m rows table values → length table′ ≡ length table → length values′ ≡ length values
+    → PairsSwept n m rows table′ values′
 again s p q = record { box = s .box; table-size = p ∙ s .table-size; out-size = q ∙ s .out-size }
 
 module _ {n m : ℕ} {rows : List ℕ} {count : ℕ} where
   -- no component differs at more inputs than there are
-  pub reaching-starts : {table : List ℕ} {values : List ℤ} → Swept n m rows table values → Reaching n m rows count table values (length rows) 1
+  pub reaching-starts : {table : List ℕ} {values : List ℤ} → PairsSwept n m rows table values → Reaching n m rows count table values (length rows) 1
   reaching-starts s = record {
     arrays = s;
     c-low = le-refl 1;
@@ -52,7 +52,7 @@ module _ {n m : ℕ} {rows : List ℕ} {count : ℕ} where
 
   module _ {table : List ℕ} {values : List ℤ} {least c : ℕ} (r : Reaching n m rows count table values least c) where
     -- one component more, which is the lowest so far or is not
-    module _ {table′ : List ℕ} {values′ : List ℤ} {found : ℕ} (s : Swept n m rows table′ values′) (inside : c < 2 ^ m) (e : found ≡ nearest n rows c) (h : count < found) where
+    module _ {table′ : List ℕ} {values′ : List ℤ} {found : ℕ} (s : PairsSwept n m rows table′ values′) (inside : c < 2 ^ m) (e : found ≡ nearest n rows c) (h : count < found) where
       pub reaching-lower : found < least → Reaching n m rows count table′ values′ found (c + 1)
       reaching-lower l = record {
         arrays = s;
@@ -94,7 +94,7 @@ module _ {n m : ℕ} {rows : List ℕ} {count : ℕ} where
 
 -- the rows after a swap, and the arrays to try them in
 pub swap-ready : {n m : ℕ} {rows other table tables : List ℕ} {figure count : ℕ} {values : List ℤ} → Searching n m rows figure tables count other table values
-    → (low high : ℕ) {later : List ℕ} → later ≡ swapped rows low high → Swept n m later table values
+    → (low high : ℕ) {later : List ℕ} → later ≡ swapped rows low high → PairsSwept n m later table values
 swap-ready {n} {m} s low high e = record {
   box = subst (Box n m) (sym e) (swapped-box (s .box) low high);
   table-size = s .table-size;

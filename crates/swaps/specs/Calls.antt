@@ -5,7 +5,7 @@ use Rattle.swaps.specs.declared.RaisingSwap.{RaisingSwap}
 use Rattle.swaps.specs.declared.RaisingSwap.the-variants.{Raised, NoSwap, Declined}
 
 -- what the answer says: 1, both inputs and the new figure; four zeros for "none"; or the number of the refusal
-abbrev pub raisingSwap : RaisingSwap → Reply
-raisingSwap (Raised low high figure) = figures (1 ∷ low ∷ high ∷ figure ∷ [])
-raisingSwap NoSwap = figures (0 ∷ 0 ∷ 0 ∷ 0 ∷ [])
-raisingSwap (Declined e) = refusal (number e)
+abbrev pub saidRaisingSwap : RaisingSwap → Reply
+saidRaisingSwap (Raised low high figure) = figures (1 ∷ low ∷ high ∷ figure ∷ [])
+saidRaisingSwap NoSwap = figures (0 ∷ 0 ∷ 0 ∷ 0 ∷ [])
+saidRaisingSwap (Declined e) = refusal (number e)

@@ -5,7 +5,7 @@ use mathlib.Core.List.{List, [], _∷_}
 use lib.Bits.{bitXor}
 use lib.Count.{ones}
 use lib.Dec.{ltb, eqb}
-use Rattle.boolean.specs.Sums.{listFrom, listBelow, each}
+use Rattle.boolean.specs.Sums.{listFrom, listBelow, each, firstOf}
 use Rattle.boolean.specs.Functions.{at, swapped}
 use Rattle.refusals.specs.Table.{boxChecksUpTo, first, Reply, replyAfter}
 use Rattle.linear.specs.Nonlinearity.{nonlinearity}
@@ -28,12 +28,12 @@ unfoldable pub swapAt : (rows : List ℕ) (d low high : ℕ) → List Swap
 swapAt rows d low high = elim (eqb (ones (bitXor (at rows low) (at rows high))) d)
     [ true ↦ record { low = low; high = high } ∷ [] | false ↦ [] ]
 
--- those of an input with each higher one, in ascending order
+-- the swaps of an input with each higher one whose rows differ in d bits, in ascending order
 unfoldable pub swapsFrom : (n : ℕ) (rows : List ℕ) (d low : ℕ) → List Swap
 unfolding each listFrom swapAt
 swapsFrom n rows d low = each (listFrom (suc low) (2 ^ n - suc low) (λ h. h)) (λ h. swapAt rows d low h)
 
--- those of rows that differ in d bits, by the lower input, then the higher
+-- the swaps of rows that differ in d bits, by the lower input, then the higher
 unfoldable pub swapsBy : (n : ℕ) (rows : List ℕ) (d : ℕ) → List Swap
 unfolding each listBelow swapsFrom
 swapsBy n rows d = each (listBelow (2 ^ n) (λ l. l)) (λ l. swapsFrom n rows d l)
@@ -47,11 +47,6 @@ swaps n m rows = each (listFrom 1 m (λ d. d)) (λ d. swapsBy n rows d)
 unfoldable pub raises : (n m : ℕ) (rows : List ℕ) (s : Swap) → Bool
 unfolding nonlinearity swapped
 raises n m rows s = ltb (figureOf n m rows) (figureAfter n m rows s)
-
--- the first member of a list that passes a test, and none where no member does
-unfoldable pub firstOf : {A : Type 0} (p : A → Bool) (xs : List A) → List A
-firstOf p [] = []
-firstOf p (x ∷ xs) = elim (p x) [ true ↦ x ∷ [] | false ↦ firstOf p xs ]
 
 -- what a reply gives of a swap, if there is one: 1, both inputs and the new figure; for "none" four zeros
 abbrev pub shownSwap : (n m : ℕ) (rows : List ℕ) (ss : List Swap) → List ℕ

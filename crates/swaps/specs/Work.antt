@@ -1,18 +1,18 @@
 -- What the search for a raising swap goes by, and nobody need believe: tables of nearest pairs, what the functions ask and what they leave.
 use Prim.Native.Nat.{ℕ, suc, _+_, _*_, _^_, _≤_, _<_}
 use mathlib.Core.Path.{_≡_}
-use mathlib.Core.Bool.{Bool, true, cond}
+use mathlib.Core.Bool.{Bool, true, false, cond}
 use mathlib.Core.List.{List, [], _∷_}
 use lib.Bits.{bitXor}
 use lib.Dec.{eqb}
 use lib.IntN.{ℤ}
 use lib.ListN.{length}
 use Rattle.boolean.specs.Bits.{affine}
-use Rattle.boolean.specs.Functions.{at, component, distance, swapped, Within}
-use Rattle.boolean.specs.Sums.{listBelow}
+use Rattle.boolean.specs.Functions.{at, component, distance, swapped, MaskWithin}
+use Rattle.boolean.specs.Sums.{listBelow, firstOf}
 use Rattle.refusals.specs.Table.{Box}
 use Rattle.linear.specs.declared.Found.{Found}
-use Rattle.swaps.specs.Swaps.{Swap, figureOf, firstOf, raises}
+use Rattle.swaps.specs.Swaps.{Swap, figureOf, raises}
 use Rattle.swaps.specs.declared.Attempt.{Attempt}
 use Rattle.swaps.specs.declared.Searched.{Searched}
 
@@ -32,9 +32,9 @@ tableOf rows pair = listBelow (length rows) (λ x. entryOf (component rows (pair
 abbrev pub apartIn : (tables : List ℕ) (low high k : ℕ) → Bool
 apartIn tables low high k = eqb (bitXor (at tables (256 * k + low)) (at tables (256 * k + high))) 3
 
--- a pair of a box that differs at so many inputs
+-- a pair of a box that differs at `figure` inputs
 pub record NearestPair (n m : ℕ) (rows : List ℕ) (figure : ℕ) (pair : Found) : Type 0 where
-  pub mask : Within m (2 ^ m) (pair .c)
+  pub mask : MaskWithin m (2 ^ m) (pair .c)
   pub w-high : pair .w < 2 ^ n
   pub b-high : pair .b < 2
   pub differs : distance n (component rows (pair .c)) (pair .w) (pair .b) ≡ figure
@@ -46,7 +46,7 @@ pub record NearestTable (n m : ℕ) (rows : List ℕ) (figure : ℕ) (tables : L
   pub entries : (x : ℕ) → x < 2 ^ n → at tables (256 * k + x) ≡ at (tableOf rows pair) x
 
 -- so are the first tables, as many as the count
-pub record Gathered (n m : ℕ) (rows : List ℕ) (figure : ℕ) (tables : List ℕ) (count : ℕ) : Type 0 where
+pub record PairsGathered (n m : ℕ) (rows : List ℕ) (figure : ℕ) (tables : List ℕ) (count : ℕ) : Type 0 where
   pub room : length tables ≡ 4096
   pub few : count ≤ 16
   pub tables-are : (k : ℕ) → k < count → NearestTable n m rows figure tables k
@@ -57,7 +57,7 @@ pub record Searching (n m : ℕ) (rows : List ℕ) (figure : ℕ) (tables : List
   pub box : Box n m rows
   pub few : m ≤ 8
   pub figure-is : figure ≡ figureOf n m rows
-  pub gathered : Gathered n m rows figure tables count
+  pub gathered : PairsGathered n m rows figure tables count
   pub other-size : length other ≡ 2 ^ n
   pub table-size : length table ≡ 2 ^ n
   pub values-size : length values ≡ 2 ^ n
@@ -77,6 +77,13 @@ pub record Passed (n m : ℕ) (rows : List ℕ) (list : List Swap) (low high : �
   pub figure-is : r .mask ≡ 0 → r .figure ≡ figureOf n m (swapped rows low high)
   pub none : 1 ≤ r .mask → firstOf (raises n m rows) list ≡ []
 
+-- what a search gives that found a swap, and one that found none
+abbrev pub foundAt : (low high figure hint : ℕ) → Searched
+foundAt low high figure hint = record { found = true; low = low; high = high; figure = figure; hint = hint }
+
+abbrev pub notFound : (hint : ℕ) → Searched
+notFound hint = record { found = false; low = 0; high = 0; figure = 0; hint = hint }
+
 -- the swap that a search found
 abbrev pub swapOf : Searched → List Swap
 swapOf s = cond (s .found) (record { low = s .low; high = s .high } ∷ []) []
@@ -85,4 +92,4 @@ swapOf s = cond (s .found) (record { low = s .low; high = s .high } ∷ []) []
 pub record SearchedIn (n m : ℕ) (rows : List ℕ) (list : List Swap) (s : Searched) : Type 0 where
   pub result : swapOf s ≡ firstOf (raises n m rows) list
   pub figure-is : s .found ≡ true → s .figure ≡ figureOf n m (swapped rows (s .low) (s .high))
-  pub hint-is : Within m (2 ^ m) (s .hint)
+  pub hint-is : MaskWithin m (2 ^ m) (s .hint)

@@ -10,16 +10,17 @@ ghost use lib.Count.{ones};
 ghost use lib.ListN.{length};
 ghost use lib.Seq.{sets};
 ghost use Rattle.boolean.specs.Bits.{dot, affine};
-ghost use Rattle.boolean.specs.Functions.{swapped, Within};
+ghost use Rattle.boolean.specs.Functions.{swapped, MaskWithin};
 ghost use Rattle.boolean.specs.Sums.{listBelow, every, AnyContent};
 ghost use Rattle.refusals.specs.Table.{figures, Box};
 ghost use Rattle.walsh.specs.Work.{Spectra};
 ghost use Rattle.linear.specs.Nonlinearity.{nonlinearity};
-ghost use Rattle.linear.specs.Work.{Swept};
-ghost use Rattle.linear.specs.Calls.{candidate};
+ghost use Rattle.linear.specs.Work.{PairsSwept};
+ghost use Rattle.linear.specs.Calls.{pairCandidate};
 ghost use Rattle.swaps.specs.Swaps.{swapAt, swapsFrom, swapsBy, swaps, raised, raisingReply};
-ghost use Rattle.swaps.specs.Calls.{raisingSwap};
-ghost use Rattle.swaps.specs.Work.{entryOf, tableOf, apartIn, NearestPair, Gathered, Searching, Tried, Passed, SearchedIn};
+ghost use Rattle.swaps.specs.Calls.{saidRaisingSwap};
+ghost use Rattle.swaps.specs.Work.{entryOf, tableOf, apartIn, NearestPair, PairsGathered, Searching, Tried, Passed, SearchedIn};
+ghost use Rattle.swaps.specs.Work.{foundAt, notFound};
 
 // The answer of the call: both inputs and the new figure, none, or a refusal.
 pub enum RaisingSwap {
@@ -41,6 +42,40 @@ struct Searched {
     high: usize,
     figure: u32,
     hint: u32,
+}
+
+// What each part of the search is told: the widths of the box, its nonlinearity, and how many tables of nearest pairs there are.
+struct Job {
+    n: u32,
+    m: u32,
+    figure: u32,
+    count: usize,
+}
+
+// A search that found a swap.
+fn found_at(low: usize, high: usize, figure: u32, hint: u32) -> Searched
+    ensures { λ r. ⌜ r ≡ foundAt low high figure hint ⌝ }
+{
+    Searched {
+        found: true,
+        low,
+        high,
+        figure,
+        hint,
+    }
+}
+
+// A search that found none.
+fn not_found(hint: u32) -> Searched
+    ensures { λ r. ⌜ r ≡ notFound hint ⌝ }
+{
+    Searched {
+        found: false,
+        low: 0,
+        high: 0,
+        figure: 0,
+        hint,
+    }
 }
 
 // The rows after a swap.
@@ -75,7 +110,7 @@ fn reaching(
     bits: &mut [u8],
     out: &mut [i32],
 ) -> Attempt
-    requires { ⌜ Swept n m (now rows) (now bits) (now out) × Spectra (now fixed) × Within m (2 ^ m) hint × (m ≤ 8) ⌝ }
+    requires { ⌜ PairsSwept n m (now rows) (now bits) (now out) × Spectra (now fixed) × MaskWithin m (2 ^ m) hint × (m ≤ 8) ⌝ }
     ensures { λ r. ⌜ Tried n m (now (rows .entry)) count r
         × AnyContent (now (bits .entry)) (now (bits .exit)) × AnyContent (now (out .entry)) (now (out .exit)) ⌝ }
 {
@@ -145,9 +180,9 @@ fn gather_pairs(
     out: &mut [i32],
     tables: &mut [u8],
 ) -> usize
-    requires { ⌜ Swept n m (now rows) (now bits) (now out) × Spectra (now fixed) × (m ≤ 8)
+    requires { ⌜ PairsSwept n m (now rows) (now bits) (now out) × Spectra (now fixed) × (m ≤ 8)
         × NearestPair n m (now rows) (present .count) present × (length (now tables) ≡ 4096) ⌝ }
-    ensures { λ r. ⌜ Gathered n m (now (rows .entry)) (present .count) (now (tables .exit)) r
+    ensures { λ r. ⌜ PairsGathered n m (now (rows .entry)) (present .count) (now (tables .exit)) r
         × AnyContent (now (bits .entry)) (now (bits .exit)) × AnyContent (now (out .entry)) (now (out .exit)) ⌝ }
 {
     write_table(rows, present, 0, tables);
@@ -192,15 +227,12 @@ fn all_apart(tables: &[u8], count: usize, low: usize, high: usize) -> bool
 }
 
 // One swap, if its rows differ in d bits: the new figure where it raises the nonlinearity, or else the component to try first next time.
-// The test that turns most swaps down comes first.
+// The test that turns most swaps down comes first; it goes by the tables of the gathered pairs.
 fn try_swap(
     fixed: &[i32; 2048],
-    n: u32,
-    m: u32,
+    job: Job,
     rows: &[u32],
-    figure: u32,
-    tables: &[u8],
-    count: usize,
+    pairs: &[u8],
     hint: u32,
     d: u32,
     low: usize,
@@ -209,32 +241,28 @@ fn try_swap(
     bits: &mut [u8],
     out: &mut [i32],
 ) -> Attempt
-    requires { ⌜ Searching n m (now rows) figure (now tables) count (now work) (now bits) (now out) × Spectra (now fixed)
-        × Within m (2 ^ m) hint
-        × (low < 2 ^ n) × (high < 2 ^ n) ⌝ }
-    ensures { λ r. ⌜ Passed n m (now (rows .entry)) (swapAt (now (rows .entry)) d low high) low high r
+    requires { ⌜ Searching (job .n) (job .m) (now rows) (job .figure) (now pairs) (job .count) (now work) (now bits) (now out)
+        × Spectra (now fixed) × MaskWithin (job .m) (2 ^ job .m) hint × (low < 2 ^ job .n) × (high < 2 ^ job .n) ⌝ }
+    ensures { λ r. ⌜ Passed (job .n) (job .m) (now (rows .entry)) (swapAt (now (rows .entry)) d low high) low high r
         × AnyContent (now (work .entry)) (now (work .exit)) × AnyContent (now (bits .entry)) (now (bits .exit))
         × AnyContent (now (out .entry)) (now (out .exit)) ⌝ }
 {
-    if !all_apart(tables, count, low, high) {
+    if !all_apart(pairs, job.count, low, high) {
         return turned_down(hint);
     }
     if differing(rows[low], rows[high]) != d {
         return turned_down(hint);
     }
     write_swapped(rows, low, high, work);
-    reaching(fixed, n, m, work, figure, hint, bits, out)
+    reaching(fixed, job.n, job.m, work, job.figure, hint, bits, out)
 }
 
 // The swaps of one input with each higher one.
 fn search_from(
     fixed: &[i32; 2048],
-    n: u32,
-    m: u32,
+    job: Job,
     rows: &[u32],
-    figure: u32,
-    tables: &[u8],
-    count: usize,
+    pairs: &[u8],
     start: u32,
     d: u32,
     low: usize,
@@ -242,157 +270,85 @@ fn search_from(
     bits: &mut [u8],
     out: &mut [i32],
 ) -> Searched
-    requires { ⌜ Searching n m (now rows) figure (now tables) count (now work) (now bits) (now out) × Spectra (now fixed)
-        × Within m (2 ^ m) start
-        × (low < 2 ^ n) ⌝ }
-    ensures { λ r. ⌜ SearchedIn n m (now (rows .entry)) (swapsFrom n (now (rows .entry)) d low) r
+    requires { ⌜ Searching (job .n) (job .m) (now rows) (job .figure) (now pairs) (job .count) (now work) (now bits) (now out)
+        × Spectra (now fixed) × MaskWithin (job .m) (2 ^ job .m) start × (low < 2 ^ job .n) ⌝ }
+    ensures { λ r. ⌜ SearchedIn (job .n) (job .m) (now (rows .entry)) (swapsFrom (job .n) (now (rows .entry)) d low) r
         × AnyContent (now (work .entry)) (now (work .exit)) × AnyContent (now (bits .entry)) (now (bits .exit))
         × AnyContent (now (out .entry)) (now (out .exit)) ⌝ }
 {
     let mut hint = start;
     let mut high = low + 1;
     while high < rows.len() {
-        let next = try_swap(
-            fixed,
-            n,
-            m,
-            rows,
-            figure,
-            tables,
-            count,
-            hint,
-            d,
-            low,
-            high,
-            work,
-            bits,
-            out,
-        );
+        let next = try_swap(fixed, job, rows, pairs, hint, d, low, high, work, bits, out);
         if next.mask == 0 {
-            return Searched {
-                found: true,
-                low,
-                high,
-                figure: next.figure,
-                hint,
-            };
+            return found_at(low, high, next.figure, hint);
         }
         hint = next.mask;
         high += 1;
     }
-    Searched {
-        found: false,
-        low: 0,
-        high: 0,
-        figure: 0,
-        hint,
-    }
+    not_found(hint)
 }
 
 // The swaps of rows that differ in d bits.
 fn search_by(
     fixed: &[i32; 2048],
-    n: u32,
-    m: u32,
+    job: Job,
     rows: &[u32],
-    figure: u32,
-    tables: &[u8],
-    count: usize,
+    pairs: &[u8],
     start: u32,
     d: u32,
     work: &mut [u32],
     bits: &mut [u8],
     out: &mut [i32],
 ) -> Searched
-    requires { ⌜ Searching n m (now rows) figure (now tables) count (now work) (now bits) (now out) × Spectra (now fixed)
-        × Within m (2 ^ m) start ⌝ }
-    ensures { λ r. ⌜ SearchedIn n m (now (rows .entry)) (swapsBy n (now (rows .entry)) d) r
+    requires { ⌜ Searching (job .n) (job .m) (now rows) (job .figure) (now pairs) (job .count) (now work) (now bits) (now out)
+        × Spectra (now fixed) × MaskWithin (job .m) (2 ^ job .m) start ⌝ }
+    ensures { λ r. ⌜ SearchedIn (job .n) (job .m) (now (rows .entry)) (swapsBy (job .n) (now (rows .entry)) d) r
         × AnyContent (now (work .entry)) (now (work .exit)) × AnyContent (now (bits .entry)) (now (bits .exit))
         × AnyContent (now (out .entry)) (now (out .exit)) ⌝ }
 {
     let mut hint = start;
     let mut low = 0;
     while low < rows.len() {
-        let part = search_from(
-            fixed,
-            n,
-            m,
-            rows,
-            figure,
-            tables,
-            count,
-            hint,
-            d,
-            low,
-            work,
-            bits,
-            out,
-        );
+        let part = search_from(fixed, job, rows, pairs, hint, d, low, work, bits, out);
         if part.found {
             return part;
         }
         hint = part.hint;
         low += 1;
     }
-    Searched {
-        found: false,
-        low: 0,
-        high: 0,
-        figure: 0,
-        hint,
-    }
+    not_found(hint)
 }
 
 // All swaps, by the number of bits in which the rows differ.
 fn search(
     fixed: &[i32; 2048],
-    n: u32,
-    m: u32,
+    job: Job,
     rows: &[u32],
-    figure: u32,
-    tables: &[u8],
-    count: usize,
+    pairs: &[u8],
     start: u32,
     work: &mut [u32],
     bits: &mut [u8],
     out: &mut [i32],
 ) -> Searched
-    requires { ⌜ Searching n m (now rows) figure (now tables) count (now work) (now bits) (now out) × Spectra (now fixed)
-        × Within m (2 ^ m) start ⌝ }
-    ensures { λ r. ⌜ SearchedIn n m (now (rows .entry)) (swaps n m (now (rows .entry))) r
+    requires { ⌜ Searching (job .n) (job .m) (now rows) (job .figure) (now pairs) (job .count) (now work) (now bits) (now out)
+        × Spectra (now fixed) × MaskWithin (job .m) (2 ^ job .m) start ⌝ }
+    ensures { λ r. ⌜ SearchedIn (job .n) (job .m) (now (rows .entry)) (swaps (job .n) (job .m) (now (rows .entry))) r
         × AnyContent (now (work .entry)) (now (work .exit)) × AnyContent (now (bits .entry)) (now (bits .exit))
         × AnyContent (now (out .entry)) (now (out .exit)) ⌝ }
 {
+    let m = job.m;
     let mut hint = start;
     let mut d = 1;
     while d <= m {
-        let part = search_by(
-            fixed,
-            n,
-            m,
-            rows,
-            figure,
-            tables,
-            count,
-            hint,
-            d,
-            work,
-            bits,
-            out,
-        );
+        let part = search_by(fixed, job, rows, pairs, hint, d, work, bits, out);
         if part.found {
             return part;
         }
         hint = part.hint;
         d += 1;
     }
-    Searched {
-        found: false,
-        low: 0,
-        high: 0,
-        figure: 0,
-        hint,
-    }
+    not_found(hint)
 }
 
 // The nearest pairs are gathered from the present witness on, and all swaps are searched with their tables.
@@ -407,32 +363,26 @@ fn gather_and_search(
     bits: &mut [u8],
     out: &mut [i32],
 ) -> Searched
-    requires { ⌜ Swept n m (now rows) (now bits) (now out) × Spectra (now fixed) × (m ≤ 8)
-        × (candidate present ≡ nonlinearity n m (now rows) m) × (length (now tables) ≡ 4096) × (length (now work) ≡ 2 ^ n) ⌝ }
+    requires { ⌜ PairsSwept n m (now rows) (now bits) (now out) × Spectra (now fixed) × (m ≤ 8)
+        × (pairCandidate present ≡ nonlinearity n m (now rows) m) × (length (now tables) ≡ 4096) × (length (now work) ≡ 2 ^ n) ⌝ }
     ensures { λ r. ⌜ SearchedIn n m (now (rows .entry)) (swaps n m (now (rows .entry))) r
         × AnyContent (now (tables .entry)) (now (tables .exit)) × AnyContent (now (work .entry)) (now (work .exit))
         × AnyContent (now (bits .entry)) (now (bits .exit)) × AnyContent (now (out .entry)) (now (out .exit)) ⌝ }
 {
     let count = gather_pairs(fixed, n, m, rows, present, bits, out, tables);
-    search(
-        fixed,
+    let job = Job {
         n,
         m,
-        rows,
-        present.count,
-        tables,
+        figure: present.count,
         count,
-        present.c,
-        work,
-        bits,
-        out,
-    )
+    };
+    search(fixed, job, rows, tables, present.c, work, bits, out)
 }
 
 // The search in an accepted box, from the present witness on.
 fn search_box(n: u32, m: u32, rows: &[u32], present: Found) -> RaisingSwap
-    requires { ⌜ Box n m (now rows) × (m ≤ 8) × (candidate present ≡ nonlinearity n m (now rows) m) ⌝ }
-    ensures { λ r. ⌜ raisingSwap r ≡ figures (raised n m (now (rows .entry))) ⌝ }
+    requires { ⌜ Box n m (now rows) × (m ≤ 8) × (pairCandidate present ≡ nonlinearity n m (now rows) m) ⌝ }
+    ensures { λ r. ⌜ saidRaisingSwap r ≡ figures (raised n m (now (rows .entry))) ⌝ }
 {
     let fixed = walsh::spectra();
     let mut tables = [0u8; 4096];
@@ -467,7 +417,7 @@ fn search_box(n: u32, m: u32, rows: &[u32], present: Found) -> RaisingSwap
 // lower input, then the higher; or that there is none. At most eight outputs are taken. (An accepted box has a nonlinearity, so the branch
 // without one is never taken.)
 pub fn raising_swap(n: u32, m: u32, rows: &[u32]) -> RaisingSwap
-    ensures { λ r. ⌜ raisingSwap r ≡ raisingReply n m (now (rows .entry)) ⌝ }
+    ensures { λ r. ⌜ saidRaisingSwap r ≡ raisingReply n m (now (rows .entry)) ⌝ }
 {
     if let Checked::Refused(e) = refusals::check_box_up_to(8, n, m, rows) {
         return RaisingSwap::Declined(e);

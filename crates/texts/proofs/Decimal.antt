@@ -7,7 +7,7 @@ use native.Mathlib.Decide.{decLt}
 use native.Mathlib.Omega.{arith}
 use borrow.Author.Tests.{lt-ltb, le-ltb}
 use Rattle.io.specs.Digits.{digits, glyph, Fewest}
-use Rattle.texts.specs.Text.{within, numeral}
+use Rattle.texts.specs.Text.{decimalDigits, numeral}
 
 ten-pos : (k : ℕ) → 1 ≤ 10 ^ k
 ten-pos zero = omega arith
@@ -18,19 +18,19 @@ glyph-is d h = rw (lt-ltb d 10 h)
 
 -- one step of the numeral: a number below ten, and any other
 module _ (d n : ℕ) where
-  one-digit : n < 10 → within (suc d) n ≡ (48 + n) ∷ []
-  unfolding within
-  one-digit h = rw (lt-ltb n 10 h, within)
+  one-digit : n < 10 → decimalDigits (suc d) n ≡ (48 + n) ∷ []
+  unfolding decimalDigits
+  one-digit h = rw (lt-ltb n 10 h, decimalDigits)
 
-  more-digits : 10 ≤ n → within (suc d) n ≡ within d (n / 10) ++ ((48 + n % 10) ∷ [])
-  unfolding within
-  more-digits h = rw (le-ltb n 10 h, within)
+  more-digits : 10 ≤ n → decimalDigits (suc d) n ≡ decimalDigits d (n / 10) ++ ((48 + n % 10) ∷ [])
+  unfolding decimalDigits
+  more-digits h = rw (le-ltb n 10 h, decimalDigits)
 
   digit-below : n % 10 < 10
   digit-below = omega arith
 
 -- the fewest digits of a number are its numeral
-digits-are : (k d n : ℕ) → k ≤ d → n < 10 ^ suc k → (0 < k → 10 ^ k ≤ n) → digits 10 (suc k) n ≡ within (suc d) n
+digits-are : (k d n : ℕ) → k ≤ d → n < 10 ^ suc k → (0 < k → 10 ^ k ≤ n) → digits 10 (suc k) n ≡ decimalDigits (suc d) n
 digits-are zero d n le top low =
     let h : n < 10 = omega arith in
     let e : n % 10 ≡ n = omega arith in

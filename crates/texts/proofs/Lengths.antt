@@ -6,14 +6,14 @@ use native.Mathlib.Omega.{arith}
 use lib.Dec.{ltb}
 use lib.ListN.{length, length-append}
 use Rattle.boolean.specs.Sums.{each}
-use Rattle.texts.specs.Text.{within, spaced, line}
+use Rattle.texts.specs.Text.{decimalDigits, spaced, line}
 
-pub digits-few : (d n : ℕ) → length (within d n) ≤ d
-unfolding within
+pub digits-few : (d n : ℕ) → length (decimalDigits d n) ≤ d
+unfolding decimalDigits
 digits-few zero n = omega arith
 digits-few (suc d) n = by (digits-few d (n / 10)) (ltb n 10)
   where
-    by : length (within d (n / 10)) ≤ d → (t : Bool) → length {A = ℕ} (elim t [ true ↦ ((48 + n) ∷ []) | false ↦ (within d (n / 10) ++ ((48 + n % 10) ∷ [])) ]) ≤ suc d
+    by : length (decimalDigits d (n / 10)) ≤ d → (t : Bool) → length {A = ℕ} (elim t [ true ↦ ((48 + n) ∷ []) | false ↦ (decimalDigits d (n / 10) ++ ((48 + n % 10) ∷ [])) ]) ≤ suc d
     by h true = omega arith
     by h false = simp length-append (omega arith)
 

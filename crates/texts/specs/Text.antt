@@ -13,13 +13,13 @@ bytes empty = []
 bytes (c then s) = code c ∷ bytes s
 
 -- the decimal digits of n, of at most d digits
-unfoldable pub within : (d n : ℕ) → List ℕ
-within zero n = []
-within (suc d) n = elim (ltb n 10) [ true ↦ ((48 + n) ∷ []) | false ↦ (within d (n / 10) ++ ((48 + n % 10) ∷ [])) ]
+unfoldable pub decimalDigits : (d n : ℕ) → List ℕ
+decimalDigits zero n = []
+decimalDigits (suc d) n = elim (ltb n 10) [ true ↦ ((48 + n) ∷ []) | false ↦ (decimalDigits d (n / 10) ++ ((48 + n % 10) ∷ [])) ]
 
 -- a number of 32 bits as text
 abbrev pub numeral : ℕ → List ℕ
-numeral n = within 10 n
+numeral n = decimalDigits 10 n
 
 -- a figure after a space, and figures, each after a space
 abbrev pub spacedFigure : ℕ → List ℕ

@@ -1,6 +1,7 @@
 pub mod Numbers
-pub mod Step
+pub mod Crossing
 pub mod Turns
 pub mod SpectrumHalves
 pub mod TransformHalves
 pub mod Inverting
+pub mod Magnitudes

@@ -11,7 +11,7 @@ use lib.Pow.{pow-mono}
 use Rattle.boolean.specs.Functions.{at, valueAt, approximation}
 use Rattle.boolean.proofs.Approximations.{approximation-cong}
 use Rattle.boolean.proofs.Filled.{Filled, filled-more}
-use Rattle.walsh.specs.Work.{numbered, withFour, Spectra}
+use Rattle.walsh.specs.Work.{functionNumbered, withFour, Spectra}
 
 -- t has the values of the table from x on, up to the eighth
 pub record Numbered (table : List ℕ) (t x : ℕ) : Type 0 where
@@ -57,23 +57,23 @@ pub numbered-small : (table : List ℕ) (t x : ℕ) → Numbered table t x → 0
 numbered-small table t x s lt = le-trans (s .small) (pow-mono {j = 7} (omega arith))
 
 -- at the end all eight are there
-pub numbered-whole : (table : List ℕ) (t x : ℕ) → Numbered table t x → x ≡ 0 → (t < 256) × ((k : ℕ) → k < 8 → numbered t k ≡ at table k)
-unfolding numbered
+pub numbered-whole : (table : List ℕ) (t x : ℕ) → Numbered table t x → x ≡ 0 → (t < 256) × ((k : ℕ) → k < 8 → functionNumbered t k ≡ at table k)
+unfolding functionNumbered
 numbered-whole table t x s e = whole (subst (Numbered table t) e s)
   where
     whole : Numbered table t 0 → (t < 256) × ((k : ℕ) → k < 8 → t / 2 ^ k % 2 ≡ at table k)
     whole s = (s .small, λ k h. let j : 0 + k ≡ k = omega arith in s .bits k (omega arith) ∙ ap (at table) j)
 
 -- what the fixed table has for a function that has the number t
-entry-is : (fixed : List ℤ) (f : ℕ → ℕ) (t w : ℕ) → Spectra fixed → t < 256 → ((x : ℕ) → x < 8 → numbered t x ≡ f x) → w < 8
+entry-is : (fixed : List ℤ) (f : ℕ → ℕ) (t w : ℕ) → Spectra fixed → t < 256 → ((x : ℕ) → x < 8 → functionNumbered t x ≡ f x) → w < 8
     → valueAt fixed (t * 8 + w) ≡ approximation 3 f w
 entry-is fixed f t w s small e h =
     let row : (t * 8 + w) / 8 ≡ t = omega arith in
     let place : (t * 8 + w) % 8 ≡ w = omega arith in
-    s .rule (t * 8 + w) (omega arith) ∙ ap₂ (λ (a b : ℕ). approximation 3 (numbered a) b) row place ∙ approximation-cong 3 (numbered t) f w e
+    s .rule (t * 8 + w) (omega arith) ∙ ap₂ (λ (a b : ℕ). approximation 3 (functionNumbered a) b) row place ∙ approximation-cong 3 (functionNumbered t) f w e
 
 -- four of its entries, written where the array is filled up to
-module _ (fixed : List ℤ) (f : ℕ → ℕ) (t : ℕ) (s : Spectra fixed) (small : t < 256) (e : (x : ℕ) → x < 8 → numbered t x ≡ f x) where
+module _ (fixed : List ℤ) (f : ℕ → ℕ) (t : ℕ) (s : Spectra fixed) (small : t < 256) (e : (x : ℕ) → x < 8 → functionNumbered t x ≡ f x) where
   one-more : (from to k i : ℕ) (out : List ℤ) → from ≡ t * 8 + to → i ≡ to + k → to + k < 8 → Filled (pos 0) (λ v. approximation 3 f v) 8 i out →
       Filled (pos 0) (λ v. approximation 3 f v) 8 (to + k + 1) (set out (to + k) (valueAt fixed (from + k)))
   one-more from to k i out place same inside filled =

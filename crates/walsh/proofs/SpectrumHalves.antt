@@ -13,8 +13,9 @@ use Rattle.boolean.specs.Sums.{listBelow}
 use Rattle.boolean.specs.Functions.{at, approximation, spectrum}
 use Rattle.boolean.proofs.Lists.{upper-part}
 use Rattle.boolean.proofs.Approximations.{approximation-cong, approximation-le, approximation-low, approximation-high}
+use Rattle.boolean.proofs.Halves as halves
 use Rattle.walsh.specs.Work.{Ready, Halves, Crossed}
-use Rattle.walsh.proofs.Step as step
+use Rattle.walsh.proofs.Crossing.{to-cross, crossed-is}
 
 -- a table of width n and its array, each to be cut in two halves of width m
 pub record Cut (n m : ℕ) (table : List ℕ) (out : List ℤ) : Type 0 where
@@ -30,10 +31,10 @@ module _ {n m : ℕ} {table : List ℕ} {out : List ℤ} (c : Cut n m table out)
   size = c .ready .read .size ∙ ap (λ (k : ℕ). 2 ^ k) (c .one-less)
 
   half : h ≡ 2 ^ m
-  half = step.half-is m table size
+  half = halves.half-is m table size
 
   room : length out ≡ h + h
-  room = c .ready .room ∙ sym (c .ready .read .size) ∙ step.two-halves m table size
+  room = c .ready .room ∙ sym (c .ready .read .size) ∙ halves.two-halves m table size
 
   few : m ≤ 8
   few = omega (arith, c .one-less, c .ready .read .n-high)
@@ -49,8 +50,8 @@ module _ {n m : ℕ} {table : List ℕ} {out : List ℤ} (c : Cut n m table out)
     read = record {
       n-low = c .low;
       n-high = few;
-      size = step.lower-length m table size ∙ half;
-      bits = step.take-entries 0 (λ b. b < 2) h table (zero-lt-suc 1) (c .ready .read .bits);
+      size = halves.lower-length m table size ∙ half;
+      bits = halves.take-entries 0 (λ b. b < 2) h table (zero-lt-suc 1) (c .ready .read .bits);
     };
     room = length-take-le h out (omega (arith, room)) ∙ half;
   }
@@ -70,10 +71,10 @@ module _ {n m : ℕ} {table : List ℕ} {out : List ℤ} (c : Cut n m table out)
           read = record {
             n-low = c .low;
             n-high = few;
-            size = step.upper-length m table size ∙ half;
-            bits = step.drop-entries 0 (λ b. b < 2) h table (c .ready .read .bits);
+            size = halves.upper-length m table size ∙ half;
+            bits = halves.drop-entries 0 (λ b. b < 2) h table (c .ready .read .bits);
           };
-          room = ap length (step.upper-kept h out room lower l₁ as-lower) ∙ omega (arith, length-drop h out, room, half);
+          room = ap length (halves.upper-kept h out room lower l₁ as-lower) ∙ omega (arith, length-drop h out, room, half);
         })
 
     module _ (l₂ : List ℤ) (e₂ : l₂ ≡ spectrum m (at (take (length table - h) (drop h table)))) where
@@ -89,22 +90,22 @@ module _ {n m : ℕ} {table : List ℕ} {out : List ℤ} (c : Cut n m table out)
       small f w = le-trans (approximation-le m (c .low) f w) (pow-mono {j = 29} (omega (arith, few)))
 
       pub crossing : Halves h after-upper
-      crossing = step.halves h out room lower l₁ as-lower upper l₂ as-upper (λ k lt. small (at (take h table)) k) (λ k lt. small (at (drop h table)) k)
+      crossing = to-cross h out room lower l₁ as-lower upper l₂ as-upper (λ k lt. small (at (take h table)) k) (λ k lt. small (at (drop h table)) k)
 
       pub same-long : length after-upper ≡ length out
-      same-long = step.length-after-upper h out room lower l₁ as-lower upper l₂ as-upper ∙ sym room
+      same-long = halves.length-after-upper h out room lower l₁ as-lower upper l₂ as-upper ∙ sym room
 
       lower-is : (w : ℕ) → approximation m (at table) w ≡ lower w
-      lower-is w = approximation-cong m _ _ w (λ x lt. step.lower-entry 0 h table x (omega (arith, half)))
+      lower-is w = approximation-cong m _ _ w (λ x lt. halves.lower-entry 0 h table x (omega (arith, half)))
 
       upper-is : (w : ℕ) → approximation m (λ x. at table (2 ^ m + x)) w ≡ upper w
-      upper-is w = approximation-cong m _ _ w (λ x lt. step.upper-entry 0 h table x (2 ^ m) half)
+      upper-is w = approximation-cong m _ _ w (λ x lt. halves.upper-entry 0 h table x (2 ^ m) half)
 
       pub right : (new : List ℤ) → length new ≡ length after-upper → Crossed h after-upper new → new ≡ spectrum n (at table)
       unfolding spectrum
       right new kept crossed =
-          step.crossed-is h out room lower l₁ as-lower upper l₂ as-upper new kept crossed (λ w. approximation (suc m) (at table) w)
+          crossed-is h out room lower l₁ as-lower upper l₂ as-upper new kept crossed (λ w. approximation (suc m) (at table) w)
           (λ k lt. approximation-low m (c .low) (at table) k (λ x l. c .ready .read .bits x) (omega (arith, half)) ∙ ap₂ (λ (a b : ℤ). a +ℤ b) (lower-is k) (upper-is k))
           (λ k lt. ap (λ (j : ℕ). approximation (suc m) (at table) (j + k)) half
           ∙ approximation-high m (c .low) (at table) k (λ x l. c .ready .read .bits x) (omega (arith, half)) ∙ ap₂ (λ (a b : ℤ). a -ℤ b) (lower-is k) (upper-is k))
-          ∙ ap₂ (λ (j k : ℕ). listBelow j (λ w. approximation k (at table) w)) (sym (step.two-halves m table size) ∙ c .ready .read .size) (sym (c .one-less))
+          ∙ ap₂ (λ (j k : ℕ). listBelow j (λ w. approximation k (at table) w)) (sym (halves.two-halves m table size) ∙ c .ready .read .size) (sym (c .one-less))

@@ -17,14 +17,15 @@ use Rattle.boolean.specs.Functions.{valueAt, transform}
 use Rattle.boolean.proofs.Lists.{list-is}
 use Rattle.boolean.proofs.Sizes.{transform-bound}
 use Rattle.boolean.proofs.Transform.{transform-cong, transform-low, transform-high, transform-zero}
+use Rattle.boolean.proofs.Halves as halves
 use Rattle.walsh.specs.Work.{Halves, Crossed, Summable}
-use Rattle.walsh.proofs.Step as step
+use Rattle.walsh.proofs.Crossing.{to-cross, crossed-is}
 
 -- half of the length
 pub middle : (n : ℕ) (values : List ℤ) → Summable n values → (n ≡ 0 → ⊥) → length values / 2 ≡ 2 ^ (n - 1)
 middle n values s nz =
     let is-suc : n ≡ suc (n - 1) = omega arith in
-    step.half-is (n - 1) values (s .size ∙ ap (λ (k : ℕ). 2 ^ k) is-suc)
+    halves.half-is (n - 1) values (s .size ∙ ap (λ (k : ℕ). 2 ^ k) is-suc)
 
 module _ (n h : ℕ) (values : List ℤ) (s : Summable n values) (nz : n ≡ 0 → ⊥) (half : h ≡ 2 ^ (n - 1)) where
   is-suc : n ≡ suc (n - 1)
@@ -47,10 +48,10 @@ module _ (n h : ℕ) (values : List ℤ) (s : Summable n values) (nz : n ≡ 0 �
   half-summable l e small = record { few = omega (arith, s .few); size = e ∙ half; bound = s .bound; small = small; total = half-total }
 
   lower-small : (k : ℕ) → natAbs (valueAt (take h values) k) ≤ s .bound
-  lower-small = step.take-entries (pos 0) (λ z. natAbs z ≤ s .bound) h values (omega arith) (s .small)
+  lower-small = halves.take-entries (pos 0) (λ z. natAbs z ≤ s .bound) h values (omega arith) (s .small)
 
   upper-small : (k : ℕ) → natAbs (valueAt (drop h values) k) ≤ s .bound
-  upper-small = step.drop-entries (pos 0) (λ z. natAbs z ≤ s .bound) h values (s .small)
+  upper-small = halves.drop-entries (pos 0) (λ z. natAbs z ≤ s .bound) h values (s .small)
 
   pub lower-length : h ≡ length (take h values)
   lower-length = sym (length-take-le h values (omega (arith, room)))
@@ -66,7 +67,7 @@ module _ (n h : ℕ) (values : List ℤ) (s : Summable n values) (nz : n ≡ 0 �
     after-lower = l₁ ++ drop h values
 
     upper-is-kept : take (length after-lower - h) (drop h after-lower) ≡ drop h values
-    upper-is-kept = step.upper-kept h values room lower l₁ as-lower
+    upper-is-kept = halves.upper-kept h values room lower l₁ as-lower
 
     pub upper-summable : Summable (n - 1) (take (length after-lower - h) (drop h after-lower))
     upper-summable =
@@ -85,22 +86,22 @@ module _ (n h : ℕ) (values : List ℤ) (s : Summable n values) (nz : n ≡ 0 �
 
       pub crossing : Halves h after-upper
       crossing =
-          step.halves h values room lower l₁ as-lower upper l₂ as-upper
+          to-cross h values room lower l₁ as-lower upper l₂ as-upper
           (λ k lt. small (valueAt (take h values)) lower-small k) (λ k lt. small (valueAt (drop h values)) upper-small k)
 
       pub same-long : length after-upper ≡ length values
-      same-long = step.length-after-upper h values room lower l₁ as-lower upper l₂ as-upper ∙ sym room
+      same-long = halves.length-after-upper h values room lower l₁ as-lower upper l₂ as-upper ∙ sym room
 
       lower-is : (w : ℕ) → transform (n - 1) (valueAt values) w ≡ lower w
-      lower-is w = transform-cong (n - 1) _ _ w (λ x lt. step.lower-entry (pos 0) h values x (omega (arith, half)))
+      lower-is w = transform-cong (n - 1) _ _ w (λ x lt. halves.lower-entry (pos 0) h values x (omega (arith, half)))
 
       upper-is : (w : ℕ) → transform (n - 1) (λ x. valueAt values (2 ^ (n - 1) + x)) w ≡ upper w
-      upper-is w = transform-cong (n - 1) _ _ w (λ x lt. step.upper-entry (pos 0) h values x (2 ^ (n - 1)) half)
+      upper-is w = transform-cong (n - 1) _ _ w (λ x lt. halves.upper-entry (pos 0) h values x (2 ^ (n - 1)) half)
 
       pub right : (new : List ℤ) → length new ≡ length after-upper → Crossed h after-upper new
           → new ≡ listBelow (2 ^ n) (λ w. transform n (valueAt values) w)
       right new kept crossed =
-          step.crossed-is h values room lower l₁ as-lower upper l₂ as-upper new kept crossed (λ w. transform (suc (n - 1)) (valueAt values) w)
+          crossed-is h values room lower l₁ as-lower upper l₂ as-upper new kept crossed (λ w. transform (suc (n - 1)) (valueAt values) w)
           (λ k lt. transform-low (n - 1) (valueAt values) k (omega (arith, half)) ∙ ap₂ (λ (a b : ℤ). a +ℤ b) (lower-is k) (upper-is k))
           (λ k lt. ap (λ (j : ℕ). transform (suc (n - 1)) (valueAt values) (j + k)) half
           ∙ transform-high (n - 1) (valueAt values) k (omega (arith, half)) ∙ ap₂ (λ (a b : ℤ). a -ℤ b) (lower-is k) (upper-is k))
@@ -118,7 +119,7 @@ one-value n values s e = subst (λ (k : ℕ). length values ≡ 2 ^ k → values
 pub two-values : (values new : List ℤ) → Summable 1 values → length new ≡ length values → Crossed 1 values new
     → new ≡ listBelow (2 ^ 1) (λ w. transform 1 (valueAt values) w)
 two-values values new s kept crossed =
-    step.halves-are (pos 0) 1 (λ w. transform 1 (valueAt values) w) new (kept ∙ s .size)
+    halves.halves-are (pos 0) 1 (λ w. transform 1 (valueAt values) w) new (kept ∙ s .size)
     (λ k lt. only (λ (j : ℕ). valueAt new j ≡ transform 1 (valueAt values) j) k lt
     (crossed .sums 0 (lit< tt) ∙ sym (transform-low 0 (valueAt values) 0 (lit< tt) ∙ ap₂ (λ (a b : ℤ). a +ℤ b) first second)))
     (λ k lt. only (λ (j : ℕ). valueAt new (1 + j) ≡ transform 1 (valueAt values) (1 + j)) k lt

@@ -6,7 +6,7 @@ use lib.IntN.{ℤ}
 use lib.ListN.{length}
 use Rattle.boolean.specs.Sums.{listBelow}
 use Rattle.boolean.specs.Functions.{at, valueAt, spectrum, inverse, isSpectrum}
-use Rattle.refusals.specs.Table.{Check, _unless_, inRange, tableCallChecks, Wrote, written}
+use Rattle.refusals.specs.Table.{Check, _unless_, inRange, tableCallChecks, Wrote, saidWritten}
 use Rattle.refusals.specs.declared.Refusal.the-variants.{InputWidth, ReadLength, WrittenLength, NoFunction}
 use Rattle.refusals.specs.declared.Written.{Written}
 
@@ -28,9 +28,9 @@ inverseChecks n values room = inverseLengths n (length values) room ++ functionC
 -- the outcome of a call of `walsh::spectrum`
 abbrev pub SpectrumCalled : (n : ℕ) (table : List ℕ) (lent : List ℤ) (answer : Written) (left : List ℤ) → Type 0
 SpectrumCalled n table lent answer left =
-    Wrote (tableCallChecks n table (length lent)) [] (spectrum n (at table)) lent (written answer) left
+    Wrote (tableCallChecks n table (length lent)) [] (spectrum n (at table)) lent (saidWritten answer) left
 
 -- the outcome of a call of `walsh::inverse_spectrum`
 abbrev pub InverseCalled : (n : ℕ) (values : List ℤ) (lent : List ℕ) (answer : Written) (left : List ℕ) → Type 0
 InverseCalled n values lent answer left =
-    Wrote (inverseChecks n values (length lent)) [] (listBelow (2 ^ n) (λ x. inverse n (valueAt values) x)) lent (written answer) left
+    Wrote (inverseChecks n values (length lent)) [] (listBelow (2 ^ n) (λ x. inverse n (valueAt values) x)) lent (saidWritten answer) left

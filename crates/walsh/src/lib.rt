@@ -15,27 +15,21 @@ ghost use Rattle.boolean.specs.Bits.{dot};
 ghost use Rattle.boolean.specs.Sums.{countBelow, listBelow, every};
 ghost use Rattle.boolean.specs.Functions.{at, valueAt, signBit, inverse};
 ghost use Rattle.boolean.specs.Functions as functions;
-ghost use Rattle.refusals.specs.Table.{first, Wrote, written, Table};
+ghost use Rattle.refusals.specs.Table.{first, Wrote, saidWritten, Table};
 ghost use Rattle.walsh.specs.Calls.{inverseLengths, functionCheck, SpectrumCalled, InverseCalled};
-ghost use Rattle.walsh.specs.Work.{numbered, withFour, Spectra, Ready, Halves, Crossed, Summable, Invertible};
-
-// A byte as an index.
-fn wide(x: u8) -> usize
-    ensures { λ r. ⌜ r ≡ x ⌝ }
-{
-    x as usize
-}
+ghost use Rattle.walsh.specs.Work.{functionNumbered, withFour, Spectra, Ready, Halves, Crossed, Summable, Invertible};
+ghost use Rattle.walsh.specs.Work.{largestMagnitude, FirstOfMagnitude};
 
 // The number of a truth table of three inputs: its entry at x is bit x.
 fn number(table: &[u8]) -> usize
     requires { ⌜ Table 3 (now table) ⌝ }
-    ensures { λ r. ⌜ (r < 256) × ((x : ℕ) → x < 8 → numbered r x ≡ at (now (table .entry)) x) ⌝ }
+    ensures { λ r. ⌜ (r < 256) × ((x : ℕ) → x < 8 → functionNumbered r x ≡ at (now (table .entry)) x) ⌝ }
 {
     let mut t: usize = 0;
     let mut x: usize = 8;
     while 0 < x {
         x -= 1;
-        t = 2 * t + wide(table[x]);
+        t = 2 * t + boolean::wide(table[x]) as usize;
     }
     t
 }
@@ -171,7 +165,7 @@ fn transform_of_eight(values: &mut [i32])
     butterfly(values, 4);
 }
 
-// The transform of sixteen values, likewise. The lengths are written out, so that all of it compiles to sums and differences, with neither
+// The transform of sixteen values, in place. The lengths are written out, so that all of it compiles to sums and differences, with neither
 // a loop nor a call.
 fn transform_of_sixteen(values: &mut [i32])
     requires { ⌜ Summable 4 (now values) ⌝ }
@@ -182,7 +176,7 @@ fn transform_of_sixteen(values: &mut [i32])
     butterfly(values, 8);
 }
 
-// The transform of sixteen values or fewer, by the one that is written out for so many; one value is its own transform.
+// The transform of sixteen values or fewer, by the one that is written out for that number; one value is its own transform.
 fn transform_at_once(n: u32, values: &mut [i32])
     requires { ⌜ (n < 5) × Summable n (now values) ⌝ }
     ensures { λ _. ⌜ now (values .exit) ≡ listBelow (2 ^ n) (λ w. functions.transform n (valueAt (now (values .entry))) w) ⌝ }
@@ -254,6 +248,36 @@ fn all_full(values: &[i32], size: u32) -> bool
     true
 }
 
+// The largest magnitude of some values, and 0 of none.
+pub fn largest_magnitude(values: &[i32]) -> u32
+    ensures { λ r. ⌜ r ≡ largestMagnitude (now (values .entry)) ⌝ }
+{
+    let mut largest: u32 = 0;
+    let mut w = 0;
+    while w < values.len() {
+        let size = boolean::magnitude(values[w]);
+        if largest < size {
+            largest = size;
+        }
+        w += 1;
+    }
+    largest
+}
+
+// The first place of a magnitude, and the number of values where none has it.
+pub fn first_place(values: &[i32], size: u32) -> usize
+    ensures { λ r. ⌜ FirstOfMagnitude (now (values .entry)) size r ⌝ }
+{
+    let mut w = 0;
+    while w < values.len() {
+        if boolean::magnitude(values[w]) == size {
+            return w;
+        }
+        w += 1;
+    }
+    w
+}
+
 // The values, copied.
 fn copy(values: &[i32], work: &mut [i32])
     requires { ⌜ length (now work) ≡ length (now values) ⌝ }
@@ -300,7 +324,7 @@ fn check_lengths(n: u32, count: usize, room: usize) -> Checked
 fn invert(n: u32, values: &[i32], work: &mut [i32], table: &mut [u8]) -> Written
     requires { ⌜ Invertible n (now values) (now work) (now table) ⌝ }
     ensures inverted { λ r. ⌜ Wrote (functionCheck n (now (values .entry))) []
-        (listBelow (2 ^ n) (λ x. inverse n (valueAt (now (values .entry))) x)) (now (table .entry)) (written r) (now (table .exit)) ⌝ }
+        (listBelow (2 ^ n) (λ x. inverse n (valueAt (now (values .entry))) x)) (now (table .entry)) (saidWritten r) (now (table .exit)) ⌝ }
     ensures transformed { λ r. ⌜ now (work .exit) ≡ listBelow (2 ^ n) (λ x. functions.transform n (valueAt (now (values .entry))) x) ⌝ }
 {
     copy(values, work);

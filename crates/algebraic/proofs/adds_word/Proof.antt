@@ -7,33 +7,33 @@ use lib.ListN.{List·getD-eq-default}
 use Rattle.boolean.specs.Bits.{dot}
 use Rattle.boolean.specs.Functions.{at}
 use Rattle.boolean.proofs.Dots.{dot-zero}
-use Rattle.algebraic.specs.Work.{PutIn}
+use Rattle.algebraic.specs.Work.{WordInserted}
 use Rattle.algebraic.proofs.adds_word.Statement.{statement}
 use Rattle.algebraic.proofs.adds_word.Tie as tie
 
 -- the word that is read is one of the words
-shared-slice-read-put-in : tie.Need-shared-slice-read-put-in
-shared-slice-read-put-in c = search needs
+shared-slice-read-insert-word : tie.Need-shared-slice-read-insert-word
+shared-slice-read-insert-word c = search needs
 
-put-in-requires : tie.Need-put-in-requires
-put-in-requires c κs = let start = c .before .before .before .before .before in
+insert-word-requires : tie.Need-insert-word-requires
+insert-word-requires c κs = let start = c .before .before .before .before .before in
     (start .pre .0, start .pre .1 _, start .pre .2)
 
 returns : tie.Need-returns
 returns c = let start = c .before .before .before .before .before .before in
     let a = start .args in
-    subst (λ (u : ℕ). PutIn (a .m) (at (a .words .now) u) (a .basis .now) (c .put-in .last .1 .1 .0) (c .put-in .result))
-    (c .before .before .before .before .place-of .ensures) (c .put-in .ensures)
+    subst (λ (u : ℕ). WordInserted (a .m) (at (a .words .now) u) (a .basis .now) (c .insert-word .last .1 .1 .0) (c .insert-word .result))
+    (c .before .before .before .before .wide .ensures .0) (c .insert-word .ensures)
 
 returns-2 : tie.Need-returns-2
 returns-2 c = let a = c .before .before .before .args in
     record {
       kept = refl;
       even = λ e h.
-          ap (λ (v : ℕ). dot v e) (List·getD-eq-default (a .words .now) 0 (omega (arith, c .before .place-of .ensures, c .if1 .left))) ∙ dot-zero e;
+          ap (λ (v : ℕ). dot v e) (List·getD-eq-default (a .words .now) 0 (omega (arith, c .before .wide .ensures .0, c .if1 .left))) ∙ dot-zero e;
     }
 
 pub adds-word-spec : {M : Type 1} → statement M
 adds-word-spec =
     tie.close
-    (tie.spec (λ c κs. search needs) (λ c. search needs) shared-slice-read-put-in put-in-requires returns returns-2)
+    (tie.spec (λ c κs. search needs) (λ c. search needs) (λ c. search needs) shared-slice-read-insert-word insert-word-requires returns returns-2)

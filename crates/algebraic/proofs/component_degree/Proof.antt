@@ -25,13 +25,13 @@ mul-is-odd c =
     let in-loop = c .before .before in
     let at-loop = in-loop .before in
     let start = at-loop .before .before .before in
-    omega (arith, c .place-of .ensures, start .pre .inside (at-loop .loop .i) (in-loop .loop-test .taken), start .good .0 .1)
+    omega (arith, c .wide .ensures .0, start .pre .inside (at-loop .loop .i) (in-loop .loop-test .taken), start .good .0 .1)
 
 shared-slice-read-is-odd : tie.Need-shared-slice-read-is-odd Inv-loop μ-loop
 shared-slice-read-is-odd c =
     let in-loop = c .before .before .before in
     let at-loop = in-loop .before in
-    omega (arith, c .before .place-of .ensures, at-loop .before .before .before .pre .inside (at-loop .loop .i) (in-loop .loop-test .taken))
+    omega (arith, c .before .wide .ensures .0, at-loop .before .before .before .pre .inside (at-loop .loop .i) (in-loop .loop-test .taken))
 
 returns : tie.Need-returns Inv-loop μ-loop
 returns c =
@@ -43,7 +43,7 @@ returns c =
     let a = start .args in
     c .ones-of .ensures
     ∙ first-odd (start .pre) (a .c) (at-loop .loop .i) (in-loop .loop-test .taken) (at-loop .loop .inv .1)
-    (ap (λ (u : ℕ). dot (at (a .words .now) u) (a .c)) (sym (placed .place-of .ensures)) ∙ eqb-true _ 1 (sym (found .is-odd .ensures) ∙ c .before .if1 .taken))
+    (ap (λ (u : ℕ). dot (at (a .words .now) u) (a .c)) (sym (placed .wide .ensures .0)) ∙ eqb-true _ 1 (sym (found .is-odd .ensures) ∙ c .before .if1 .taken))
 
 loop-again : tie.Need-loop-again Inv-loop μ-loop
 loop-again c =
@@ -54,7 +54,7 @@ loop-again c =
       below-more _ _ (at-loop .loop .inv .1)
           (λ e.
           eqb-false _ 1 (sym (c .before .is-odd .ensures) ∙ c .if1 .left)
-          (ap (λ (u : ℕ). dot (at (a .words .now) u) (a .c)) (placed .place-of .ensures) ∙ e)),
+          (ap (λ (u : ℕ). dot (at (a .words .now) u) (a .c)) (placed .wide .ensures .0) ∙ e)),
     )
 
 returns-2 : tie.Need-returns-2 Inv-loop μ-loop
@@ -66,5 +66,5 @@ returns-2 c =
 pub component-degree-spec : {M : Type 1} → statement M
 component-degree-spec =
     tie.close
-    (tie.spec Inv-loop μ-loop loop-holds (λ c. search needs) (λ c κs. search needs) mul-is-odd shared-slice-read-is-odd
+    (tie.spec Inv-loop μ-loop loop-holds (λ c. search needs) (λ c κs. search needs) (λ c. search needs) mul-is-odd shared-slice-read-is-odd
     (λ c κs. search needs) (λ c κs. search needs) returns (λ c. search needs) (λ c. search needs) loop-again returns-2)

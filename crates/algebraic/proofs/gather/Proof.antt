@@ -7,8 +7,9 @@ use native.Mathlib.Omega.{arith}
 use borrow.Author.Needs.{needs}
 use lib.ListN.{set, length-take}
 use Rattle.boolean.specs.Functions.{at}
-use Rattle.algebraic.specs.Work.{PutIn}
-use Rattle.algebraic.proofs.Gathering.{Gathering, gathering-none, gathering-passed, gathering-put, gathering-all, gathering-full, zeroes, none-zero}
+use Rattle.boolean.proofs.Lists.{zeroes}
+use Rattle.algebraic.specs.Work.{WordInserted}
+use Rattle.algebraic.proofs.Gathering.{Gathering, gathering-none, gathering-passed, gathering-put, gathering-all, gathering-full, none-zero}
 use Rattle.algebraic.proofs.gather.Statement.{statement}
 use Rattle.algebraic.proofs.gather.Tie as tie
 
@@ -30,7 +31,7 @@ put c =
     let start = at-loop .before .before .before .before in
     let a = start .args in
     gathering-put (at-loop .loop .inv) (at-loop .before .by-ones .ensures) (in-loop .loop-test .taken) (start .pre .0)
-    (subst (λ (r : Bool). PutIn (a .m) (at (a .words .now) (at (at-loop .before .by-ones .result) (at-loop .loop .i))) (at-loop .loop .basis) (c .before .adds-word .last .1 .1 .1 .0) r)
+    (subst (λ (r : Bool). WordInserted (a .m) (at (a .words .now) (at (at-loop .before .by-ones .result) (at-loop .loop .i))) (at-loop .loop .basis) (c .before .adds-word .last .1 .1 .1 .0) r)
     (c .if1 .taken) (c .before .adds-word .ensures))
 
 loop-holds : tie.Need-loop-holds Inv-loop μ-loop
@@ -47,19 +48,19 @@ slice-write-inputs c = omega (arith, c .before .before .before .before .loop .in
 array-share-prefix-basis : tie.Need-array-share-prefix-basis Inv-loop μ-loop
 array-share-prefix-basis c = omega (arith, put c .places, c .before .before .before .before .before .before .before .before .pre .0)
 
-slice-aggregate-none-equal : tie.Need-slice-aggregate-none-equal Inv-loop μ-loop
-slice-aggregate-none-equal c = let put-in = c .before in
-    omega (arith, length-take (put-in .before .before .before .before .before .before .before .before .args .m) (put-in .before .adds-word .last .1 .1 .1 .0), put put-in .places, put-in .before .before .before .before .before .before .before .before .pre .0)
+slice-aggregate-lacks-row : tie.Need-slice-aggregate-lacks-row Inv-loop μ-loop
+slice-aggregate-lacks-row c = let insert-word = c .before in
+    omega (arith, length-take (insert-word .before .before .before .before .before .before .before .before .args .m) (insert-word .before .adds-word .last .1 .1 .1 .0), put insert-word .places, insert-word .before .before .before .before .before .before .before .before .pre .0)
 
 same-length : tie.Need-same-length Inv-loop μ-loop
 same-length c = put (c .before .before .before) .long ∙ sym (c .before .before .before .before .before .before .before .before .before .before .before .pre .3)
 
 returns : tie.Need-returns Inv-loop μ-loop
-returns c = let put-in = c .before .before .before in
-    let at-loop = put-in .before .before .before .before in
+returns c = let insert-word = c .before .before .before in
+    let at-loop = insert-word .before .before .before .before in
     let start = at-loop .before .before .before .before in
-    gathering-full (put put-in) (at-loop .before .by-ones .ensures) (start .pre .2) (start .pre .1)
-    (none-zero (start .args .m) (put-in .before .adds-word .last .1 .1 .1 .0) (omega (arith, put put-in .places, start .pre .0)) (sym (c .before .none-equal .ensures) ∙ c .if2 .taken))
+    gathering-full (put insert-word) (at-loop .before .by-ones .ensures) (start .pre .2) (start .pre .1)
+    (none-zero (start .args .m) (insert-word .before .adds-word .last .1 .1 .1 .0) (omega (arith, put insert-word .places, start .pre .0)) (sym (c .before .lacks-row .ensures) ∙ c .if2 .taken))
 
 loop-again : tie.Need-loop-again Inv-loop μ-loop
 loop-again c = let word = c .before in
@@ -69,7 +70,7 @@ loop-again c = let word = c .before in
     ⊎-elim (λ t. rw (t .4, t .5) (put record { before = word; if1 = t .0 }))
     (λ t.
     rw (t .1, t .2) (gathering-passed (at-loop .loop .inv) (at-loop .before .by-ones .ensures) (in-loop .loop-test .taken)
-    (subst (λ (r : Bool). PutIn (a .m) (at (a .words .now) (at (at-loop .before .by-ones .result) (at-loop .loop .i))) (at-loop .loop .basis) (word .adds-word .last .1 .1 .1 .0) r)
+    (subst (λ (r : Bool). WordInserted (a .m) (at (a .words .now) (at (at-loop .before .by-ones .result) (at-loop .loop .i))) (at-loop .loop .basis) (word .adds-word .last .1 .1 .1 .0) r)
     (t .0 .left) (word .adds-word .ensures)))) (c .if1 .came)
 
 same-length-2 : tie.Need-same-length-2 Inv-loop μ-loop
@@ -82,5 +83,5 @@ pub gather-spec : {M : Type 1} → statement M
 gather-spec =
     tie.close
     (tie.spec Inv-loop μ-loop (λ c κs. search needs) loop-holds (λ c. search needs) adds-word-requires (λ c. search needs)
-    slice-write-inputs (λ c. search needs) array-share-prefix-basis slice-aggregate-none-equal (λ c κs. search needs) same-length
+    slice-write-inputs (λ c. search needs) array-share-prefix-basis slice-aggregate-lacks-row (λ c κs. search needs) same-length
     returns (λ c. search needs) (λ c. search needs) loop-again same-length-2 returns-2)

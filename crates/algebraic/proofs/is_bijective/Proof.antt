@@ -26,8 +26,8 @@ returns-2 : tie.Need-returns-2
 returns-2 c = decided (c .before) false (bijective-unequal _ _ _ (c .if1 .taken))
 
 -- of equal widths: what was found of the rows
-found : (c : tie.After-all-distinct) → let a = c .before .before .before .before .before .before .args in bijective (a .n) (a .m) (a .rows .now) ≡ c .all-distinct .result
-found c = bijective-equal _ _ _ (c .before .if1 .left) ∙ sym (c .all-distinct .ensures)
+found : (c : tie.After-rows-distinct) → let a = c .before .before .before .before .before .before .args in bijective (a .n) (a .m) (a .rows .now) ≡ c .rows-distinct .result
+found c = bijective-equal _ _ _ (c .before .if1 .left) ∙ sym (c .rows-distinct .ensures)
 
 returns-3 : tie.Need-returns-3
 returns-3 c = decided (c .before .before .before) true (found (c .before) ∙ c .if2 .taken)

@@ -1,4 +1,4 @@
--- `algebraic::next_below` meets its contract: no mask within the limit that it passed has a degree below the bar. Assumes nothing.
+-- `algebraic::next_below` meets its contract: no mask within the limit that it passed has a degree below the threshold. Assumes nothing.
 use Prim.Native.Nat.{_-_, _^_, _<_}
 use native.Mathlib.Nat.{lt-of-lt-of-le}
 use native.Mathlib.Omega.{arith}
@@ -9,16 +9,16 @@ use Rattle.algebraic.proofs.next_below.Statement.{statement}
 use Rattle.algebraic.proofs.next_below.Tie as tie
 
 abbrev Inv-loop : tie.InvT-loop
-Inv-loop n m words i inputs count bar c masks at₀ at = Passing m words i bar c at
+Inv-loop n m words i inputs count threshold c masks at₀ at = Passing m words i threshold c at
 
 abbrev μ-loop : tie.MeasureT-loop
-μ-loop n m words i inputs count bar c masks at₀ at = masks - at
+μ-loop n m words i inputs count threshold c masks at₀ at = masks - at
 
 loop-holds : tie.Need-loop-holds Inv-loop μ-loop
 loop-holds c =
     let start = c .before .before .before in
     let a = start .args in
-    passing-starts (a .m) (a .words .now) (a .i) (a .bar) (a .c) (record { limit = start .pre .0 .i-low; c-low = start .pre .2; c-high = start .pre .3; few = start .pre .4 })
+    passing-starts (a .m) (a .words .now) (a .i) (a .threshold) (a .c) (record { limit = start .pre .0 .i-low; c-low = start .pre .2; c-high = start .pre .3; few = start .pre .4 })
 
 -- the loop's mask is one of the box's, and has no more than 32 bits
 below : (c : tie.In-loop Inv-loop μ-loop) → c .before .loop .at < 2 ^ c .before .before .before .before .before .args .m

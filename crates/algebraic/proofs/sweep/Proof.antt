@@ -5,13 +5,13 @@ use native.Mathlib.Nat.{lt-of-lt-of-le}
 use native.Mathlib.Omega.{arith}
 use lib.Pow.{pow-mono}
 use borrow.Author.Needs.{needs}
-use Rattle.algebraic.specs.Work.{candidate}
+use Rattle.algebraic.specs.Work.{degreeCandidate}
 use Rattle.algebraic.proofs.Sweeping.{Meeting, first-walk, meeting-starts, meeting-next, meeting-walk, meeting-low, sweep-ends}
 use Rattle.algebraic.proofs.sweep.Statement.{statement}
 use Rattle.algebraic.proofs.sweep.Tie as tie
 
 abbrev Inv-loop : tie.InvT-loop
-Inv-loop n m words i inputs count masks found₀ met₀ found met = Meeting m words i (candidate found₀) found met
+Inv-loop n m words i inputs count masks found₀ met₀ found met = Meeting m words i (degreeCandidate found₀) found met
 
 abbrev μ-loop : tie.MeasureT-loop
 μ-loop n m words i inputs count masks found₀ met₀ found met = masks - met .c
@@ -43,7 +43,7 @@ weaker-requires : tie.Need-weaker-requires Inv-loop μ-loop
 weaker-requires c κs =
     let at-loop = c .before .before .before in
     let start = at-loop .before .before .before .before .before in
-    (meeting-low (start .pre .0) (at-loop .loop .inv) (below (c .before)), at-loop .loop .inv .barred)
+    (meeting-low (start .pre .0) (at-loop .loop .inv) (below (c .before)), at-loop .loop .inv .limited)
 
 next-within-requires : tie.Need-next-within-requires Inv-loop μ-loop
 next-within-requires c κs =
@@ -75,9 +75,9 @@ returns : tie.Need-returns Inv-loop μ-loop
 returns c =
     let at-loop = c .before .before in
     let power = at-loop .before .before in (
-      sweep-ends (at-loop .loop .inv .sweeping) (power .before .before .before .pre .0) (omega arith)
+      sweep-ends (power .before .before .before .args .words .now) (at-loop .loop .inv .sweeping) (power .before .before .before .pre .0) (omega arith)
           (omega (arith, c .if1 .left, power .power-of-two .ensures .0)),
-      at-loop .loop .inv .barred,
+      at-loop .loop .inv .limited,
     )
 
 pub sweep-spec : {M : Type 1} → statement M

@@ -22,7 +22,7 @@ loop-again : tie.Need-loop-again Inv-loop μ-loop
 loop-again c =
     let in-loop = c .before .before in
     let at-loop = in-loop .before in
-    filled-more 0 (at (at-loop .before .before .before .args .table .now)) _ (at-loop .loop .x) (at-loop .loop .words) (at-loop .loop .inv) (in-loop .loop-test .taken) _ (c .word-of .ensures)
+    filled-more 0 (at (at-loop .before .before .before .args .table .now)) _ (at-loop .loop .x) (at-loop .loop .words) (at-loop .loop .inv) (in-loop .loop-test .taken) _ (c .wide .ensures .0)
 
 same-length : tie.Need-same-length Inv-loop μ-loop
 same-length c = c .before .loop .inv .long ∙ sym (c .before .before .before .before .pre)

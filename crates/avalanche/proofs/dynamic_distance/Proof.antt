@@ -5,7 +5,7 @@ use Rattle.refusals.specs.Table.{figures, first}
 use Rattle.refusals.specs.declared.Checked.the-variants.{Accepted}
 use Rattle.refusals.proofs.Checks.{reply-refused, reply-accepted}
 use Rattle.avalanche.specs.Calls.{distanceChecks}
-use Rattle.avalanche.specs.Work.{candidate}
+use Rattle.avalanche.specs.Work.{changeCandidate}
 use Rattle.avalanche.proofs.Distance.{distance-box, outputs-low, inputs-low, distance-shown}
 use borrow.Author.Needs.{needs}
 use Rattle.avalanche.proofs.dynamic_distance.Statement.{statement}
@@ -34,7 +34,7 @@ returns-2 c =
     let a = told .before .before .before .before .args in
     ap figures
     (distance-shown (a .n) (a .m) (a .rows .now) (a .i) (a .j) (distance-box (a .n) (a .m) (a .rows .now) (a .i) (a .j) (accepted told) .n-low)
-    (candidate (c .before .largest-correlation .result)) (c .before .largest-correlation .ensures))
+    (changeCandidate (c .before .largest-correlation .result)) (c .before .largest-correlation .ensures))
     ∙ reply-accepted (accepted told) _
 
 pub dynamic-distance-spec : {M : Type 1} → statement M

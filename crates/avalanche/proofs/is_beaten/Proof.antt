@@ -7,7 +7,7 @@ use borrow.Author.Needs.{needs}
 use lib.Count.{ones-le}
 use lib.ListN.{length}
 use lib.Pow.{pow-pos}
-use Rattle.avalanche.specs.Work.{candidate}
+use Rattle.avalanche.specs.Work.{changeCandidate}
 use Rattle.avalanche.proofs.Widest.{values-length, beaten}
 use Rattle.avalanche.proofs.is_beaten.Statement.{statement}
 use Rattle.avalanche.proofs.is_beaten.Tie as tie
@@ -26,7 +26,10 @@ returns : tie.Need-returns
 returns c z = absurd (false≢true z)
 
 largest-from-one-requires : tie.Need-largest-from-one-requires
-largest-from-one-requires c κs = short (c .before .before .before)
+largest-from-one-requires c κs =
+    let s = c .before .before .before in
+    let a = s .args in
+    (omega (arith, values-length (a .n) (a .rows .now) (a .c) (a .j) (s .pre .values-are), pow-pos (a .n)), short s)
 
 div-bound : tie.Need-div-bound
 div-bound c = let s = c .before .before .before .before in omega (arith, s .pre .box .size, pow-pos (s .args .n))
@@ -38,7 +41,7 @@ returns-2 c z =
     let a = s .args in
     beaten (a .n) (a .rows .now) (a .c) (a .j) (s .pre .values-are)
     (λ t w. called .largest-from-one .ensures .bounds t (record { low = w .low; high = w .high; few = ones-le 8 t (omega (arith, w .high, short s)) }))
-    (s .pre .box .n-low) (s .pre .j-low) (ap (λ (k : ℕ). called .largest-from-one .result / k) (s .pre .box .size)) (candidate (a .found))
+    (s .pre .box .n-low) (s .pre .j-low) (ap (λ (k : ℕ). called .largest-from-one .result / k) (s .pre .box .size)) (changeCandidate (a .found))
     (sym (c .is-preferred .ensures) ∙ unless (c .is-preferred .result) z)
 
 pub is-beaten-spec : {M : Type 1} → statement M

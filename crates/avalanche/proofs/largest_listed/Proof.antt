@@ -1,25 +1,28 @@
 -- `avalanche::largest_listed` meets its contract: it has the largest magnitude before place k of the list. Assumes nothing.
-use mathlib.Core.Path.{_≡_, ap, _∙_}
+use mathlib.Core.Path.{_≡_, ap, _∙_, refl}
 use mathlib.Core.Logic.{⊎-elim}
-use Prim.Native.Nat.{_-_, _<_}
+use Prim.Native.Nat.{_-_, _<_, ℕ, _≤_, zero-le}
 use native.Mathlib.Omega.{arith}
 use borrow.Author.Needs.{needs}
 use lib.IntN.{ℤ, natAbs}
 use lib.ListN.{length}
 use Rattle.boolean.specs.Functions.{at, valueAt}
 use Rattle.boolean.proofs.Words.{word-told}
-use Rattle.avalanche.proofs.Listing.{Through, through-none, through-keeps, through-takes, through-all}
+use Rattle.boolean.specs.Sums.{largestBelow}
+use Rattle.boolean.proofs.Largest.{largest-takes, largest-keeps}
+use Rattle.avalanche.proofs.Listing.{largest-listed}
 use Rattle.avalanche.proofs.largest_listed.Statement.{statement}
 use Rattle.avalanche.proofs.largest_listed.Tie as tie
 
 abbrev Inv-loop : tie.InvT-loop
-Inv-loop values list largest₀ k₀ largest k = Through values list k largest
+Inv-loop values list largest₀ k₀ largest k = (k ≤ length list) × (largest ≡ largestBelow k (λ k. natAbs (valueAt values (at list k))))
 
 abbrev μ-loop : tie.MeasureT-loop
 μ-loop values list largest₀ k₀ largest k = length list - k
 
 loop-holds : tie.Need-loop-holds Inv-loop μ-loop
-loop-holds c = through-none (c .before .args .values .now) (c .before .args .list .now)
+unfolding largestBelow
+loop-holds c = (zero-le, refl)
 
 -- the change that is read has a value
 inside : (c : tie.After-shared-slice-known2 Inv-loop μ-loop) →
@@ -46,14 +49,27 @@ value c =
 read : (c : tie.After-magnitude Inv-loop μ-loop) → c .magnitude .result ≡ natAbs (value c)
 read c = c .magnitude .ensures ∙ ap natAbs (word-told (value c) (c .before .magnitude-arg .given))
 
+-- the magnitudes at the places of the list
+abbrev sizes : tie.Start Inv-loop μ-loop → ℕ → ℕ
+sizes s k = natAbs (valueAt (s .args .values .now) (at (s .args .list .now) k))
+
 loop-again : tie.Need-loop-again Inv-loop μ-loop
 loop-again c =
-    let so-far = c .before .before .before .before .before .loop .inv in
-    ⊎-elim (λ t. rw (t .1) (through-takes so-far (read (c .before)) (omega arith) (t .0 .taken)))
-    (λ t. rw (t .1) (through-keeps so-far (read (c .before)) (omega (arith, t .0 .left)))) (c .if1 .came)
+    let at-loop = c .before .before .before .before .before in
+    let start = at-loop .before .before in
+    let so-far = at-loop .loop .inv .1 in
+    let is = read (c .before) in (
+      omega arith,
+      ⊎-elim (λ t. t .1 ∙ is ∙ largest-takes (at-loop .loop .k) (sizes start) so-far (omega (arith, is, t .0 .taken)))
+          (λ t. t .1 ∙ largest-keeps (at-loop .loop .k) (sizes start) so-far (omega (arith, is, t .0 .left))) (c .if1 .came),
+    )
 
 returns : tie.Need-returns Inv-loop μ-loop
-returns c = through-all (c .before .loop .inv) (omega arith)
+returns c =
+    let start = c .before .before .before in
+    let a = start .args in
+    let end : c .before .loop .k ≡ length (a .list .now) = omega (arith, c .before .loop .inv .0, c .loop-test .left) in
+    largest-listed (a .values .now) (a .list .now) (c .before .loop .inv .1 ∙ ap (λ (k : ℕ). largestBelow k (sizes start)) end)
 
 pub largest-listed-spec : {M : Type 1} → statement M
 largest-listed-spec =

@@ -4,7 +4,7 @@ use Prim.Native.Nat.{ℕ, _≤_, _<_}
 use mathlib.Core.Path.{sym, subst}
 use native.Mathlib.Nat.{le-trans, le-of-eq}
 use lib.ListN.{length}
-use lib.Pow.{pow-mono}
+use lib.Pow.{pow-pos, pow-mono}
 use Rattle.avalanche.specs.Work.{Listed}
 use Rattle.avalanche.proofs.Scans.{largest-anywhere}
 use Rattle.avalanche.proofs.Listing.{listed-inside, largest-listed-within}
@@ -23,7 +23,7 @@ largest-listed-requires : tie.Need-largest-listed-requires
 largest-listed-requires c κs = listed-inside (c .before .before .args .values .now) (listed (c .before .before) (c .if1 .taken))
 
 largest-from-one-requires : tie.Need-largest-from-one-requires
-largest-from-one-requires c κs = short (c .before .before)
+largest-from-one-requires c κs = let s = c .before .before in (le-trans (pow-pos (s .args .n)) (le-of-eq (sym (s .pre .1))), short s)
 
 returns : tie.Need-returns
 returns c =

@@ -5,7 +5,7 @@ use Prim.Native.Nat.{ℕ, _/_, _^_}
 use native.Mathlib.Omega.{arith}
 use lib.ListN.{length}
 use lib.Pow.{pow-pos}
-use Rattle.avalanche.specs.Work.{candidate}
+use Rattle.avalanche.specs.Work.{changeCandidate}
 use Rattle.avalanche.proofs.Widest.{values-length, stays, largest-some, replaced}
 use borrow.Author.Needs.{needs}
 use Rattle.avalanche.proofs.with_correlation.Statement.{statement}
@@ -42,7 +42,7 @@ first-within-requires c κs =
       s .pre .1,
       scanned .largest-within .ensures,
       largest-some (a .n) (a .rows .now) (a .c) (a .j) (s .pre .0 .values-are) (scanned .largest-within .ensures) (s .pre .0 .box .n-low) (s .pre .0 .j-low) (share scanned)
-          (candidate (a .found)) (s .pre .0 .c-low) (s .pre .0 .single) (sym (c .before .is-preferred .ensures) ∙ c .if2 .taken),
+          (changeCandidate (a .found)) (s .pre .0 .c-low) (s .pre .0 .single) (sym (c .before .is-preferred .ensures) ∙ c .if2 .taken),
     )
 
 returns-2 : tie.Need-returns-2
@@ -50,7 +50,7 @@ returns-2 c =
     let scanned = c .before .before .before in
     let s = scanned .before .before .before .before .before in
     let a = s .args in
-    replaced (a .n) (a .rows .now) (a .c) (a .j) (s .pre .0 .values-are) (scanned .largest-within .ensures) (s .pre .0 .box .n-low) (s .pre .0 .j-low) (share scanned) (candidate (a .found))
+    replaced (a .n) (a .rows .now) (a .c) (a .j) (s .pre .0 .values-are) (scanned .largest-within .ensures) (s .pre .0 .box .n-low) (s .pre .0 .j-low) (share scanned) (changeCandidate (a .found))
     (sym (c .before .before .is-preferred .ensures) ∙ c .before .if2 .taken) (c .first-within .ensures)
 
 returns-3 : tie.Need-returns-3
@@ -59,7 +59,7 @@ returns-3 c =
     let s = scanned .before .before .before .before .before in
     let a = s .args in
     stays (a .n) (a .rows .now) (a .c) (a .j) (s .pre .0 .values-are) (scanned .largest-within .ensures) (s .pre .0 .box .n-low) (s .pre .0 .j-low) (share scanned)
-    (candidate (a .found)) (sym (c .before .is-preferred .ensures) ∙ c .if2 .left)
+    (changeCandidate (a .found)) (sym (c .before .is-preferred .ensures) ∙ c .if2 .left)
 
 pub with-correlation-spec : {M : Type 1} → statement M
 with-correlation-spec =

@@ -8,7 +8,7 @@ use lib.ListN.{length}
 use Rattle.refusals.specs.Table.{inRange, allBelow}
 use Rattle.refusals.proofs.Bounds.{range-high}
 use Rattle.refusals.proofs.Checks.{fails, holds, differs, equals, found, skip, stop, end}
-use Rattle.boxfile.specs.File.{rowsOf, readChecks}
+use Rattle.boxfile.specs.File.{fileRows, readChecks}
 use borrow.Author.Needs.{needs}
 use Rattle.boxfile.proofs.check_read.Statement.{statement}
 use Rattle.boxfile.proofs.check_read.Tie as tie
@@ -27,10 +27,10 @@ size c = equals (ap (λ (k : ℕ). 2 + 4 * k) (c .before .power-of-two .ensures 
 
 answer : (c : tie.After-rows-below) →
     let a = c .before .before .before .before .before .before .before .before .before .args in
-    c .rows-below .result ≡ allBelow (2 ^ a .m) (rowsOf (a .file .now) (a .n))
+    c .rows-below .result ≡ allBelow (2 ^ a .m) (fileRows (a .file .now) (a .n))
 answer c =
     let a = c .before .before .before .before .before .before .before .before .before .args in
-    c .rows-below .ensures ∙ ap (λ (k : ℕ). allBelow k (rowsOf (a .file .now) (a .n))) (c .before .power-of-two2 .ensures .0)
+    c .rows-below .ensures ∙ ap (λ (k : ℕ). allBelow k (fileRows (a .file .now) (a .n))) (c .before .power-of-two2 .ensures .0)
 
 returns : tie.Need-returns
 unfolding readChecks

@@ -8,8 +8,8 @@ use lib.ListN.{length}
 use Rattle.boolean.specs.Functions.{at}
 use Rattle.refusals.specs.Table.{first, figures}
 use Rattle.refusals.specs.declared.Checked.the-variants.{Accepted}
-use Rattle.refusals.proofs.Checks.{passed, reply-refused, reply-accepted, content-refused, content-accepted}
-use Rattle.boxfile.specs.File.{rowsOf, readChecks, fileChecks}
+use Rattle.refusals.proofs.Checks.{passed, reply-refused, reply-accepted, after-refused, after-accepted}
+use Rattle.boxfile.specs.File.{fileRows, readChecks, fileChecks}
 use borrow.Author.Needs.{needs}
 use Rattle.boxfile.proofs.read_box.Statement.{statement}
 use Rattle.boxfile.proofs.read_box.Tie as tie
@@ -18,7 +18,7 @@ returns : tie.Need-returns
 returns c =
     let p = c .before .before .before in
     let h = sym (p .check-file .ensures) ∙ c .before .e .given .1 in
-    record { reply = reply-refused h _; content = content-refused h _ _ }
+    record { reply = reply-refused h _; content = after-refused h _ _ }
 
 accepted : (c : tie.After-enum-told) →
     let a = c .before .before .before .before .before .args in
@@ -64,7 +64,7 @@ returns-2 c =
     let h = accepted told in
     record {
       reply = ap₂ (λ (n m : ℕ). figures (n ∷ m ∷ [])) (w .wide .ensures .0) (c .wide2 .ensures .0) ∙ reply-accepted h _;
-      content = rows .write-rows .ensures ∙ ap (rowsOf (a .file .now)) (w .wide .ensures .0) ∙ content-accepted h _ _;
+      content = rows .write-rows .ensures ∙ ap (fileRows (a .file .now)) (w .wide .ensures .0) ∙ after-accepted h _ _;
     }
 
 pub read-box-spec : {M : Type 1} → statement M

@@ -7,7 +7,7 @@ use lib.ListN.{length}
 use lib.Pow.{pow-pos}
 use Rattle.boolean.specs.Sums.{largestBelow}
 use Rattle.refusals.proofs.Bounds.{largest-below}
-use Rattle.boxfile.specs.File.{rowAt, rowsOf}
+use Rattle.boxfile.specs.File.{rowAt, fileRows}
 use Rattle.boxfile.proofs.FileRows.{length-rows, row-of-rows}
 use Rattle.boxfile.proofs.rows_below.Statement.{statement}
 use Rattle.boxfile.proofs.rows_below.Tie as tie
@@ -16,7 +16,7 @@ returns : tie.Need-returns
 returns c =
     let start = c .before .before in
     let a = start .args in
-    let rows = rowsOf (a .file .now) (a .n) in
+    let rows = fileRows (a .file .now) (a .n) in
     let many : length rows ≡ a .size = length-rows (a .file .now) (a .n) ∙ sym (start .pre .0) in
     let some : 0 < length rows = subst (λ (k : ℕ). 0 < k) (sym (length-rows (a .file .now) (a .n))) (pow-pos (a .n)) in
     ap (λ (k : ℕ). ltb k (a .limit)) (c .largest-row .ensures ∙ ap (λ (k : ℕ). largestBelow k (rowAt (a .file .now))) (sym many))

@@ -4,7 +4,7 @@ use Prim.Native.Nat.{_-_, _^_}
 use native.Mathlib.Omega.{arith}
 use borrow.Author.Needs.{needs}
 use Rattle.boolean.proofs.Filled.{Filled, filled-none, filled-more, filled-whole}
-use Rattle.boxfile.specs.File.{rowAt, rowsOf}
+use Rattle.boxfile.specs.File.{rowAt, fileRows}
 use Rattle.boxfile.proofs.write_rows.Statement.{statement}
 use Rattle.boxfile.proofs.write_rows.Tie as tie
 
@@ -28,7 +28,7 @@ same-length : tie.Need-same-length Inv-loop μ-loop
 same-length c = c .before .loop .inv .long ∙ sym (c .before .before .before .before .pre .0)
 
 returns : tie.Need-returns Inv-loop μ-loop
-unfolding rowsOf
+unfolding fileRows
 returns c =
     let a = c .before .before .before .before .args in
     filled-whole 0 (λ y. rowAt (a .file .now) y) (2 ^ a .n) (c .before .loop .x) (c .before .loop .rows) (c .before .loop .inv)

@@ -7,12 +7,12 @@ use native.Mathlib.Omega.{arith}
 use lib.Seq.{sets}
 use Rattle.refusals.specs.Table.{first, figures}
 use Rattle.refusals.specs.declared.Checked.the-variants.{Accepted}
-use Rattle.refusals.proofs.Checks.{reply-refused, reply-accepted, content-refused, content-accepted}
+use Rattle.refusals.proofs.Checks.{reply-refused, reply-accepted, after-refused, after-accepted}
 use Rattle.catalogue.specs.declared.Gap.{Gap}
 use Rattle.catalogue.specs.declared.Gap.the-variants.{Starts}
 use Rattle.catalogue.specs.Format.{count, valid, part}
 use Rattle.catalogue.specs.Calls.{gapFor, gapIndex, offeredChecks}
-use Rattle.catalogue.specs.Statements.{Bytes}
+use Rattle.catalogue.specs.Statements.{AllBytes}
 use Rattle.catalogue.proofs.Built.{valid-says}
 use Rattle.catalogue.proofs.Adding.{offered-whole, add-refused, add-full, add-nowhere, add-accepted, next-place, gap-index, gap-room, added-is}
 use borrow.Author.Needs.{needs}
@@ -27,7 +27,7 @@ offered c = sym (c .before .before .check-offered .ensures) ∙ c .enum-told .gi
 whole : (c : tie.After-enum-told) → valid (c .before .before .before .before .before .before .args .catalogue .now) ≡ true
 whole c = offered-whole _ _ (offered c)
 
-bytes : (c : tie.After-enum-told) → Bytes (c .before .before .before .before .before .before .args .catalogue .now)
+bytes : (c : tie.After-enum-told) → AllBytes (c .before .before .before .before .before .before .args .catalogue .now)
 bytes c i = omega (arith, c .before .before .before .before .before .slice-known .given i)
 
 counted : (c : tie.After-word-at) → c .word-at .result ≡ count (c .before .before .before .before .before .before .before .before .args .catalogue .now)
@@ -52,7 +52,7 @@ returns : tie.Need-returns
 returns c =
     let p = c .before .before .before in
     let h = add-refused _ _ (sym (p .check-offered .ensures) ∙ c .before .e .given .1) in
-    record { reply = reply-refused h _; content = content-refused h _ _ }
+    record { reply = reply-refused h _; content = after-refused h _ _ }
 
 word-at-requires : tie.Need-word-at-requires
 word-at-requires c κs = omega (arith, valid-says _ (whole (c .before)) .low)
@@ -61,7 +61,7 @@ returns-2 : tie.Need-returns-2
 returns-2 c =
     let t = c .before .before .before in
     let h = add-full _ _ (offered t) (omega (arith, counted (c .before), c .if1 .taken)) in
-    record { reply = reply-refused h _; content = content-refused h _ _ }
+    record { reply = reply-refused h _; content = after-refused h _ _ }
 
 find-gap-requires : tie.Need-find-gap-requires
 find-gap-requires c κs =
@@ -74,7 +74,7 @@ returns-3 c =
     let s = g .before .before in
     let t = s .before .before .before in
     let h = add-nowhere _ _ (offered t) (few s) (answer g ∙ c .enum-told2 .given .1) in
-    record { reply = reply-refused h _; content = content-refused h _ _ }
+    record { reply = reply-refused h _; content = after-refused h _ _ }
 
 open-place-requires : tie.Need-open-place-requires
 open-place-requires c κs =
@@ -122,7 +122,7 @@ returns-4 c =
       reply = ap (λ (x : Gap). figures (gapIndex x ∷ [])) (sym (starts t)) ∙ reply-accepted h _;
       content = i .copy-in .ensures ∙ ap (λ (l : List ℕ). sets l (t .before .gap .given .0 .1 .0) (a .file .now)) (o .open-place .ensures)
           ∙ added-is (a .catalogue .now) (a .file .now) (whole g) (starts t) (bytes g) (w .word-at .result) (counted w) (s .if1 .left)
-          ∙ content-accepted h _ _;
+          ∙ after-accepted h _ _;
     }
 
 pub add-spec : {M : Type 1} → statement M

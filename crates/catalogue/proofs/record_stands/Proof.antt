@@ -4,9 +4,10 @@ use Prim.Native.Nat.{ℕ, _+_, _-_}
 use native.Mathlib.Omega.{arith}
 use borrow.Author.Tests.{le-leb, lt-leb}
 use lib.ListN.{take, drop}
+use Rattle.refusals.specs.Table.{isAccepted}
 use Rattle.refusals.proofs.Checks.{fails, holds}
 use Rattle.boxfile.specs.File.{fileFound}
-use Rattle.catalogue.specs.Format.{part, isAccepted, accepted, stands}
+use Rattle.catalogue.specs.Format.{part, accepted, stands}
 use Rattle.catalogue.proofs.Ands.{stop-at, go-on}
 use borrow.Author.Needs.{needs}
 use Rattle.catalogue.proofs.record_stands.Statement.{statement}

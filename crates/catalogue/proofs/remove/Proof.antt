@@ -7,11 +7,11 @@ use lib.ListN.{length, replicate}
 use lib.Seq.{length-sets}
 use Rattle.refusals.specs.Table.{first}
 use Rattle.refusals.specs.declared.Checked.the-variants.{Accepted}
-use Rattle.refusals.proofs.Checks.{reply-refused, reply-accepted, content-refused, content-accepted}
+use Rattle.refusals.proofs.Checks.{reply-refused, reply-accepted, after-refused, after-accepted}
 use Rattle.catalogue.specs.Format.{count, placeAt}
 use Rattle.catalogue.specs.Work.{closed}
 use Rattle.catalogue.specs.Calls.{indexChecks}
-use Rattle.catalogue.specs.Statements.{Bytes}
+use Rattle.catalogue.specs.Statements.{AllBytes}
 use Rattle.catalogue.proofs.Built.{valid-says}
 use Rattle.catalogue.proofs.Indexed.{Indexed, indexed}
 use Rattle.catalogue.proofs.Edits.{removed-is}
@@ -27,7 +27,7 @@ accepted c = sym (c .before .before .check-index .ensures) ∙ c .enum-told .giv
 known : (c : tie.After-enum-told) → let a = c .before .before .before .before .before .args in Indexed (a .catalogue .now) (a .index)
 known c = indexed _ _ (accepted c)
 
-bytes : (c : tie.After-enum-told) → Bytes (c .before .before .before .before .before .args .catalogue .now)
+bytes : (c : tie.After-enum-told) → AllBytes (c .before .before .before .before .before .args .catalogue .now)
 bytes c i = omega (arith, c .before .before .before .before .slice-known .given i)
 
 counted : (c : tie.After-word-at) → c .word-at .result ≡ count (c .before .before .before .before .before .before .before .args .catalogue .now)
@@ -41,7 +41,7 @@ returns : tie.Need-returns
 returns c =
     let p = c .before .before .before in
     let h = sym (p .check-index .ensures) ∙ c .before .e .given .1 in
-    record { reply = reply-refused h _; content = content-refused h _ _ }
+    record { reply = reply-refused h _; content = after-refused h _ _ }
 
 word-at-requires : tie.Need-word-at-requires
 word-at-requires c κs = omega (arith, known (c .before) .listed)
@@ -84,7 +84,7 @@ returns-2 c =
       reply = reply-accepted (accepted t) [];
       content = p .close-place .ensures ∙ ap (closed (n .word-at .result) (a .index)) (e .clear .ensures)
           ∙ removed-is (a .catalogue .now) (bytes t) (a .index) (known t) (n .word-at .result) (v .word-at2 .result) (w .word-at3 .result) (counted n) (v .word-at2 .ensures .0) (w .word-at3 .ensures .0)
-          ∙ content-accepted (accepted t) _ _;
+          ∙ after-accepted (accepted t) _ _;
     }
 
 pub remove-spec : {M : Type 1} → statement M

@@ -16,7 +16,7 @@ returns-2 : tie.Need-returns-2
 unfolding isPermutation
 returns-2 c =
     let asked = c .before .before in
-    c .all-distinct .ensures ∙ and-holds (distinct (asked .before .before .args .entries .now)) (holds (asked .values-below .ensures) (c .before .if1 .left))
+    c .bytes-distinct .ensures ∙ and-holds (distinct (asked .before .before .args .entries .now)) (holds (asked .values-below .ensures) (c .before .if1 .left))
 
 pub is-permutation-spec : {M : Type 1} → statement M
 is-permutation-spec =

@@ -5,7 +5,7 @@ use native.Mathlib.Omega.{arith}
 use borrow.Author.Needs.{needs}
 use lib.ListN.{length}
 use lib.Seq.{length-take-le}
-use Rattle.differential.proofs.Slots.{zeros-free}
+use Rattle.differential.proofs.Buckets.{zeros-free}
 use Rattle.differential.proofs.Sweeps.{half-room}
 use Rattle.differential.proofs.find_wide.Statement.{statement}
 use Rattle.differential.proofs.find_wide.Tie as tie

@@ -6,24 +6,24 @@ use native.Mathlib.Omega.{arith}
 use borrow.Author.Needs.{needs}
 use lib.ListN.{length}
 use Rattle.differential.specs.Running.{LargestSoFar, numberIn, InRow, runningAfter}
-use Rattle.differential.specs.Work.{Slots}
+use Rattle.differential.specs.Work.{Buckets}
 use Rattle.differential.proofs.Rises.{running-none, rises-none, row-rises-next, in-row, out-of-row, row-below}
-use Rattle.differential.proofs.Slots.{slots-none}
+use Rattle.differential.proofs.Buckets.{buckets-none}
 use Rattle.differential.proofs.largest_risen.Statement.{statement}
 use Rattle.differential.proofs.largest_risen.Tie as tie
 
 abbrev Inv-loop : tie.InvT-loop
-Inv-loop a differences slots₀ row running₀ y₀ slots running y =
+Inv-loop a differences buckets₀ row running₀ y₀ buckets running y =
     (y ≤ length differences) × InRow a (LargestSoFar differences y) running × (running ≡ numberIn a (runningAfter differences y))
-    × Slots a differences y slots
+    × Buckets a differences y buckets
 
 abbrev μ-loop : tie.MeasureT-loop
-μ-loop a differences slots₀ row running₀ y₀ slots running y = length differences - y
+μ-loop a differences buckets₀ row running₀ y₀ buckets running y = length differences - y
 
 loop-holds : tie.Need-loop-holds Inv-loop μ-loop
 loop-holds c =
     let start = c .before .before in
-    (omega arith, in-row 4294967295 (running-none _), ap (numberIn (start .args .a)) (sym (rises-none _)), slots-none _ (start .pre .2))
+    (omega arith, in-row 4294967295 (running-none _), ap (numberIn (start .args .a)) (sym (rises-none _)), buckets-none _ (start .pre .2))
 
 rise-requires : tie.Need-rise-requires Inv-loop μ-loop
 rise-requires c κs =
@@ -54,7 +54,7 @@ returns c =
     let value : at-loop .loop .running - args .a * 1099511627776 ≡ runningAfter values (at-loop .loop .y) = omega (arith, at-loop .loop .inv .2) in (
       subst (λ (k : ℕ). LargestSoFar values k (at-loop .loop .running - args .a * 1099511627776)) all (out-of-row (at-loop .loop .inv .1)),
       value ∙ ap (runningAfter values) all,
-      subst (λ (k : ℕ). Slots (args .a) values k (at-loop .loop .slots)) all (at-loop .loop .inv .3),
+      subst (λ (k : ℕ). Buckets (args .a) values k (at-loop .loop .buckets)) all (at-loop .loop .inv .3),
     )
 
 pub largest-risen-spec : {M : Type 1} → statement M

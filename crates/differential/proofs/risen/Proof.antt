@@ -1,4 +1,4 @@
--- `differential::risen` meets its contract: by the slot, where the difference has it or takes it, and else by those before. Assumes nothing.
+-- `differential::risen` meets its contract: by the bucket, where the difference has it or takes it, and else by those before. Assumes nothing.
 use mathlib.Core.Path.{_≡_, refl, sym, ap, _∙_}
 use Prim.Native.Nat.{ℕ, _+_, _-_, _≤_, _<_}
 use native.Mathlib.Omega.{arith}
@@ -6,9 +6,9 @@ use borrow.Author.Needs.{needs}
 use lib.ListN.{length, take}
 use lib.Seq.{length-take-le}
 use Rattle.boolean.specs.Functions.{at, occurrences}
-use Rattle.differential.specs.Running.{standing, numberIn, risenAt}
+use Rattle.differential.specs.Running.{countWith, numberIn, risenAt}
 use Rattle.sorting.proofs.Occurrences.{occurs-more, occurs-le, occurs-part}
-use Rattle.differential.proofs.Slots.{held-least, held-fits, own-risen, own-next, other-next}
+use Rattle.differential.proofs.Buckets.{held-least, held-fits, own-risen, own-next, other-next}
 use Rattle.differential.proofs.risen.Statement.{statement}
 use Rattle.differential.proofs.risen.Tie as tie
 
@@ -57,9 +57,9 @@ add-standing c =
 returns : tie.Need-returns
 returns c =
     let larger = c .before in
-    let slots = larger .before .before .before .before .before .pre .3 in
+    let buckets = larger .before .before .before .before .before .pre .3 in
     let fits = small (larger .before .before) in
-    (own-risen slots fits (larger .larger .ensures) (c .if1 .taken), own-next slots fits (larger .larger .ensures) (c .if1 .taken))
+    (own-risen buckets fits (larger .larger .ensures) (c .if1 .taken), own-next buckets fits (larger .larger .ensures) (c .if1 .taken))
 
 slice-aggregate-count-equal : tie.Need-slice-aggregate-count-equal
 slice-aggregate-count-equal c = sym (part-length (c .before))

@@ -7,18 +7,18 @@ use native.Mathlib.Omega.{arith}
 use borrow.Author.Needs.{needs}
 use lib.Dec.{lit≤}
 use lib.ListN.{length}
-use Rattle.differential.specs.Work.{candidate, FreeFrom}
+use Rattle.differential.specs.Work.{cellFound, FreeFrom}
 use Rattle.differential.proofs.Sweeps.{box-inside, pairs-few, Sweeping, sweep-starts, sweep-next, sweep-ends, sweep-last}
 use Rattle.differential.proofs.Rises.{largest-few}
-use Rattle.differential.proofs.Slots.{slots-free}
+use Rattle.differential.proofs.Buckets.{buckets-free}
 use Rattle.differential.proofs.sweep_cells.Statement.{statement}
 use Rattle.differential.proofs.sweep_cells.Tie as tie
 
 abbrev Inv-loop : tie.InvT-loop
-Inv-loop n m rows pairs₀ slots₀ inputs found₀ a₀ pairs slots found a = Sweeping n m rows (candidate found₀) (candidate found) pairs a × FreeFrom a slots
+Inv-loop n m rows pairs₀ buckets₀ inputs found₀ a₀ pairs buckets found a = Sweeping n m rows (cellFound found₀) (cellFound found) pairs a × FreeFrom a buckets
 
 abbrev μ-loop : tie.MeasureT-loop
-μ-loop n m rows pairs₀ slots₀ inputs found₀ a₀ pairs slots found a = inputs - a
+μ-loop n m rows pairs₀ buckets₀ inputs found₀ a₀ pairs buckets found a = inputs - a
 
 power-of-two-requires : tie.Need-power-of-two-requires Inv-loop μ-loop
 power-of-two-requires c κs = le-trans (c .before .before .before .pre .0 .n-high) (lit≤ tt)
@@ -62,7 +62,7 @@ loop-again c =
     let sweep = at-loop .loop .inv .0 in (
       sweep-next sweep (omega (arith, in-loop .loop-test .taken, at-loop .before .power-of-two .ensures .0)) (written .write-pairs .ensures)
           (c .after-row .ensures _ (row .largest-risen .ensures .0)),
-      slots-free (row .largest-risen .ensures .2) (pairs-few (sweep .box) (written .write-pairs .ensures)),
+      buckets-free (row .largest-risen .ensures .2) (pairs-few (sweep .box) (written .write-pairs .ensures)),
     )
 
 same-length : tie.Need-same-length Inv-loop μ-loop

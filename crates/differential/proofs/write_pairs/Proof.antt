@@ -9,7 +9,7 @@ use lib.Pow.{pow-pos}
 use Rattle.boolean.specs.Sums.{listBelow}
 use Rattle.boolean.proofs.Filled.{Filled, filled-none, filled-more, filled-whole}
 use Rattle.differential.specs.XorTable.{difference}
-use Rattle.differential.specs.Running.{lowerInput, pairsOf}
+use Rattle.differential.specs.Running.{lowerInput, pairDifferences}
 use Rattle.differential.proofs.write_pairs.Statement.{statement}
 use Rattle.differential.proofs.write_pairs.Tie as tie
 
@@ -72,7 +72,7 @@ same-length : tie.Need-same-length Inv-loop μ-loop
 same-length c = c .before .loop .inv .long
 
 returns : tie.Need-returns Inv-loop μ-loop
-unfolding pairsOf
+unfolding pairDifferences
 returns c =
     let at-loop = c .before in
     let start = at-loop .before .before .before .before in

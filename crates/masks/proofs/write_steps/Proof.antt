@@ -10,13 +10,13 @@ use lib.ListN.{length}
 use Rattle.boolean.specs.Functions.{component}
 use Rattle.boolean.proofs.Digits.{component-dot}
 use Rattle.boolean.proofs.Filled.{Filled, filled-none, filled-more, filled-whole}
-use Rattle.masks.specs.Work.{run, stepTables}
+use Rattle.masks.specs.Work.{maskOfOnes, stepTables}
 use Rattle.masks.proofs.write_steps.Statement.{statement}
 use Rattle.masks.proofs.write_steps.Tie as tie
 
 -- the entry at i
 abbrev stepped : List ℕ → ℕ → ℕ
-stepped rows i = component rows (run (i / length rows)) (i % length rows)
+stepped rows i = component rows (maskOfOnes (i / length rows)) (i % length rows)
 
 abbrev Inv-loop : tie.InvT-loop
 Inv-loop m rows steps₀ size i₀ steps i = Filled 0 (stepped rows) (m * length rows) i steps

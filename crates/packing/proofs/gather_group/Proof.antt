@@ -7,14 +7,14 @@ use native.Mathlib.Omega.{arith}
 use borrow.Author.Needs.{needs}
 use lib.ListN.{set}
 use Rattle.boolean.proofs.Filled.{Filled, filled-more}
-use Rattle.packing.specs.Work.{gathered}
+use Rattle.packing.specs.Work.{bitsGathered}
 use Rattle.packing.proofs.Places.{byte-column, byte-place, columns-before}
 use Rattle.packing.proofs.gather_group.Statement.{statement}
 use Rattle.packing.proofs.gather_group.Tie as tie
 
 -- word q of the packed columns
 abbrev word : List ℕ → ℕ → ℕ → ℕ
-word rows size q = gathered rows (8 * (q % size)) 1 (q / size)
+word rows size q = bitsGathered rows (8 * (q % size)) 1 (q / size)
 
 abbrev Inv-loop : tie.InvT-loop
 Inv-loop rows i size words₀ start y₀ words y = (y ≤ size) × Filled 0 (word rows size) 256 (i * size + y) words
@@ -51,7 +51,7 @@ loop-again c =
       subst (λ (p : ℕ). Filled 0 (word (a .rows .now) (a .size)) 256 p (set (l .loop .words) place (c .gather .result))) more
           (filled-more 0 (word (a .rows .now) (a .size)) 256 place (l .loop .words) (l .loop .inv .1) (omega arith) _
           (c .gather .ensures
-          ∙ ap₂ (λ (p q : ℕ). gathered (a .rows .now) (8 * p) 1 q) (sym (byte-place (a .i) (l .loop .y) (a .size) (omega arith))) (sym (byte-column (a .i) (l .loop .y) (a .size) (omega arith))))),
+          ∙ ap₂ (λ (p q : ℕ). bitsGathered (a .rows .now) (8 * p) 1 q) (sym (byte-place (a .i) (l .loop .y) (a .size) (omega arith))) (sym (byte-column (a .i) (l .loop .y) (a .size) (omega arith))))),
     )
 
 same-length : tie.Need-same-length Inv-loop μ-loop

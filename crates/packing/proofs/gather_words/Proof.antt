@@ -6,13 +6,13 @@ use native.Mathlib.Omega.{arith}
 use borrow.Author.Needs.{needs}
 use lib.ListN.{length}
 use Rattle.boolean.specs.Functions.{at}
-use Rattle.packing.specs.Work.{gathered}
+use Rattle.packing.specs.Work.{bitsGathered}
 use Rattle.packing.proofs.Places.{next-column, columns-before}
 use Rattle.packing.proofs.gather_words.Statement.{statement}
 use Rattle.packing.proofs.gather_words.Tie as tie
 
 abbrev Inv-loop : tie.InvT-loop
-Inv-loop rows size words₀ i₀ words i = (i ≤ 8) × (length words ≡ 256) × ((q : ℕ) → q < i * size → at words q ≡ gathered rows (8 * (q % size)) 1 (q / size))
+Inv-loop rows size words₀ i₀ words i = (i ≤ 8) × (length words ≡ 256) × ((q : ℕ) → q < i * size → at words q ≡ bitsGathered rows (8 * (q % size)) 1 (q / size))
 
 abbrev μ-loop : tie.MeasureT-loop
 μ-loop rows size words₀ i₀ words i = 8 - i

@@ -6,7 +6,7 @@ use native.Mathlib.Omega.{arith}
 use borrow.Author.Needs.{needs}
 use Rattle.boolean.specs.Sums.{listBelow}
 use Rattle.packing.specs.Packing.{columnBytes}
-use Rattle.packing.specs.Work.{gathered, BytesWords}
+use Rattle.packing.specs.Work.{bitsGathered, BytesWords}
 use Rattle.packing.proofs.Widths.{bytes-high, bytes-hold}
 use Rattle.packing.proofs.Accepted.{bytes-most}
 use Rattle.packing.proofs.Laws.{unpacked-from-words}
@@ -37,7 +37,7 @@ returns c =
     let padded = pad .pad-bytes .last .1 .0 in
     let held : BytesWords padded (columnBytes (a .n)) words = subst (λ (k : ℕ). BytesWords padded k words) (sized .column-bytes .ensures .0) (joined .join-words .ensures) in
     wrote .write-rows .ensures
-    ∙ ap₂ (λ (k size : ℕ). listBelow k (λ x. gathered words (x / 8) size (x % 8))) (s .pre .3) (sized .column-bytes .ensures .0)
+    ∙ ap₂ (λ (k size : ℕ). listBelow k (λ x. bitsGathered words (x / 8) size (x % 8))) (s .pre .3) (sized .column-bytes .ensures .0)
     ∙ unpacked-from-words (a .n) (a .m) (a .bytes .now) padded words (s .pre .0) (pad .pad-bytes .ensures) held
 
 pub unpack-bytes-spec : {M : Type 1} → statement M

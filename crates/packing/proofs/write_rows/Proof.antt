@@ -6,12 +6,12 @@ use native.Mathlib.Omega.{arith}
 use borrow.Author.Needs.{needs}
 use lib.ListN.{length}
 use Rattle.boolean.proofs.Filled.{Filled, filled-none, filled-more, filled-whole}
-use Rattle.packing.specs.Work.{gathered}
+use Rattle.packing.specs.Work.{bitsGathered}
 use Rattle.packing.proofs.write_rows.Statement.{statement}
 use Rattle.packing.proofs.write_rows.Tie as tie
 
 abbrev Inv-loop : tie.InvT-loop
-Inv-loop words size out₀ x₀ out x = Filled 0 (λ x. gathered words (x / 8) size (x % 8)) (length out₀) x out
+Inv-loop words size out₀ x₀ out x = Filled 0 (λ x. bitsGathered words (x / 8) size (x % 8)) (length out₀) x out
 
 abbrev μ-loop : tie.MeasureT-loop
 μ-loop words size out₀ x₀ out x = length out₀ - x

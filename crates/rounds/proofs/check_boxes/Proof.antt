@@ -5,41 +5,32 @@ use lib.Dec.{ltb}
 use Rattle.boolean.specs.Sums.{each}
 use Rattle.refusals.specs.Table.{Check, first}
 use Rattle.refusals.specs.declared.Checked.the-variants.{Accepted}
-use Rattle.rounds.specs.Round.{Summand, boxOf, checksOf}
+use Rattle.rounds.specs.Round.{summandChecks}
 use Rattle.rounds.specs.Work.{checksIf}
-use Rattle.rounds.proofs.Entry.{boxes, checks-are, refused-1, refused-2, refused-3, found-4}
+use Rattle.rounds.proofs.Entry.{boxes, checks-are, refused-1, refused-2, refused-3, found-4, Handed, box1, box2, box3, box4}
 use borrow.Author.Needs.{needs}
 use Rattle.rounds.proofs.check_boxes.Statement.{statement}
 use Rattle.rounds.proofs.check_boxes.Tie as tie
 
 -- the four boxes, and their lists of checks
-abbrev box1 : tie.Start → Summand
-box1 c = let a = c .args in boxOf (a .widths .n1) (a .widths .m1) (a .rows1 .now)
-
-abbrev box2 : tie.Start → Summand
-box2 c = let a = c .args in boxOf (a .widths .n2) (a .widths .m2) (a .rows2 .now)
-
-abbrev box3 : tie.Start → Summand
-box3 c = let a = c .args in boxOf (a .widths .n3) (a .widths .m3) (a .rows3 .now)
-
-abbrev box4 : tie.Start → Summand
-box4 c = let a = c .args in boxOf (a .widths .n4) (a .widths .m4) (a .rows4 .now)
+abbrev lent : tie.Start → Handed
+lent c = let a = c .args in record { widths = a .widths; rows1 = a .rows1 .now; rows2 = a .rows2 .now; rows3 = a .rows3 .now; rows4 = a .rows4 .now }
 
 abbrev checks1 : tie.Start → List Check
-checks1 c = checksOf (box1 c)
+checks1 c = summandChecks (box1 (lent c))
 
 abbrev checks2 : tie.Start → List Check
-checks2 c = checksIf (ltb 1 (c .args .count)) (box2 c)
+checks2 c = checksIf (ltb 1 (c .args .count)) (box2 (lent c))
 
 abbrev checks3 : tie.Start → List Check
-checks3 c = checksIf (ltb 2 (c .args .count)) (box3 c)
+checks3 c = checksIf (ltb 2 (c .args .count)) (box3 (lent c))
 
 abbrev checks4 : tie.Start → List Check
-checks4 c = checksIf (ltb 3 (c .args .count)) (box4 c)
+checks4 c = checksIf (ltb 3 (c .args .count)) (box4 (lent c))
 
 -- together they are the checks of the boxes that are read
-all : (c : tie.Start) → first (checks1 c ++ (checks2 c ++ (checks3 c ++ checks4 c))) ≡ first (each (boxes (c .args .count) (box1 c) (box2 c) (box3 c) (box4 c)) checksOf)
-all c = ap first (checks-are (box1 c) (box2 c) (box3 c) (box4 c) (c .args .count) (c .pre .0) (c .pre .1))
+all : (c : tie.Start) → first (checks1 c ++ (checks2 c ++ (checks3 c ++ checks4 c))) ≡ first (each (boxes (c .args .count) (box1 (lent c)) (box2 (lent c)) (box3 (lent c)) (box4 (lent c))) summandChecks)
+all c = ap first (checks-are (box1 (lent c)) (box2 (lent c)) (box3 (lent c)) (box4 (lent c)) (c .args .count) (c .pre .0) (c .pre .1))
 
 -- where each was passed
 passed1 : (c : tie.After-enum-told) → first (checks1 (c .before .before .before .before .before .before .before)) ≡ Accepted

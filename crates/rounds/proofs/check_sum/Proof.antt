@@ -1,37 +1,28 @@
 -- `rounds::check_sum` meets its contract: the checks in their order, each the first that applies. Assumes nothing.
 use mathlib.Core.Path.{_≡_, sym, ap, _∙_}
-use mathlib.Core.Bool.{Bool, true, false}
-use mathlib.Core.List.{List, [], _∷_}
+use mathlib.Core.Bool.{true}
+use mathlib.Core.List.{List}
 use Prim.Native.Nat.{ℕ, _≤_}
 use Rattle.boolean.specs.Sums.{each}
 use Rattle.refusals.specs.Table.{first, inRange}
 use Rattle.refusals.specs.declared.Checked.the-variants.{Accepted}
 use Rattle.refusals.proofs.Bounds.{range-low, range-high}
 use Rattle.refusals.proofs.Checks.{fails, holds, skip, stop, end}
-use Rattle.rounds.specs.Round.{Summand, boxOf, given, outputsOf, sameOutputs, checksOf}
-use Rattle.rounds.proofs.Entry.{widths-are, outputs-are, wrong-number, box-refused, boxes-passed}
+use Rattle.rounds.specs.Round.{Summand, firstGiven, outputsOf, sameOutputs, summandChecks}
+use Rattle.rounds.proofs.Entry.{widths-are, outputs-are, wrong-number, box-refused, boxes-passed, Handed, allFour, box1, box2, box3, box4}
 use borrow.Author.Needs.{needs}
 use Rattle.rounds.proofs.check_sum.Statement.{statement}
 use Rattle.rounds.proofs.check_sum.Tie as tie
 
 -- the four boxes, and those that are given
-abbrev box1 : tie.Start → Summand
-box1 c = let a = c .args in boxOf (a .widths .n1) (a .widths .m1) (a .rows1 .now)
-
-abbrev box2 : tie.Start → Summand
-box2 c = let a = c .args in boxOf (a .widths .n2) (a .widths .m2) (a .rows2 .now)
-
-abbrev box3 : tie.Start → Summand
-box3 c = let a = c .args in boxOf (a .widths .n3) (a .widths .m3) (a .rows3 .now)
-
-abbrev box4 : tie.Start → Summand
-box4 c = let a = c .args in boxOf (a .widths .n4) (a .widths .m4) (a .rows4 .now)
+abbrev lent : tie.Start → Handed
+lent c = let a = c .args in record { widths = a .widths; rows1 = a .rows1 .now; rows2 = a .rows2 .now; rows3 = a .rows3 .now; rows4 = a .rows4 .now }
 
 abbrev four : tie.Start → List Summand
-four c = box1 c ∷ box2 c ∷ box3 c ∷ box4 c ∷ []
+four c = allFour (lent c)
 
 abbrev summed : tie.Start → List Summand
-summed c = given (c .args .count) (four c)
+summed c = firstGiven (c .args .count) (four c)
 
 -- what was passed: the number of boxes
 abbrev start1 : tie.Else1 → tie.Start
@@ -50,7 +41,7 @@ number-high c = range-high 1 4 (start1 c .args .count) (number-ok c)
 abbrev else1 : tie.After-enum-told → tie.Else1
 else1 c = c .before .before .before
 
-boxes-ok : (c : tie.After-enum-told) → first (each (summed (start1 (else1 c))) checksOf) ≡ Accepted
+boxes-ok : (c : tie.After-enum-told) → first (each (summed (start1 (else1 c))) summandChecks) ≡ Accepted
 boxes-ok c = sym (c .before .before .check-boxes .ensures) ∙ c .enum-told .given .1
 
 -- the output widths, as the code compares them
@@ -58,7 +49,7 @@ widths : (c : tie.After-same-outputs) → c .same-outputs .result ≡ sameOutput
 widths c =
     let e = else1 (c .before) in
     let s = start1 e in
-    c .same-outputs .ensures ∙ widths-are (box1 s) (box2 s) (box3 s) (box4 s) (s .args .count) (number-low e) (number-high e)
+    c .same-outputs .ensures ∙ widths-are (box1 (lent s)) (box2 (lent s)) (box3 (lent s)) (box4 (lent s)) (s .args .count) (number-low e) (number-high e)
 
 widths-ok : (c : tie.Else2) → sameOutputs (summed (start1 (else1 (c .before .before)))) ≡ true
 widths-ok c = holds (widths (c .before)) (c .if2 .left)
@@ -68,7 +59,7 @@ limit : (c : tie.After-in-range2) → c .in-range2 .result ≡ inRange 1 (output
 limit c =
     let e = else1 (c .before .before .before) in
     let s = start1 e in
-    c .in-range2 .ensures ∙ ap (λ (m : ℕ). inRange 1 m (s .args .i)) (sym (outputs-are (box1 s) (box2 s) (box3 s) (box4 s) (s .args .count) (number-low e)))
+    c .in-range2 .ensures ∙ ap (λ (m : ℕ). inRange 1 m (s .args .i)) (sym (outputs-are (box1 (lent s)) (box2 (lent s)) (box3 (lent s)) (box4 (lent s)) (s .args .count) (number-low e)))
 
 returns : tie.Need-returns
 returns c =

@@ -2,37 +2,27 @@
 use mathlib.Core.Path.{_∙_}
 use Prim.Native.Nat.{_*_, _≤_}
 use native.Mathlib.Omega.{arith}
-use Rattle.rounds.specs.Round.{Summand, boxOf}
-use Rattle.rounds.proofs.Entry.{box-1, box-2, box-3, box-4}
+use Rattle.rounds.proofs.Entry.{box-1, box-2, box-3, box-4, Handed, box1, box2, box3, box4}
 use Rattle.rounds.proofs.Terms.{roomy-still, product-of, small-2, small-3, small-4}
 use borrow.Author.Needs.{needs}
 use Rattle.rounds.proofs.product_at.Statement.{statement}
 use Rattle.rounds.proofs.product_at.Tie as tie
 
 -- the four boxes
-abbrev box1 : tie.Start → Summand
-box1 c = let a = c .args in boxOf (a .widths .n1) (a .widths .m1) (a .rows1 .now)
-
-abbrev box2 : tie.Start → Summand
-box2 c = let a = c .args in boxOf (a .widths .n2) (a .widths .m2) (a .rows2 .now)
-
-abbrev box3 : tie.Start → Summand
-box3 c = let a = c .args in boxOf (a .widths .n3) (a .widths .m3) (a .rows3 .now)
-
-abbrev box4 : tie.Start → Summand
-box4 c = let a = c .args in boxOf (a .widths .n4) (a .widths .m4) (a .rows4 .now)
+abbrev lent : tie.Start → Handed
+lent c = let a = c .args in record { widths = a .widths; rows1 = a .rows1 .now; rows2 = a .rows2 .now; rows3 = a .rows3 .now; rows4 = a .rows4 .now }
 
 size-if-requires : tie.Need-size-if-requires
 size-if-requires c κs =
     let start = c .before .before .before .before .before .before .before in
-    (λ e. box-1 (box1 start) (box2 start) (box3 start) (box4 start) (start .pre .0), start .pre .1, start .pre .2)
+    (λ e. box-1 (box1 (lent start)) (box2 (lent start)) (box3 (lent start)) (box4 (lent start)) (start .pre .0), start .pre .1, start .pre .2)
 
 size-if-requires-2 : tie.Need-size-if-requires-2
 size-if-requires-2 c κs =
     let first = c .before .before .before .before .before in
     let start = first .before .before .before .before .before .before .before .before in
     let room = roomy-still (start .pre .2) (first .size-if .ensures .2) (first .size-if .ensures .3) in
-    (box-2 (box1 start) (box2 start) (box3 start) (box4 start) (start .pre .0), start .pre .1, room)
+    (box-2 (box1 (lent start)) (box2 (lent start)) (box3 (lent start)) (box4 (lent start)) (start .pre .0), start .pre .1, room)
 
 size-if-requires-3 : tie.Need-size-if-requires-3
 size-if-requires-3 c κs =
@@ -41,7 +31,7 @@ size-if-requires-3 c κs =
     let start = first .before .before .before .before .before .before .before .before in
     let bits-still = second .size-if2 .ensures .2 ∙ first .size-if .ensures .2 in
     let out-still = second .size-if2 .ensures .3 ∙ first .size-if .ensures .3 in
-    (box-3 (box1 start) (box2 start) (box3 start) (box4 start) (start .pre .0), start .pre .1, roomy-still (start .pre .2) bits-still out-still)
+    (box-3 (box1 (lent start)) (box2 (lent start)) (box3 (lent start)) (box4 (lent start)) (start .pre .0), start .pre .1, roomy-still (start .pre .2) bits-still out-still)
 
 size-if-requires-4 : tie.Need-size-if-requires-4
 size-if-requires-4 c κs =
@@ -51,7 +41,7 @@ size-if-requires-4 c κs =
     let start = first .before .before .before .before .before .before .before .before in
     let bits-still = third .size-if3 .ensures .2 ∙ second .size-if2 .ensures .2 ∙ first .size-if .ensures .2 in
     let out-still = third .size-if3 .ensures .3 ∙ second .size-if2 .ensures .3 ∙ first .size-if .ensures .3 in
-    (box-4 (box1 start) (box2 start) (box3 start) (box4 start) (start .pre .0), start .pre .1, roomy-still (start .pre .2) bits-still out-still)
+    (box-4 (box1 (lent start)) (box2 (lent start)) (box3 (lent start)) (box4 (lent start)) (start .pre .0), start .pre .1, roomy-still (start .pre .2) bits-still out-still)
 
 -- the places after the four calls
 abbrev first : tie.After-out4 → tie.After-size-if
@@ -92,7 +82,7 @@ returns : tie.Need-returns
 returns c =
     let start = first c .before .before .before .before .before .before .before .before in
     let a = start .args in (
-      product-of (box1 start) (box2 start) (box3 start) (box4 start) (a .c) (a .count) (start .pre .0 .count-low) (start .pre .0 .count-high)
+      product-of (box1 (lent start)) (box2 (lent start)) (box3 (lent start)) (box4 (lent start)) (a .c) (a .count) (start .pre .0 .count-low) (start .pre .0 .count-high)
           (first c .size-if .ensures .0) (second c .size-if2 .ensures .0) (third c .size-if3 .ensures .0) (fourth c .size-if4 .ensures .0),
       same-length c,
       same-length-2 c,

@@ -5,7 +5,7 @@ use native.Mathlib.Omega.{arith}
 use lib.Seq.{length-take-le}
 use borrow.Author.Needs.{needs}
 use Rattle.refusals.specs.Table.{Box}
-use Rattle.rounds.specs.Round.{boxOf}
+use Rattle.rounds.specs.Round.{summandOf}
 use Rattle.rounds.specs.Work.{sizeIf}
 use Rattle.rounds.proofs.size_if.Statement.{statement}
 use Rattle.rounds.proofs.size_if.Tie as tie
@@ -44,7 +44,7 @@ returns c =
     let then = c .before .before .before .before .before .before in
     let a = then .before .before .before .args in
     let sized = c .before .before .before in (
-      subst (λ (u : Bool). sized .size-in .result ≡ sizeIf u (boxOf (a .n) (a .m) (a .rows .now)) (a .c)) (sym (then .if1 .taken)) (sized .size-in .ensures .0),
+      subst (λ (u : Bool). sized .size-in .result ≡ sizeIf u (summandOf (a .n) (a .m) (a .rows .now)) (a .c)) (sym (then .if1 .taken)) (sized .size-in .ensures .0),
       sized .size-in .ensures .1,
       same-length c,
       same-length-2 c,
@@ -53,7 +53,7 @@ returns c =
 returns-2 : tie.Need-returns-2
 returns-2 c =
     let a = c .before .before .before .args in
-    (subst (λ (u : Bool). 1 ≡ sizeIf u (boxOf (a .n) (a .m) (a .rows .now)) (a .c)) (sym (c .if1 .left)) refl, omega arith, refl, refl)
+    (subst (λ (u : Bool). 1 ≡ sizeIf u (summandOf (a .n) (a .m) (a .rows .now)) (a .c)) (sym (c .if1 .left)) refl, omega arith, refl, refl)
 
 pub size-if-spec : {M : Type 1} → statement M
 size-if-spec =

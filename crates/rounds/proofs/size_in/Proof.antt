@@ -4,7 +4,7 @@ use Prim.Native.Nat.{_+_, _*_, _≤_}
 use native.Mathlib.Omega.{arith}
 use lib.ListN.{length}
 use borrow.Author.Needs.{needs}
-use Rattle.rounds.specs.Round.{boxOf}
+use Rattle.rounds.specs.Round.{summandOf}
 use Rattle.rounds.specs.Spectra.{peak}
 use Rattle.rounds.proofs.Tops.{count-peak}
 use Rattle.rounds.proofs.size_in.Statement.{statement}
@@ -13,7 +13,7 @@ use Rattle.rounds.proofs.size_in.Tie as tie
 -- twice the count and the peak make as many as the box has rows
 whole : (c : tie.After-out) →
     let a = c .before .before .before .before .before .before .before .before .args in
-    2 * c .before .before .before .component-count .result + peak (boxOf (a .n) (a .m) (a .rows .now)) (a .c) .figure ≡ length (a .rows .now)
+    2 * c .before .before .before .component-count .result + peak (summandOf (a .n) (a .m) (a .rows .now)) (a .c) .figure ≡ length (a .rows .now)
 whole c =
     let start = c .before .before .before .before .before .before .before .before in
     let a = start .args in

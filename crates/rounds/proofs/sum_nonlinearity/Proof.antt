@@ -1,41 +1,32 @@
 -- `rounds::sum_nonlinearity` meets its contract: what the checks found says which case it is, the sweep has the component, and its witness and figure
 -- make the answer. Assumes nothing.
 use mathlib.Core.Path.{_≡_, sym, ap, ap₂, _∙_, subst}
-use mathlib.Core.List.{List, [], _∷_}
+use mathlib.Core.List.{List}
 use Prim.Native.Nat.{ℕ, _+_, _-_, _/_, _^_, _≤_}
 use native.Mathlib.Omega.{arith}
-use Rattle.boolean.specs.Functions.{components, Within}
+use Rattle.boolean.specs.Functions.{components, MaskWithin}
 use Rattle.boolean.specs.Selection.{Candidate, shown}
 use Rattle.boolean.proofs.Components.{mem-components, in-components, first-mask}
 use Rattle.refusals.specs.Table.{first, figures}
 use Rattle.refusals.specs.declared.Checked.the-variants.{Accepted}
 use Rattle.refusals.proofs.Checks.{reply-refused, reply-accepted}
-use Rattle.rounds.specs.Round.{Summand, inputsOf, given, outputsOf, boxOf, sumNonlinearity, sumChecks}
+use Rattle.rounds.specs.Round.{Summand, inputsOf, firstGiven, outputsOf, sumNonlinearity, sumChecks}
 use Rattle.rounds.specs.Work.{Round, IsBox}
-use Rattle.rounds.proofs.Entry.{outputs-are, inputs-are, box-1, box-2, box-3, box-4, accepted-round, limit-low, some-inputs}
+use Rattle.rounds.proofs.Entry.{outputs-are, inputs-are, box-1, box-2, box-3, box-4, accepted-round, limit-low, some-inputs, Handed, allFour, box1, box2, box3, box4}
 use Rattle.rounds.proofs.Terms.{Chosen, chosen, size-within, answer-is}
 use borrow.Author.Needs.{needs}
 use Rattle.rounds.proofs.sum_nonlinearity.Statement.{statement}
 use Rattle.rounds.proofs.sum_nonlinearity.Tie as tie
 
 -- the four boxes, and those that are given
-abbrev box1 : tie.Start → Summand
-box1 c = let a = c .args in boxOf (a .widths .n1) (a .widths .m1) (a .rows1 .now)
-
-abbrev box2 : tie.Start → Summand
-box2 c = let a = c .args in boxOf (a .widths .n2) (a .widths .m2) (a .rows2 .now)
-
-abbrev box3 : tie.Start → Summand
-box3 c = let a = c .args in boxOf (a .widths .n3) (a .widths .m3) (a .rows3 .now)
-
-abbrev box4 : tie.Start → Summand
-box4 c = let a = c .args in boxOf (a .widths .n4) (a .widths .m4) (a .rows4 .now)
+abbrev lent : tie.Start → Handed
+lent c = let a = c .args in record { widths = a .widths; rows1 = a .rows1 .now; rows2 = a .rows2 .now; rows3 = a .rows3 .now; rows4 = a .rows4 .now }
 
 abbrev four : tie.Start → List Summand
-four c = box1 c ∷ box2 c ∷ box3 c ∷ box4 c ∷ []
+four c = allFour (lent c)
 
 abbrev summed : tie.Start → List Summand
-summed c = given (c .args .count) (four c)
+summed c = firstGiven (c .args .count) (four c)
 
 -- accepted: the boxes are a round of box 1's outputs
 abbrev start : tie.After-enum-told → tie.Start
@@ -47,7 +38,7 @@ accepted c = sym (c .before .before .check-sum .ensures) ∙ c .enum-told .given
 widths : (c : tie.After-enum-told) → outputsOf (summed (start c)) ≡ start c .args .widths .m1
 widths c =
     let s = start c in
-    outputs-are (box1 s) (box2 s) (box3 s) (box4 s) (s .args .count) (accepted-round (s .args .count) (four s) (s .args .i) (accepted c) .count-low)
+    outputs-are (box1 (lent s)) (box2 (lent s)) (box3 (lent s)) (box4 (lent s)) (s .args .count) (accepted-round (s .args .count) (four s) (s .args .i) (accepted c) .count-low)
 
 round : (c : tie.After-enum-told) → let s = start c in Round (s .args .count) (s .args .widths .m1) (summed s)
 round c =
@@ -60,8 +51,8 @@ limit c = let s = start c in limit-low (s .args .count) (four s) (s .args .i) (a
 inputs : (c : tie.After-enum-told) → 1 ≤ inputsOf (summed (start c))
 inputs c = let s = start c in some-inputs (s .args .count) (four s) (s .args .i) (accepted c)
 
-first-box : (c : tie.After-enum-told) → IsBox (box1 (start c))
-first-box c = let s = start c in box-1 (box1 s) (box2 s) (box3 s) (box4 s) (round c)
+first-box : (c : tie.After-enum-told) → IsBox (box1 (lent (start c)))
+first-box c = let s = start c in box-1 (box1 (lent s)) (box2 (lent s)) (box3 (lent s)) (box4 (lent s)) (round c)
 
 -- the component that the sweep found
 found : (c : tie.After-largest-product) → let s = start (c .before) in Chosen (summed s) (components (s .args .widths .m1) (s .args .i)) (c .largest-product .result)
@@ -70,7 +61,7 @@ found c =
     let one = in-components (s .args .widths .m1) (s .args .i) 1 (first-mask (s .args .widths .m1) (s .args .i) (first-box (c .before) .m-low) (limit (c .before))) in
     chosen (summed s) (inputs (c .before)) (components (s .args .widths .m1) (s .args .i)) 1 one (c .largest-product .result) (c .largest-product .ensures)
 
-mask : (c : tie.After-largest-product) → let s = start (c .before) in Within (s .args .i) (2 ^ s .args .widths .m1) (c .largest-product .result .c)
+mask : (c : tie.After-largest-product) → let s = start (c .before) in MaskWithin (s .args .i) (2 ^ s .args .widths .m1) (c .largest-product .result .c)
 mask c = let s = start (c .before) in mem-components (s .args .widths .m1) (s .args .i) (c .largest-product .result .c) (found c .member)
 
 -- the number of all inputs
@@ -85,7 +76,7 @@ total-is c =
     let s = start (told c) in
     let r = round (told c) in
     ap₂ (λ (i j : ℕ). s .args .widths .n1 + (i + j)) (c .inputs-if3 .ensures .0) (ap₂ (λ (i j : ℕ). i + j) (c .before .before .inputs-if .ensures .0) (c .before .inputs-if2 .ensures .0))
-    ∙ inputs-are (box1 s) (box2 s) (box3 s) (box4 s) (s .args .count) (r .count-low) (r .count-high)
+    ∙ inputs-are (box1 (lent s)) (box2 (lent s)) (box3 (lent s)) (box4 (lent s)) (s .args .count) (r .count-low) (r .count-high)
 
 returns : tie.Need-returns
 returns c = record { says = reply-refused (sym (c .before .before .before .check-sum .ensures) ∙ c .before .checked .given .1) _; past = tt }
@@ -97,16 +88,16 @@ witness-at-requires : tie.Need-witness-at-requires
 witness-at-requires c κs = let m = mask c in (round (c .before), omega arith, omega arith)
 
 inputs-if-requires : tie.Need-inputs-if-requires
-inputs-if-requires c κs e = let t = c .before .before in let s = start t in box-3 (box1 s) (box2 s) (box3 s) (box4 s) (round t) e .n-high
+inputs-if-requires c κs e = let t = c .before .before in let s = start t in box-3 (box1 (lent s)) (box2 (lent s)) (box3 (lent s)) (box4 (lent s)) (round t) e .n-high
 
 inputs-if-requires-2 : tie.Need-inputs-if-requires-2
-inputs-if-requires-2 c κs e = let t = c .before .before .before in let s = start t in box-4 (box1 s) (box2 s) (box3 s) (box4 s) (round t) e .n-high
+inputs-if-requires-2 c κs e = let t = c .before .before .before in let s = start t in box-4 (box1 (lent s)) (box2 (lent s)) (box3 (lent s)) (box4 (lent s)) (round t) e .n-high
 
 add-last : tie.Need-add-last
 add-last c = omega (arith, c .before .inputs-if .ensures .1, c .inputs-if2 .ensures .1)
 
 inputs-if-requires-3 : tie.Need-inputs-if-requires-3
-inputs-if-requires-3 c κs e = let t = c .before .before .before .before in let s = start t in box-2 (box1 s) (box2 s) (box3 s) (box4 s) (round t) e .n-high
+inputs-if-requires-3 c κs e = let t = c .before .before .before .before in let s = start t in box-2 (box1 (lent s)) (box2 (lent s)) (box3 (lent s)) (box4 (lent s)) (round t) e .n-high
 
 -- each has at most 8
 small : (c : tie.After-inputs-if3) → c .inputs-if3 .result + (c .before .before .inputs-if .result + c .before .inputs-if2 .result) ≤ 24

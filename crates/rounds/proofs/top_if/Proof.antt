@@ -4,7 +4,7 @@ use mathlib.Core.Bool.{Bool}
 use native.Mathlib.Omega.{arith}
 use lib.Seq.{length-take-le}
 use Rattle.refusals.specs.Table.{Box}
-use Rattle.rounds.specs.Round.{boxOf}
+use Rattle.rounds.specs.Round.{summandOf}
 use Rattle.rounds.specs.Work.{TopIf}
 use Rattle.rounds.proofs.top_if.Statement.{statement}
 use Rattle.rounds.proofs.top_if.Tie as tie
@@ -30,7 +30,7 @@ returns : tie.Need-returns
 returns c =
     let then = c .before .before .before in
     let a = then .before .before .args in
-    subst (λ (u : Bool). TopIf u (boxOf (a .n) (a .m) (a .rows .now)) (a .c) (c .before .top-in .result)) (sym (then .if1 .taken)) (c .before .top-in .ensures .0)
+    subst (λ (u : Bool). TopIf u (summandOf (a .n) (a .m) (a .rows .now)) (a .c) (c .before .top-in .result)) (sym (then .if1 .taken)) (c .before .top-in .ensures .0)
 
 returns-2 : tie.Need-returns-2
 returns-2 c = rw (c .if1 .left) (refl, refl)

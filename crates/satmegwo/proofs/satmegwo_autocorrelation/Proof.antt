@@ -4,8 +4,8 @@ use mathlib.Core.Path.{ap, _∙_}
 use Rattle.boolean.specs.Selection.{shown}
 use Rattle.refusals.specs.Table.{first, limitChecks}
 use Rattle.avalanche.specs.Avalanche.{boxAutocorrelation}
-use Rattle.answers.specs.Answers.{roomNumber}
-use Rattle.answers.proofs.Giving.{gives-same, room-first}
+use Rattle.border.specs.Border.{roomNumber}
+use Rattle.border.proofs.Giving.{gives-same, room-first}
 use Rattle.satmegwo.proofs.Sizes.{change-size}
 use borrow.Author.Needs.{needs}
 use Rattle.satmegwo.proofs.satmegwo_autocorrelation.Statement.{statement}

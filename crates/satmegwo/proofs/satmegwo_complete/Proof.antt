@@ -1,5 +1,5 @@
 -- `satmegwo::satmegwo_complete` meets its contract: that of the call, with its figures in the lent array. Assumes nothing.
-use Rattle.answers.proofs.Giving.{gives-same}
+use Rattle.border.proofs.Giving.{gives-same}
 use borrow.Author.Needs.{needs}
 use Rattle.satmegwo.proofs.satmegwo_complete.Statement.{statement}
 use Rattle.satmegwo.proofs.satmegwo_complete.Tie as tie

@@ -5,8 +5,8 @@ use Rattle.boolean.specs.Selection.{shown}
 use Rattle.refusals.specs.Table.{first}
 use Rattle.avalanche.specs.Avalanche.{dynamicDistance}
 use Rattle.avalanche.specs.Calls.{distanceChecks}
-use Rattle.answers.specs.Answers.{roomNumber}
-use Rattle.answers.proofs.Giving.{gives-same, room-first}
+use Rattle.border.specs.Border.{roomNumber}
+use Rattle.border.proofs.Giving.{gives-same, room-first}
 use Rattle.satmegwo.proofs.Sizes.{distance-size}
 use borrow.Author.Needs.{needs}
 use Rattle.satmegwo.proofs.satmegwo_dynamic_distance.Statement.{statement}

@@ -6,10 +6,10 @@ use lib.ListN.{length}
 use Rattle.refusals.specs.Table.{first, boxChecks}
 use Rattle.refusals.proofs.Outcomes.{wrote-by}
 use Rattle.differential.specs.XorTable.{largestCells}
-use Rattle.differential.specs.Calls.{listChecks, listReply}
-use Rattle.answers.specs.Answers.{roomNumber}
+use Rattle.differential.specs.Calls.{listChecks, saidCellList}
+use Rattle.border.specs.Border.{roomNumber}
 use Rattle.satmegwo.specs.Exports.{cellsChecks}
-use Rattle.answers.proofs.Giving.{out-refused, out-beside, out-figures, out-refusal, room-refused, room-passed}
+use Rattle.border.proofs.Giving.{out-refused, out-beside, out-figures, out-refusal, room-refused, room-passed}
 use borrow.Author.Needs.{needs}
 use Rattle.satmegwo.proofs.satmegwo_largest_cells.Statement.{statement}
 use Rattle.satmegwo.proofs.satmegwo_largest_cells.Tie as tie
@@ -39,7 +39,7 @@ returns-2 c =
     let a = else .before .before .before .before .args in
     let cells = largestCells (a .n) (a .m) (a .rows .now) in
     let wrote = wrote-by (sym (as-called else)) (called .largest-cells .ensures) in
-    let count = out-figures (length cells ∷ []) (else .if1 .left) (sym (ap listReply (is .count .given .1)) ∙ wrote .reply) (given .give .ensures) in
+    let count = out-figures (length cells ∷ []) (else .if1 .left) (sym (ap saidCellList (is .count .given .1)) ∙ wrote .reply) (given .give .ensures) in
     (count, out-beside count wrote)
 
 returns-3 : tie.Need-returns-3
@@ -50,7 +50,7 @@ returns-3 c =
     let a = else .before .before .before .before .args in
     let cells = largestCells (a .n) (a .m) (a .rows .now) in
     let wrote = wrote-by (sym (as-called else)) (called .largest-cells .ensures) in
-    let count = out-refusal (length cells ∷ []) (sym (ap listReply (is .e .given .1)) ∙ wrote .reply) (c .number-of .ensures) in
+    let count = out-refusal (length cells ∷ []) (sym (ap saidCellList (is .e .given .1)) ∙ wrote .reply) (c .number-of .ensures) in
     (count, out-beside count wrote)
 
 pub satmegwo-largest-cells-spec : {M : Type 1} → statement M

@@ -4,12 +4,12 @@ use mathlib.Core.List.{[], _∷_, append-nil}
 use borrow.Author.Tests.{eq-eqb, ne-eqb}
 use lib.ListN.{length}
 use Rattle.boolean.specs.Functions.{at}
-use Rattle.refusals.specs.Table.{first, replyAfter, contentAfter}
+use Rattle.refusals.specs.Table.{first, replyAfter, after}
 use Rattle.refusals.specs.declared.Checked.{Checked}
-use Rattle.boxfile.specs.File.{rowsOf, fileChecks, boxFile}
-use Rattle.answers.specs.Answers.{roomNumber}
+use Rattle.boxfile.specs.File.{fileRows, fileChecks, saidBoxFile}
+use Rattle.border.specs.Border.{roomNumber}
 use Rattle.satmegwo.specs.Exports.{readBoxChecks}
-use Rattle.answers.proofs.Giving.{out-refused, out-figures, out-refusal, room-refused, room-passed}
+use Rattle.border.proofs.Giving.{out-refused, out-figures, out-refusal, room-refused, room-passed}
 use borrow.Author.Needs.{needs}
 use Rattle.satmegwo.proofs.satmegwo_read_box.Statement.{statement}
 use Rattle.satmegwo.proofs.satmegwo_read_box.Tie as tie
@@ -44,8 +44,8 @@ returns-2 c =
     let widths = at file 0 ∷ at file 1 ∷ [] in
     let as-here = sym (as-called else) in
     let reply = called .read-box .ensures .reply ∙ ap (λ (k : Checked). replyAfter k widths) as-here in
-    let rows = called .read-box .ensures .content ∙ ap (λ (k : Checked). contentAfter k (rowsOf file (at file 0)) (a .rows .now)) as-here in
-    let figured = out-figures widths (else .if1 .left) (sym (ap boxFile (is .n .given .1)) ∙ reply) (given .give .ensures) in
+    let rows = called .read-box .ensures .content ∙ ap (λ (k : Checked). after k (fileRows file (at file 0)) (a .rows .now)) as-here in
+    let figured = out-figures widths (else .if1 .left) (sym (ap saidBoxFile (is .n .given .1)) ∙ reply) (given .give .ensures) in
     (figured, record { number = figured .number; content = rows })
 
 returns-3 : tie.Need-returns-3
@@ -58,8 +58,8 @@ returns-3 c =
     let widths = at file 0 ∷ at file 1 ∷ [] in
     let as-here = sym (as-called else) in
     let reply = called .read-box .ensures .reply ∙ ap (λ (k : Checked). replyAfter k widths) as-here in
-    let rows = called .read-box .ensures .content ∙ ap (λ (k : Checked). contentAfter k (rowsOf file (at file 0)) (a .rows .now)) as-here in
-    let figured = out-refusal widths (sym (ap boxFile (is .e .given .1)) ∙ reply) (c .number-of .ensures) in
+    let rows = called .read-box .ensures .content ∙ ap (λ (k : Checked). after k (fileRows file (at file 0)) (a .rows .now)) as-here in
+    let figured = out-refusal widths (sym (ap saidBoxFile (is .e .given .1)) ∙ reply) (c .number-of .ensures) in
     (figured, record { number = figured .number; content = rows })
 
 pub satmegwo-read-box-spec : {M : Type 1} → statement M

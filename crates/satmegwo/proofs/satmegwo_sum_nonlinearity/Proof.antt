@@ -5,32 +5,32 @@ use mathlib.Core.List.{List, [], _∷_}
 use Rattle.boolean.specs.Functions.{components}
 use Rattle.boolean.specs.Selection.{shown}
 use Rattle.refusals.specs.Table.{first}
-use Rattle.rounds.specs.Round.{Summand, boxOf, given, outputsOf, sumNonlinearity, sumChecks}
+use Rattle.rounds.specs.Round.{Summand, summandOf, firstGiven, outputsOf, sumNonlinearity, sumChecks}
 use Rattle.rounds.proofs.Reported.{figures-number}
-use Rattle.answers.specs.Answers.{roomNumber}
-use Rattle.answers.proofs.Giving.{gives-same, room-first}
+use Rattle.border.specs.Border.{roomNumber}
+use Rattle.border.proofs.Giving.{gives-same, room-first}
 use borrow.Author.Needs.{needs}
 use Rattle.satmegwo.proofs.satmegwo_sum_nonlinearity.Statement.{statement}
 use Rattle.satmegwo.proofs.satmegwo_sum_nonlinearity.Tie as tie
 
 -- the four boxes, and those that are given
 abbrev box1 : tie.Start → Summand
-box1 s = let a = s .args in boxOf (a .n1) (a .m1) (a .rows1 .now)
+box1 s = let a = s .args in summandOf (a .n1) (a .m1) (a .rows1 .now)
 
 abbrev box2 : tie.Start → Summand
-box2 s = let a = s .args in boxOf (a .n2) (a .m2) (a .rows2 .now)
+box2 s = let a = s .args in summandOf (a .n2) (a .m2) (a .rows2 .now)
 
 abbrev box3 : tie.Start → Summand
-box3 s = let a = s .args in boxOf (a .n3) (a .m3) (a .rows3 .now)
+box3 s = let a = s .args in summandOf (a .n3) (a .m3) (a .rows3 .now)
 
 abbrev box4 : tie.Start → Summand
-box4 s = let a = s .args in boxOf (a .n4) (a .m4) (a .rows4 .now)
+box4 s = let a = s .args in summandOf (a .n4) (a .m4) (a .rows4 .now)
 
 abbrev four : tie.Start → List Summand
 four s = box1 s ∷ box2 s ∷ box3 s ∷ box4 s ∷ []
 
 abbrev summed : tie.Start → List Summand
-summed s = given (s .args .count) (four s)
+summed s = firstGiven (s .args .count) (four s)
 
 returns : tie.Need-returns
 returns c =
@@ -44,9 +44,9 @@ returns c =
 
 returns-2 : tie.Need-returns-2
 returns-2 c =
-    let given = c .before .before in
-    let called = given .before .before in
-    gives-same (called .sum-nonlinearity .ensures .says) (given .give-sum .ensures)
+    let firstGiven = c .before .before in
+    let called = firstGiven .before .before in
+    gives-same (called .sum-nonlinearity .ensures .says) (firstGiven .give-sum .ensures)
 
 pub satmegwo-sum-nonlinearity-spec : {M : Type 1} → statement M
 satmegwo-sum-nonlinearity-spec =

@@ -3,12 +3,12 @@ use mathlib.Core.Path.{_≡_, sym, ap, _∙_}
 use mathlib.Core.List.{[], _∷_, append-nil}
 use borrow.Author.Tests.{eq-eqb, ne-eqb}
 use lib.ListN.{length}
-use Rattle.refusals.specs.Table.{first, figures, refusal, number, replyAfter, contentAfter}
+use Rattle.refusals.specs.Table.{first, figures, refusal, number, replyAfter, after}
 use Rattle.refusals.specs.declared.Checked.{Checked}
-use Rattle.refusals.proofs.Checks.{reply-refused, content-refused}
-use Rattle.design.specs.Model.{readChecks}
-use Rattle.design.specs.Calls.{state, rowsOf, boxHeld}
-use Rattle.answers.proofs.Giving.{figures-told, refusal-told, room-refused, room-passed}
+use Rattle.refusals.proofs.Checks.{reply-refused, after-refused}
+use Rattle.design.specs.Model.{designReadChecks}
+use Rattle.design.specs.Calls.{stateOfDesign, designRows, saidBoxHeld}
+use Rattle.border.proofs.Giving.{figures-told, refusal-told, room-refused, room-passed}
 use Rattle.satmegwo_design.specs.Exports.{readDesignChecks}
 use Rattle.satmegwo_design.proofs.Numbers.{only-seven}
 use borrow.Author.Needs.{needs}
@@ -18,26 +18,26 @@ use Rattle.satmegwo_design.proofs.satmegwo_design_read.Tie as tie
 -- with two elements lent for the figures, the checks are those of the call
 as-called : (c : tie.Else1) →
     let a = c .before .before .before .args in
-    first (readDesignChecks (state (a .design)) (length (a .rows .now)) (length (a .figures .now))) ≡ first (readChecks (state (a .design)) (length (a .rows .now)))
+    first (readDesignChecks (stateOfDesign (a .design)) (length (a .rows .now)) (length (a .figures .now))) ≡ first (designReadChecks (stateOfDesign (a .design)) (length (a .rows .now)))
 unfolding readDesignChecks
 as-called c =
     let a = c .before .before .before .args in
-    room-passed (readChecks (state (a .design)) (length (a .rows .now))) [] (eq-eqb _ 2 (c .if1 .left)) ∙ ap first (append-nil _)
+    room-passed (designReadChecks (stateOfDesign (a .design)) (length (a .rows .now))) [] (eq-eqb _ 2 (c .if1 .left)) ∙ ap first (append-nil _)
 
 returns : tie.Need-returns
 unfolding readDesignChecks
 returns c =
     let then = c .before in
     let a = then .before .before .before .args in
-    let s = state (a .design) in
+    let s = stateOfDesign (a .design) in
     let widths = a .design .n ∷ a .design .m ∷ [] in
     let found = first (readDesignChecks s (length (a .rows .now)) (length (a .figures .now))) in
-    let t = room-refused (readChecks s (length (a .rows .now))) [] (ne-eqb _ 2 (then .if1 .taken)) in
+    let t = room-refused (designReadChecks s (length (a .rows .now))) [] (ne-eqb _ 2 (then .if1 .taken)) in
     let told = refusal-told found widths (a .figures .now) (reply-refused (t .is) widths) in
     record {
       number = c .number-of .ensures ∙ only-seven s (length (a .rows .now)) ∙ t .number-is ∙ told .0;
       widths = told .1;
-      box = content-refused (t .is) _ _;
+      box = after-refused (t .is) _ _;
     }
 
 returns-2 : tie.Need-returns-2
@@ -48,14 +48,14 @@ returns-2 c =
     let else = called .before .before in
     let a = else .before .before .before .args in
     let widths = a .design .n ∷ a .design .m ∷ [] in
-    let found = first (readDesignChecks (state (a .design)) (length (a .rows .now)) (length (a .figures .now))) in
+    let found = first (readDesignChecks (stateOfDesign (a .design)) (length (a .rows .now)) (length (a .figures .now))) in
     let o = called .read-box .ensures in
     let read = is .n .given .0 .0 ∷ is .n .given .0 .1 .0 ∷ [] in
     let reply : figures read ≡ replyAfter found widths =
-    sym (ap boxHeld (is .n .given .1)) ∙ o .reply ∙ ap (λ (k : Checked). replyAfter k widths) (sym (as-called else))
+    sym (ap saidBoxHeld (is .n .given .1)) ∙ o .reply ∙ ap (λ (k : Checked). replyAfter k widths) (sym (as-called else))
     in
     let told = figures-told found widths read (a .figures .now) (else .if1 .left) reply (given .give .ensures) in
-    record { number = told .0; widths = told .1; box = o .content ∙ ap (λ (k : Checked). contentAfter k (rowsOf (a .design)) (a .rows .now)) (sym (as-called else)) }
+    record { number = told .0; widths = told .1; box = o .content ∙ ap (λ (k : Checked). after k (designRows (a .design)) (a .rows .now)) (sym (as-called else)) }
 
 returns-3 : tie.Need-returns-3
 returns-3 c =
@@ -64,16 +64,16 @@ returns-3 c =
     let else = called .before .before in
     let a = else .before .before .before .args in
     let widths = a .design .n ∷ a .design .m ∷ [] in
-    let found = first (readDesignChecks (state (a .design)) (length (a .rows .now)) (length (a .figures .now))) in
+    let found = first (readDesignChecks (stateOfDesign (a .design)) (length (a .rows .now)) (length (a .figures .now))) in
     let o = called .read-box .ensures in
     let reply : refusal (number (is .e .given .0 .0)) ≡ replyAfter found widths =
-    sym (ap boxHeld (is .e .given .1)) ∙ o .reply ∙ ap (λ (k : Checked). replyAfter k widths) (sym (as-called else))
+    sym (ap saidBoxHeld (is .e .given .1)) ∙ o .reply ∙ ap (λ (k : Checked). replyAfter k widths) (sym (as-called else))
     in
     let told = refusal-told found widths (a .figures .now) reply in
     record {
       number = c .number-of2 .ensures ∙ told .0;
       widths = told .1;
-      box = o .content ∙ ap (λ (k : Checked). contentAfter k (rowsOf (a .design)) (a .rows .now)) (sym (as-called else));
+      box = o .content ∙ ap (λ (k : Checked). after k (designRows (a .design)) (a .rows .now)) (sym (as-called else));
     }
 
 pub satmegwo-design-read-spec : {M : Type 1} → statement M

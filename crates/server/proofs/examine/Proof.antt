@@ -6,7 +6,7 @@ use native.Mathlib.Omega.{arith}
 use borrow.Author.Needs.{needs}
 use lib.ListN.{length, take}
 use lib.Seq.{length-take-le}
-use Rattle.linear.specs.Calls.{candidate}
+use Rattle.linear.specs.Calls.{pairCandidate}
 use Rattle.server.proofs.Boxes.{left-few, rows-room, box-left}
 use Rattle.linear.specs.declared.Found.{Found}
 use Rattle.server.specs.Calls.{foundOf, better, oneMore}
@@ -42,7 +42,7 @@ returns-4 c u =
     let e = power .power-of-two .ensures .0 in
     ap₂ (λ (t : ℕ) (f : Found). record { taken = t; n = p .n; m = p .m; rows = p .rows; examined = p .examined + 1; found = f })
     (sym (unfinished-taken p u))
-    (c .with-component .ensures ∙ ap (λ (k : ℕ). foundOf (better (p .n) (p .m) (take k (p .rows)) (candidate (p .found)) (p .examined + 1))) e)
+    (c .with-component .ensures ∙ ap (λ (k : ℕ). foundOf (better (p .n) (p .m) (take k (p .rows)) (pairCandidate (p .found)) (p .examined + 1))) e)
 
 pub examine-spec : {M : Type 1} → statement M
 examine-spec =

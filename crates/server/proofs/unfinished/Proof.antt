@@ -10,7 +10,7 @@ use Rattle.refusals.specs.Table.{inRange}
 use Rattle.refusals.proofs.Bounds.{range-high}
 use Rattle.refusals.proofs.Checks.{fails, holds}
 use Rattle.server.specs.Model as model
-use Rattle.server.specs.Calls.{boxOf}
+use Rattle.server.specs.Calls.{analysisIn}
 use Rattle.server.proofs.Places.{spot-empty, spot-box, no-inputs, no-outputs, more-is}
 use Rattle.server.proofs.unfinished.Statement.{statement}
 use Rattle.server.proofs.unfinished.Tie as tie
@@ -22,13 +22,13 @@ returns-2 : tie.Need-returns-2
 returns-2 c =
     let left = c .before .before in
     let p = left .before .before .args .p in
-    sym (ap model.unfinished (spot-box p (left .if1 .left)) ∙ no-inputs (boxOf p) (fails (c .before .in-range .ensures) (c .if2 .taken)))
+    sym (ap model.unfinished (spot-box p (left .if1 .left)) ∙ no-inputs (analysisIn p) (fails (c .before .in-range .ensures) (c .if2 .taken)))
 
 returns-3 : tie.Need-returns-3
 returns-3 c =
     let left = c .before .before .before .before in
     let p = left .before .before .args .p in
-    sym (ap model.unfinished (spot-box p (left .if1 .left)) ∙ no-outputs (boxOf p) (fails (c .before .in-range2 .ensures) (c .if3 .taken)))
+    sym (ap model.unfinished (spot-box p (left .if1 .left)) ∙ no-outputs (analysisIn p) (fails (c .before .in-range2 .ensures) (c .if3 .taken)))
 
 outputs : (c : tie.Else3) → inRange 1 16 (c .before .before .before .before .before .before .args .p .m) ≡ true
 outputs c = holds (c .before .in-range2 .ensures) (c .if3 .left)
@@ -54,7 +54,7 @@ returns-4 c =
     let p = left .before .before .args .p in
     ap (λ (k : ℕ). ltb (p .examined) (k - 1)) (c .before .power-of-two .ensures .0)
     ∙ sym (ap model.unfinished (spot-box p (left .if1 .left))
-    ∙ more-is (boxOf p) (holds (inputs .before .in-range .ensures) (inputs .if2 .left)) (outputs else))
+    ∙ more-is (analysisIn p) (holds (inputs .before .in-range .ensures) (inputs .if2 .left)) (outputs else))
 
 pub unfinished-spec : {M : Type 1} → statement M
 unfinished-spec =

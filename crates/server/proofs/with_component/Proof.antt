@@ -6,7 +6,7 @@ use lib.Seq.{length-take-le}
 use Rattle.refusals.specs.Table.{Box, first, boxChecks}
 use Rattle.refusals.specs.declared.Checked.the-variants.{Accepted}
 use Rattle.refusals.proofs.Checks.{box}
-use Rattle.linear.specs.Calls.{candidate}
+use Rattle.linear.specs.Calls.{pairCandidate}
 use Rattle.server.specs.Calls.{foundOf}
 use Rattle.server.proofs.Boxes.{better-none, better-some}
 use Rattle.server.proofs.with_component.Statement.{statement}
@@ -16,7 +16,7 @@ returns : tie.Need-returns
 returns c =
     let p = c .before .before in
     let a = p .before .before .args in
-    sym (ap foundOf (better-none (a .n) (a .m) (a .rows .now) (candidate (a .found)) (a .c) (sym (p .check-box .ensures) ∙ c .enum-told .given .1)))
+    sym (ap foundOf (better-none (a .n) (a .m) (a .rows .now) (pairCandidate (a .found)) (a .c) (sym (p .check-box .ensures) ∙ c .enum-told .given .1)))
 
 accepted : (c : tie.After-enum-told2) → let a = c .before .before .before .before .args in first (boxChecks (a .n) (a .m) (a .rows .now)) ≡ Accepted
 accepted c = sym (c .before .before .check-box .ensures) ∙ c .enum-told2 .given .1
@@ -50,7 +50,7 @@ returns-2 c =
     let told = called .before .before .before in
     let a = told .before .before .before .before .args in
     ap foundOf
-    (called .with-arrays .ensures .0 ∙ sym (better-some (a .n) (a .m) (a .rows .now) (candidate (a .found)) (a .c) (accepted told)))
+    (called .with-arrays .ensures .0 ∙ sym (better-some (a .n) (a .m) (a .rows .now) (pairCandidate (a .found)) (a .c) (accepted told)))
 
 pub with-component-spec : {M : Type 1} → statement M
 with-component-spec =

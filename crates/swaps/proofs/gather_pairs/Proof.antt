@@ -6,7 +6,7 @@ use native.Mathlib.Nat.{le-refl}
 use native.Mathlib.Omega.{arith}
 use borrow.Author.Needs.{needs}
 use lib.Pow.{pow-mono}
-use Rattle.swaps.specs.Work.{Gathered}
+use Rattle.swaps.specs.Work.{PairsGathered}
 use Rattle.swaps.proofs.Gathering.{Gathering, differs-le, preferred-nearest, gathered-one, gathered-more, gathering-next}
 use Rattle.swaps.proofs.gather_pairs.Statement.{statement}
 use Rattle.swaps.proofs.gather_pairs.Tie as tie
@@ -18,7 +18,7 @@ abbrev μ-loop : tie.MeasureT-loop
 μ-loop fixed n m rows bits₀ out₀ tables₀ figure farther masks count₀ mask₀ bits out tables count mask = masks - mask
 
 -- the table of the present witness
-first : (c : tie.After-slice-known3 Inv-loop μ-loop) → let a = c .before .before .before .before .before .before .before .args in Gathered (a .n) (a .m) (a .rows .now) (a .present .count) (c .before .before .write-table .last .1 .1 .1 .0) 1
+first : (c : tie.After-slice-known3 Inv-loop μ-loop) → let a = c .before .before .before .before .before .before .before .args in PairsGathered (a .n) (a .m) (a .rows .now) (a .present .count) (c .before .before .write-table .last .1 .1 .1 .0) 1
 first c = let start = c .before .before .before .before .before .before .before in gathered-one (start .pre .0 .box) (start .args .tables .now) (start .pre .4) (start .pre .3) (c .before .before .write-table .ensures)
 
 write-table-requires : tie.Need-write-table-requires Inv-loop μ-loop

@@ -6,7 +6,7 @@ use lib.Dec.{lit≤}
 use Rattle.refusals.specs.Table.{Box, boxChecksUpTo, first}
 use Rattle.refusals.specs.declared.Checked.the-variants.{Accepted}
 use Rattle.refusals.proofs.Checks.{box-up-to, few-outputs, reply-refused, reply-accepted}
-use Rattle.linear.specs.Calls.{leastPair}
+use Rattle.linear.specs.Calls.{saidLeastPair}
 use Rattle.swaps.proofs.Accepted.{pair-reached, never-declined}
 use borrow.Author.Needs.{needs}
 use Rattle.swaps.proofs.raising_swap.Statement.{statement}
@@ -23,7 +23,7 @@ boxed : (c : tie.After-enum-told) → let a = c .before .before .before .before 
 boxed c = let a = c .before .before .before .before .args in box-up-to 8 (a .n) (a .m) (a .rows .now) [] (lit≤ tt) (accepted c)
 
 returns-2 : tie.Need-returns-2
-returns-2 c = never-declined (boxed (c .before .before .before)) (sym (ap leastPair (c .enum-told2 .given .1)) ∙ c .before .before .nonlinearity .ensures)
+returns-2 c = never-declined (boxed (c .before .before .before)) (sym (ap saidLeastPair (c .enum-told2 .given .1)) ∙ c .before .before .nonlinearity .ensures)
 
 search-box-requires : tie.Need-search-box-requires
 search-box-requires c κs =
@@ -31,7 +31,7 @@ search-box-requires c κs =
     let a = told .before .before .before .before .args in (
       boxed told,
       few-outputs 8 (a .n) (a .m) (a .rows .now) [] (accepted told),
-      pair-reached (boxed told) (sym (ap leastPair (c .before .present .given .1)) ∙ c .before .before .before .nonlinearity .ensures),
+      pair-reached (boxed told) (sym (ap saidLeastPair (c .before .present .given .1)) ∙ c .before .before .before .nonlinearity .ensures),
     )
 
 returns-3 : tie.Need-returns-3

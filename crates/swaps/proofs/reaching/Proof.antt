@@ -52,10 +52,14 @@ component-count-requires-2 : tie.Need-component-count-requires-2 Inv-loop μ-loo
 component-count-requires-2 c κs = (c .before .before .before .loop .inv .arrays, c .before .before .before .before .before .before .before .before .before .before .before .before .before .before .pre .1)
 
 same-length-3 : tie.Need-same-length-3 Inv-loop μ-loop
-same-length-3 c = c .before .before .before .before .bits2 .given ∙ c .before .before .before .before .before .before .before .before .before .loop .inv .arrays .table-size ∙ sym (c .before .before .before .before .before .before .before .before .before .before .before .before .before .before .before .before .before .before .before .before .pre .0 .table-size)
+same-length-3 c =
+    let at-loop = c .before .before .before .before .before .before .before .before .before in
+    c .before .before .before .before .bits2 .given ∙ at-loop .loop .inv .arrays .table-size ∙ sym (at-loop .before .before .before .before .before .before .before .before .before .before .before .pre .0 .table-size)
 
 same-length-4 : tie.Need-same-length-4 Inv-loop μ-loop
-same-length-4 c = c .before .before .out2 .given ∙ c .before .before .before .before .before .before .before .before .before .loop .inv .arrays .out-size ∙ sym (c .before .before .before .before .before .before .before .before .before .before .before .before .before .before .before .before .before .before .before .before .pre .0 .out-size)
+same-length-4 c =
+    let at-loop = c .before .before .before .before .before .before .before .before .before in
+    c .before .before .out2 .given ∙ at-loop .loop .inv .arrays .out-size ∙ sym (at-loop .before .before .before .before .before .before .before .before .before .before .before .pre .0 .out-size)
 
 returns-2 : tie.Need-returns-2 Inv-loop μ-loop
 returns-2 c =

@@ -46,7 +46,11 @@ returns : tie.Need-returns
 returns c = ap figures (raised-none (c .before .before .before .before .before .before .gather-and-search .ensures .0) (not-true _ (c .if1 .taken)))
 
 -- a swap that was found lies within the rows
-inside : (c : tie.Else1) → let place = c .before .before .before .before .before .before .gather-and-search .result in let a = c .before .before .before .before .before .before .before .before .before .before .before .before .before .before .args in (place .low < 2 ^ a .n) × (place .high < 2 ^ a .n)
+inside : (c : tie.Else1) →
+    let searched = c .before .before .before .before .before .before in
+    let place = searched .gather-and-search .result in
+    let a = searched .before .before .before .before .before .before .before .before .args in
+    (place .low < 2 ^ a .n) × (place .high < 2 ^ a .n)
 inside c = found-inside (c .before .before .before .before .before .before .gather-and-search .ensures .0) (not-false _ (c .if1 .left))
 
 cast-t25 : tie.Need-cast-t25

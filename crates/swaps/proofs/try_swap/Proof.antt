@@ -35,18 +35,31 @@ returns-2 c =
 
 reaching-requires : tie.Need-reaching-requires
 reaching-requires c κs =
-    let start = c .before .before .before .before .before .before .before .before .before .before .before .before .before .before .before .before .before in
-    (swap-ready (start .pre .0) (start .args .low) (start .args .high) (c .before .before .before .before .before .write-swapped .ensures), start .pre .1, start .pre .2, start .pre .0 .few)
+    let swapped = c .before .before .before .before .before in
+    let start = swapped .before .before .before .before .before .before .before .before .before .before .before .before in
+    (swap-ready (start .pre .0) (start .args .low) (start .args .high) (swapped .write-swapped .ensures), start .pre .1, start .pre .2, start .pre .0 .few)
+
+same-length : tie.Need-same-length
+same-length c = search needs
+
+same-length-2 : tie.Need-same-length-2
+same-length-2 c = search needs
+
+same-length-3 : tie.Need-same-length-3
+same-length-3 c = search needs
 
 returns-3 : tie.Need-returns-3
 returns-3 c =
-    let start = c .before .before .before .before .before .before .before .before .before .before .before .before .before .before .before .before .before .before .before .before .before in
+    let done = c .before .before .before in
+    let swapped = done .before .before .before .before .before .before in
+    let apart = swapped .before .before in
+    let start = swapped .before .before .before .before .before .before .before .before .before .before .before .before in
     let a = start .args in (
-      this-distance (start .pre .0 .box) (start .pre .0 .figure-is) (a .d) (a .low) (a .high) (sym (c .before .before .before .before .before .before .before .before .before .before .before .before .differing .ensures) ∙ c .before .before .before .before .before .before .before .before .before .before .before .if2 .left)
-          (subst (λ (l : List ℕ). Tried (a .n) (a .m) l (a .figure) (c .before .before .before .reaching .result)) (c .before .before .before .before .before .before .before .before .before .write-swapped .ensures) (c .before .before .before .reaching .ensures .0)),
-      search needs,
-      search needs,
-      search needs,
+      this-distance (start .pre .0 .box) (start .pre .0 .figure-is) (a .d) (a .low) (a .high) (sym (apart .before .differing .ensures) ∙ apart .if2 .left)
+          (subst (λ (l : List ℕ). Tried (a .job .n) (a .job .m) l (a .job .figure) (done .reaching .result)) (swapped .write-swapped .ensures) (done .reaching .ensures .0)),
+      same-length c,
+      same-length-2 c,
+      same-length-3 c,
     )
 
 pub try-swap-spec : {M : Type 1} → statement M
@@ -54,4 +67,4 @@ try-swap-spec =
     tie.close
     (tie.spec (λ c κs. search needs) (λ c κs. search needs) returns (λ c. search needs) (λ c. search needs) (λ c. search needs)
     (λ c. search needs) (λ c κs. search needs) (λ c κs. search needs) returns-2 (λ c κs. search needs) reaching-requires
-    (λ c. search needs) (λ c. search needs) (λ c. search needs) returns-3)
+    same-length same-length-2 same-length-3 returns-3)

@@ -24,7 +24,7 @@ shared-slice-read-wide c = omega (arith, c .before .before .loop .inv .within, c
 
 -- the value that is read is a bit
 read-bit : (c : tie.After-wide Inv-loop μ-loop) → c .wide .result < 2
-read-bit c = subst (λ (b : ℕ). b < 2) (sym (c .wide .ensures)) (c .before .before .before .before .before .pre .bits (c .before .before .before .loop .x - 1))
+read-bit c = subst (λ (b : ℕ). b < 2) (sym (c .wide .ensures .0)) (c .before .before .before .before .before .pre .bits (c .before .before .before .loop .x - 1))
 
 add-t : tie.Need-add-t Inv-loop μ-loop
 add-t c =
@@ -35,7 +35,7 @@ loop-again : tie.Need-loop-again Inv-loop μ-loop
 loop-again c =
     let at-loop = c .before .before .before in
     numbered-more (at-loop .before .before .args .table .now) (at-loop .loop .t) (at-loop .loop .x) (c .wide .result)
-    (at-loop .loop .inv) (c .before .before .loop-test .taken) (read-bit c) (c .wide .ensures)
+    (at-loop .loop .inv) (c .before .before .loop-test .taken) (read-bit c) (c .wide .ensures .0)
 
 returns : tie.Need-returns Inv-loop μ-loop
 returns c = numbered-whole (c .before .before .before .args .table .now) (c .before .loop .t) (c .before .loop .x) (c .before .loop .inv) (omega arith)
@@ -43,5 +43,5 @@ returns c = numbered-whole (c .before .before .before .args .table .now) (c .bef
 pub number-spec : {M : Type 1} → statement M
 number-spec =
     tie.close
-    (tie.spec Inv-loop μ-loop loop-holds (λ c. search needs) mul-t shared-slice-read-wide (λ c κs. search needs) add-t
-    (λ c. search needs) loop-again returns)
+    (tie.spec Inv-loop μ-loop loop-holds (λ c. search needs) mul-t shared-slice-read-wide (λ c κs. search needs) (λ c. search needs)
+    add-t (λ c. search needs) loop-again returns)

@@ -6,12 +6,12 @@ use mathlib.Core.List.{[]}
 use Prim.Native.Nat.{ℕ, _≤_}
 use lib.ListN.{length, take}
 use lib.Seq.{length-take-le}
-use Rattle.refusals.specs.Table.{first, inRange, replyAfter, written}
+use Rattle.refusals.specs.Table.{first, inRange, replyAfter, saidWritten}
 use Rattle.refusals.proofs.Checks.{fails, holds, found, stop}
 use Rattle.refusals.proofs.Bounds.{range-high}
 use Rattle.columns.specs.Addition.{additionChecks}
-use Rattle.design.specs.Model.{addChecks}
-use Rattle.design.specs.Calls.{state}
+use Rattle.design.specs.Model.{designAddChecks}
+use Rattle.design.specs.Calls.{stateOfDesign}
 use Rattle.design.proofs.Held.{few, add-refused, add-declined, add-done}
 use borrow.Author.Needs.{needs}
 use Rattle.design.proofs.Design.add.Statement.{statement}
@@ -21,7 +21,7 @@ slice-aggregate-all : tie.Need-slice-aggregate-all
 slice-aggregate-all c = search needs
 
 returns : tie.Need-returns
-unfolding addChecks state
+unfolding designAddChecks stateOfDesign
 returns c =
     let then = c .before in
     let a = then .before .before .before .before .args in
@@ -57,7 +57,7 @@ answered : (q : tie.After-add-to-column) →
     let a = p .before .before .before .before .before .args in
     let size = p .power-of-two .result in
     (room : ℕ) × (room ≡ size)
-    × (written (q .add-to-column .result)
+    × (saidWritten (q .add-to-column .result)
     ≡ replyAfter (first (additionChecks (a .self .n) (a .self .m) (take size (a .self .rows)) (a .j) (a .w) (a .b) room)) [])
 answered q = (_, length-take-le _ _ (fits (q .before .before .before)), q .add-to-column .ensures .reply)
 
@@ -67,7 +67,7 @@ returns-2 c =
     let p = q .before .before .before in
     let a = p .before .before .before .before .before .args in
     let t = answered q in
-    let h = sym (ap written (c .before .before .added .given .1)) ∙ t .2 in
+    let h = sym (ap saidWritten (c .before .before .added .given .1)) ∙ t .2 in
     add-declined (a .self) (a .j) (a .w) (a .b) _ (t .0) (boxed (p .before)) (p .power-of-two .ensures .0) (t .1) h (c .declined2 .ensures)
 
 returns-3 : tie.Need-returns-3
@@ -77,7 +77,7 @@ returns-3 c =
     let p = q .before .before .before in
     let a = p .before .before .before .before .before .args in
     let t = answered q in
-    let h = sym (ap written (c .enum-told .given .1)) ∙ t .2 in
+    let h = sym (ap saidWritten (c .enum-told .given .1)) ∙ t .2 in
     add-done (a .self) (a .j) (a .w) (a .b) _ (t .0) (boxed (p .before)) (p .power-of-two .ensures .0) (t .1) h _ _ (q .add-to-column .ensures .content)
 
 pub add-spec : {M : Type 1} → statement M

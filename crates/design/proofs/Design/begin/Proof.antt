@@ -4,7 +4,7 @@ use mathlib.Core.List.{[]}
 use Prim.Native.Nat.{_≤_}
 use lib.ListN.{length}
 use lib.Seq.{length-take-le}
-use Rattle.refusals.specs.Table.{first, boxChecks, written}
+use Rattle.refusals.specs.Table.{first, boxChecks, saidWritten}
 use Rattle.refusals.specs.declared.Checked.the-variants.{Accepted}
 use Rattle.refusals.proofs.Checks.{box, reply-refused, reply-accepted}
 use Rattle.design.proofs.Held.{begin-refused, begin-done}
@@ -19,7 +19,7 @@ returns c =
     let u = checked .before .unset in
     let h = sym (checked .check-box .ensures) ∙ c .before .before .e .given .1 in
     let g = c .declined .ensures in
-    record { reply = ap written (g .1) ∙ reply-refused h []; whole = g .0 ∙ begin-refused (a .n) (a .m) (a .rows .now) (u .result) (u .ensures) h }
+    record { reply = ap saidWritten (g .1) ∙ reply-refused h []; whole = g .0 ∙ begin-refused (a .n) (a .m) (a .rows .now) (u .result) (u .ensures) h }
 
 accepted : (c : tie.After-enum-told) → let a = c .before .before .before .before .before .args in first (boxChecks (a .n) (a .m) (a .rows .now)) ≡ Accepted
 accepted c = sym (c .before .before .check-box .ensures) ∙ c .enum-told .given .1

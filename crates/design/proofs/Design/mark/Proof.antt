@@ -6,14 +6,14 @@ use Rattle.refusals.specs.Table.{inRange}
 use Rattle.refusals.proofs.Checks.{fails, holds, found, skip, stop, end}
 use Rattle.refusals.proofs.Bounds.{range-low, range-high}
 use Rattle.design.specs.Model.{markChecks}
-use Rattle.design.specs.Calls.{state}
+use Rattle.design.specs.Calls.{stateOfDesign}
 use Rattle.design.proofs.Held.{mark-refused, mark-done}
 use borrow.Author.Needs.{needs}
 use Rattle.design.proofs.Design.mark.Statement.{statement}
 use Rattle.design.proofs.Design.mark.Tie as tie
 
 returns : tie.Need-returns
-unfolding markChecks state
+unfolding markChecks stateOfDesign
 returns c =
     let then = c .before in
     let a = then .before .before .args in
@@ -24,7 +24,7 @@ boxed : (c : tie.Else1) → inRange 1 8 (c .before .before .args .self .n) ≡ t
 boxed c = holds (c .before .in-range .ensures) (c .if1 .left)
 
 returns-2 : tie.Need-returns-2
-unfolding markChecks state
+unfolding markChecks stateOfDesign
 returns-2 c =
     let then = c .before in
     let else = then .before .before in
@@ -46,7 +46,7 @@ element-set-from-design c =
     omega (arith, range-low 1 16 k (numbered else), range-high 1 16 k (numbered else))
 
 returns-3 : tie.Need-returns-3
-unfolding markChecks state
+unfolding markChecks stateOfDesign
 returns-3 c =
     let else = c .before in
     let a = else .before .before .before .before .args in

@@ -6,10 +6,10 @@ use Prim.Native.Nat.{ℕ}
 use lib.ListN.{length, take}
 use lib.Seq.{length-take-le}
 use Rattle.refusals.specs.Table.{inRange}
-use Rattle.refusals.proofs.Checks.{fails, holds, differs, equals, found, skip, stop, end, reply-refused, reply-accepted, content-refused, content-accepted}
+use Rattle.refusals.proofs.Checks.{fails, holds, differs, equals, found, skip, stop, end, reply-refused, reply-accepted, after-refused, after-accepted}
 use Rattle.refusals.proofs.Bounds.{range-high}
-use Rattle.design.specs.Model.{readChecks}
-use Rattle.design.specs.Calls.{state}
+use Rattle.design.specs.Model.{designReadChecks}
+use Rattle.design.specs.Calls.{stateOfDesign}
 use Rattle.design.proofs.Held.{few}
 use borrow.Author.Needs.{needs}
 use Rattle.design.proofs.Design.read_box.Statement.{statement}
@@ -19,10 +19,10 @@ slice-aggregate-all : tie.Need-slice-aggregate-all
 slice-aggregate-all c = search needs
 
 returns : tie.Need-returns
-unfolding readChecks state
+unfolding designReadChecks stateOfDesign
 returns c =
     let h = sym (found (stop (fails (c .before .in-range .ensures) (c .if1 .taken)))) in
-    record { reply = reply-refused h _; content = content-refused h _ _ }
+    record { reply = reply-refused h _; content = after-refused h _ _ }
 
 -- there is a box in it, where that was passed
 boxed : (c : tie.Else1) → inRange 1 8 (c .before .before .before .before .before .args .self .n) ≡ true
@@ -32,11 +32,11 @@ power-of-two-requires : tie.Need-power-of-two-requires
 power-of-two-requires c κs = omega (arith, range-high 1 8 (c .before .before .before .before .before .args .self .n) (boxed c))
 
 returns-2 : tie.Need-returns-2
-unfolding readChecks state
+unfolding designReadChecks stateOfDesign
 returns-2 c =
     let p = c .before in
     let h = sym (found (skip (boxed (p .before)) (stop (differs (p .power-of-two .ensures .0) (c .if2 .taken))))) in
-    record { reply = reply-refused h _; content = content-refused h _ _ }
+    record { reply = reply-refused h _; content = after-refused h _ _ }
 
 -- so the array has its rows
 long : (c : tie.After-power-of-two) → length (take (c .power-of-two .result) (c .before .before .before .before .before .before .args .self .rows)) ≡ c .power-of-two .result
@@ -54,13 +54,13 @@ copy-requires : tie.Need-copy-requires
 copy-requires c κs = let else = c .before .before in else .if2 .left ∙ sym (long (else .before))
 
 returns-3 : tie.Need-returns-3
-unfolding readChecks state
+unfolding designReadChecks stateOfDesign
 returns-3 c =
     let else = c .before .before .before .before .before in
     let p = else .before in
     let e = p .power-of-two .ensures .0 in
     let h = sym (found (skip (boxed (p .before)) (skip (equals e (else .if2 .left)) end))) in
-    record { reply = reply-accepted h _; content = c .before .before .copy .ensures ∙ ap (λ (k : ℕ). take k (p .before .before .before .before .before .before .args .self .rows)) e ∙ content-accepted h _ _ }
+    record { reply = reply-accepted h _; content = c .before .before .copy .ensures ∙ ap (λ (k : ℕ). take k (p .before .before .before .before .before .before .args .self .rows)) e ∙ after-accepted h _ _ }
 
 pub read-box-spec : {M : Type 1} → statement M
 read-box-spec =

@@ -7,14 +7,14 @@ use Rattle.refusals.specs.Table.{inRange}
 use Rattle.refusals.proofs.Checks.{fails, holds, found, skip, stop, end}
 use Rattle.refusals.proofs.Bounds.{range-low, range-high}
 use Rattle.design.specs.Model.{returnChecks}
-use Rattle.design.specs.Calls.{state}
+use Rattle.design.specs.Calls.{stateOfDesign}
 use Rattle.design.proofs.Held.{set-at, return-refused, return-done}
 use borrow.Author.Needs.{needs}
 use Rattle.design.proofs.Design.return_to.Statement.{statement}
 use Rattle.design.proofs.Design.return_to.Tie as tie
 
 returns : tie.Need-returns
-unfolding returnChecks state
+unfolding returnChecks stateOfDesign
 returns c =
     let then = c .before in
     let a = then .before .before .args in
@@ -25,7 +25,7 @@ boxed : (c : tie.Else1) → inRange 1 8 (c .before .before .args .t1 .n) ≡ tru
 boxed c = holds (c .before .in-range .ensures) (c .if1 .left)
 
 returns-2 : tie.Need-returns-2
-unfolding returnChecks state
+unfolding returnChecks stateOfDesign
 returns-2 c =
     let then = c .before in
     let else = then .before .before in
@@ -46,7 +46,7 @@ element-copy-out-here c =
     omega (arith, range-low 1 16 k (numbered c), range-high 1 16 k (numbered c))
 
 returns-3 : tie.Need-returns-3
-unfolding returnChecks state
+unfolding returnChecks stateOfDesign
 returns-3 c =
     let else = c .before .before .before .before in
     let a = else .before .before .before .before .args in
@@ -54,7 +54,7 @@ returns-3 c =
     return-refused (a .t1) (a .k) (sym (found (skip (boxed (else .before .before)) (skip (numbered else) (stop out))))) (c .declined3 .ensures)
 
 returns-4 : tie.Need-returns-4
-unfolding returnChecks state
+unfolding returnChecks stateOfDesign
 returns-4 c =
     let else = c .before .before .before .before in
     let a = else .before .before .before .before .args in

@@ -7,7 +7,7 @@ use Rattle.refusals.specs.Table.{inRange}
 use Rattle.refusals.proofs.Checks.{fails, holds, found, stop}
 use Rattle.refusals.proofs.Bounds.{range-high}
 use Rattle.design.specs.Model.{swapChecks}
-use Rattle.design.specs.Calls.{state}
+use Rattle.design.specs.Calls.{stateOfDesign}
 use Rattle.design.proofs.Operations.{swap-first-out, swap-second-out}
 use Rattle.design.proofs.Held.{inside, swap-refused, swap-done}
 use borrow.Author.Needs.{needs}
@@ -15,7 +15,7 @@ use Rattle.design.proofs.Design.swap.Statement.{statement}
 use Rattle.design.proofs.Design.swap.Tie as tie
 
 returns : tie.Need-returns
-unfolding swapChecks state
+unfolding swapChecks stateOfDesign
 returns c =
     let then = c .before in
     let a = then .before .before .args in
@@ -30,15 +30,15 @@ power-of-two-requires : tie.Need-power-of-two-requires
 power-of-two-requires c κs = omega (arith, range-high 1 8 (c .before .before .args .self .n) (boxed c))
 
 returns-2 : tie.Need-returns-2
-unfolding state
+unfolding stateOfDesign
 returns-2 c =
     let p = c .before .before in
     let a = p .before .before .before .args in
     let out : 2 ^ a .self .n ≤ a .x = omega (arith, p .power-of-two .ensures .0, c .before .if2 .taken) in
-    swap-refused (a .self) (a .x) (a .y) (swap-first-out (state (a .self)) (a .x) (a .y) (boxed (p .before)) out) (c .declined2 .ensures)
+    swap-refused (a .self) (a .x) (a .y) (swap-first-out (stateOfDesign (a .self)) (a .x) (a .y) (boxed (p .before)) out) (c .declined2 .ensures)
 
 returns-3 : tie.Need-returns-3
-unfolding state
+unfolding stateOfDesign
 returns-3 c =
     let else = c .before .before in
     let p = else .before in
@@ -46,7 +46,7 @@ returns-3 c =
     let e = p .power-of-two .ensures .0 in
     let one : a .x < 2 ^ a .self .n = omega (arith, e, else .if2 .left) in
     let out : 2 ^ a .self .n ≤ a .y = omega (arith, e, c .before .if3 .taken) in
-    swap-refused (a .self) (a .x) (a .y) (swap-second-out (state (a .self)) (a .x) (a .y) (boxed (p .before)) one out) (c .declined3 .ensures)
+    swap-refused (a .self) (a .x) (a .y) (swap-second-out (stateOfDesign (a .self)) (a .x) (a .y) (boxed (p .before)) one out) (c .declined3 .ensures)
 
 -- both inputs, where they were passed
 passed-x : (c : tie.Else3) → let a = c .before .before .before .before .before .args in (a .x < 2 ^ a .self .n) × (a .x < 256)

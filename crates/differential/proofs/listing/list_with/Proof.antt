@@ -5,7 +5,7 @@ use mathlib.Core.List.{[], _∷_}
 use native.Mathlib.Omega.{arith}
 use lib.ListN.{length}
 use Rattle.refusals.specs.Table.{figures}
-use Rattle.refusals.proofs.Checks.{reply-accepted, content-accepted}
+use Rattle.refusals.proofs.Checks.{reply-accepted, after-accepted}
 use Rattle.refusals.proofs.Outcomes.{wrote-refused}
 use Rattle.differential.specs.XorTable.{largestCells}
 use Rattle.differential.proofs.ListChecks.{too-short, long-enough, written-first}
@@ -33,7 +33,7 @@ returns-2 c =
     let h = long-enough (start .pre .0) count (length old) (else .if1 .left) in (
       record {
         reply = ap (λ (k : ℕ). figures (k ∷ [])) count ∙ reply-accepted h _;
-        content = written-first cells old _ (omega (arith, count, else .if1 .left)) (listed .list-cells .ensures) ∙ content-accepted h _ old;
+        content = written-first cells old _ (omega (arith, count, else .if1 .left)) (listed .list-cells .ensures) ∙ after-accepted h _ old;
       },
       counted .before .before .before .measure .ensures .0,
     )

@@ -4,7 +4,7 @@ use mathlib.Core.Path.{sym}
 use native.Mathlib.Omega.{arith}
 use lib.ListN.{length, replicate}
 use lib.Seq.{length-take-le}
-use Rattle.differential.proofs.Slots.{zeros-free}
+use Rattle.differential.proofs.Buckets.{zeros-free}
 use Rattle.differential.proofs.Sweeps.{half-room}
 use borrow.Author.Needs.{needs}
 use Rattle.differential.proofs.listing.measure.Statement.{statement}

@@ -5,22 +5,22 @@ use native.Mathlib.Omega.{arith}
 use borrow.Author.Needs.{needs}
 use lib.ListN.{length}
 use Rattle.differential.specs.Running.{InRow}
-use Rattle.differential.specs.Work.{RunningCells, Slots}
+use Rattle.differential.specs.Work.{RunningCells, Buckets}
 use Rattle.differential.proofs.Rises.{in-row, in-row-map, out-of-row, row-below}
 use Rattle.differential.proofs.LargestCount.{cells-none, row-cells-next}
-use Rattle.differential.proofs.Slots.{slots-none}
+use Rattle.differential.proofs.Buckets.{buckets-none}
 use Rattle.differential.proofs.listing.measure_row.Statement.{statement}
 use Rattle.differential.proofs.listing.measure_row.Tie as tie
 
 abbrev Inv-loop : tie.InvT-loop
-Inv-loop a differences slots₀ row running₀ cells₀ y₀ slots running cells y =
-    (y ≤ length differences) × InRow a (λ value. RunningCells differences y value cells) running × Slots a differences y slots
+Inv-loop a differences buckets₀ row running₀ cells₀ y₀ buckets running cells y =
+    (y ≤ length differences) × InRow a (λ value. RunningCells differences y value cells) running × Buckets a differences y buckets
 
 abbrev μ-loop : tie.MeasureT-loop
-μ-loop a differences slots₀ row running₀ cells₀ y₀ slots running cells y = length differences - y
+μ-loop a differences buckets₀ row running₀ cells₀ y₀ buckets running cells y = length differences - y
 
 loop-holds : tie.Need-loop-holds Inv-loop μ-loop
-loop-holds c = (omega arith, in-row 4294967295 (cells-none _), slots-none _ (c .before .before .pre .2))
+loop-holds c = (omega arith, in-row 4294967295 (cells-none _), buckets-none _ (c .before .before .pre .2))
 
 rise-requires : tie.Need-rise-requires Inv-loop μ-loop
 rise-requires c κs =
@@ -60,7 +60,7 @@ returns c =
     let values = args .differences .now in
     let all : at-loop .loop .y ≡ length values = omega (arith, c .loop-test .left, at-loop .loop .inv .0) in (
       subst (λ (k : ℕ). RunningCells values k (at-loop .loop .running - args .a * 1099511627776) (at-loop .loop .cells)) all (out-of-row (at-loop .loop .inv .1)),
-      subst (λ (k : ℕ). Slots (args .a) values k (at-loop .loop .slots)) all (at-loop .loop .inv .2),
+      subst (λ (k : ℕ). Buckets (args .a) values k (at-loop .loop .buckets)) all (at-loop .loop .inv .2),
     )
 
 pub measure-row-spec : {M : Type 1} → statement M

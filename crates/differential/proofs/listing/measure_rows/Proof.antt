@@ -4,18 +4,18 @@ use mathlib.Core.Path.{_≡_, sym, _∙_}
 use native.Mathlib.Omega.{arith}
 use lib.ListN.{length}
 use Rattle.differential.specs.Work.{FreeFrom}
-use Rattle.differential.proofs.Slots.{slots-free}
+use Rattle.differential.proofs.Buckets.{buckets-free}
 use Rattle.differential.proofs.Sweeps.{box-inside, pairs-few}
 use Rattle.differential.proofs.Measures.{Measuring, measuring-none, measuring-next, measuring-all, measuring-largest, measuring-last}
 use Rattle.differential.proofs.listing.measure_rows.Statement.{statement}
 use Rattle.differential.proofs.listing.measure_rows.Tie as tie
 
 abbrev Inv-loop : tie.InvT-loop
-Inv-loop n m rows pairs₀ slots₀ standings₀ numbers₀ largest₀ a₀ pairs slots standings numbers largest a =
-    Measuring n m rows standings numbers largest pairs a × FreeFrom a slots
+Inv-loop n m rows pairs₀ buckets₀ standings₀ numbers₀ largest₀ a₀ pairs buckets standings numbers largest a =
+    Measuring n m rows standings numbers largest pairs a × FreeFrom a buckets
 
 abbrev μ-loop : tie.MeasureT-loop
-μ-loop n m rows pairs₀ slots₀ standings₀ numbers₀ largest₀ a₀ pairs slots standings numbers largest a = length rows - a
+μ-loop n m rows pairs₀ buckets₀ standings₀ numbers₀ largest₀ a₀ pairs buckets standings numbers largest a = length rows - a
 
 loop-holds : tie.Need-loop-holds Inv-loop μ-loop
 loop-holds c = let start = c .before .before .before in (measuring-none (start .pre .0) (start .pre .1) (start .pre .3) (start .pre .4), start .pre .2)
@@ -68,7 +68,7 @@ loop-again c =
     let measured = c .before .before .before .before in
     let written = c .before .before .before .before .before .before .before .before .before in
     let in-loop = c .before .before .before .before .before .before .before .before .before .before .before in
-    (measuring-next (in-loop .before .loop .inv .0) (below in-loop) (written .write-pairs .ensures) (measured .measure-row .ensures .0) (c .larger .ensures), slots-free (measured .measure-row .ensures .1) (pairs-few (in-loop .before .loop .inv .0 .box) (written .write-pairs .ensures)))
+    (measuring-next (in-loop .before .loop .inv .0) (below in-loop) (written .write-pairs .ensures) (measured .measure-row .ensures .0) (c .larger .ensures), buckets-free (measured .measure-row .ensures .1) (pairs-few (in-loop .before .loop .inv .0 .box) (written .write-pairs .ensures)))
 
 same-length : tie.Need-same-length Inv-loop μ-loop
 same-length c =

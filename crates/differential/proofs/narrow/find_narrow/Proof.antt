@@ -1,4 +1,4 @@
--- `differential::narrow::find_narrow` meets its contract: half of the inputs are pairs, and each of the 2^m differences has a slot. Assumes nothing.
+-- `differential::narrow::find_narrow` meets its contract: half of the inputs are pairs, and each of the 2^m differences has a bucket. Assumes nothing.
 use Prim.Native.Nat.{ℕ, _/_, _^_, _≤_}
 use mathlib.Core.Path.{sym, _∙_}
 use native.Mathlib.Omega.{arith}
@@ -23,8 +23,8 @@ size-small c = omega (arith, c .power-of-two .ensures .0, pow-mono (c .before .b
 slice-aggregate-sweep-narrow : tie.Need-slice-aggregate-sweep-narrow
 slice-aggregate-sweep-narrow c = sym (length-take-le _ _ (half-small (c .before .before)))
 
-array-borrow-prefix-slots : tie.Need-array-borrow-prefix-slots
-array-borrow-prefix-slots c = size-small (c .before)
+array-borrow-prefix-buckets : tie.Need-array-borrow-prefix-buckets
+array-borrow-prefix-buckets c = size-small (c .before)
 
 slice-aggregate-sweep-narrow-2 : tie.Need-slice-aggregate-sweep-narrow-2
 slice-aggregate-sweep-narrow-2 c = sym (length-take-le _ (replicate 256 0) (size-small (c .before .before)))
@@ -43,5 +43,5 @@ sweep-narrow-requires c κs =
 pub find-narrow-spec : {M : Type 1} → statement M
 find-narrow-spec =
     tie.close
-    (tie.spec (λ c κs. search needs) (λ c. search needs) slice-aggregate-sweep-narrow array-borrow-prefix-slots
+    (tie.spec (λ c κs. search needs) (λ c. search needs) slice-aggregate-sweep-narrow array-borrow-prefix-buckets
     slice-aggregate-sweep-narrow-2 sweep-narrow-requires (λ c. search needs) (λ c. search needs))

@@ -6,24 +6,24 @@ use native.Mathlib.Omega.{arith}
 use borrow.Author.Needs.{needs}
 use lib.ListN.{length}
 use Rattle.differential.specs.Running.{LargestSoFar, higherOf, runningAfter}
-use Rattle.differential.specs.Work.{OwnSlots}
+use Rattle.differential.specs.Work.{OwnBuckets}
 use Rattle.differential.proofs.Rises.{running-none, rises-none, rises-next}
-use Rattle.differential.proofs.OwnSlots.{own-same, cleared-at, cleared-length, own-none}
+use Rattle.differential.proofs.OwnBuckets.{own-same, cleared-at, cleared-length, own-none}
 use Rattle.differential.proofs.narrow.largest_alone.Statement.{statement}
 use Rattle.differential.proofs.narrow.largest_alone.Tie as tie
 
 abbrev Inv-loop : tie.InvT-loop
-Inv-loop differences slots₀ running₀ y₀ slots running y =
-    (y ≤ length differences) × LargestSoFar differences y running × (running ≡ runningAfter differences y) × OwnSlots (length slots₀) differences y slots
+Inv-loop differences buckets₀ running₀ y₀ buckets running y =
+    (y ≤ length differences) × LargestSoFar differences y running × (running ≡ runningAfter differences y) × OwnBuckets (length buckets₀) differences y buckets
 
 abbrev μ-loop : tie.MeasureT-loop
-μ-loop differences slots₀ running₀ y₀ slots running y = length differences - y
+μ-loop differences buckets₀ running₀ y₀ buckets running y = length differences - y
 
 loop-holds : tie.Need-loop-holds Inv-loop μ-loop
 loop-holds c =
     let cleared = c .before .before .before in
     let start = cleared .before .before .before .before in
-    let is = cleared .clear-slots .ensures in
+    let is = cleared .clear-buckets .ensures in
     let zero = cleared-at is 0 (start .pre .1) in (
       omega arith,
       subst (LargestSoFar (start .args .differences .now) 0) (sym zero) (running-none _),
@@ -54,13 +54,13 @@ loop-again c =
     )
 
 same-length : tie.Need-same-length Inv-loop μ-loop
-same-length c = c .before .loop .inv .3 .long ∙ cleared-length (c .before .before .before .before .before .clear-slots .ensures)
+same-length c = c .before .loop .inv .3 .long ∙ cleared-length (c .before .before .before .before .before .clear-buckets .ensures)
 
 returns : tie.Need-returns Inv-loop μ-loop
 returns c =
     let at-loop = c .before in
     let values = at-loop .before .before .before .before .before .before .before .before .args .differences .now in
-    let cleared = at-loop .before .before .before .before .clear-slots .ensures in
+    let cleared = at-loop .before .before .before .before .clear-buckets .ensures in
     let all : at-loop .loop .y ≡ length values = omega (arith, c .loop-test .left, at-loop .loop .inv .0) in (
       subst (λ (k : ℕ). LargestSoFar values k (at-loop .loop .running)) all (at-loop .loop .inv .1),
       at-loop .loop .inv .2 ∙ ap (runningAfter values) all,

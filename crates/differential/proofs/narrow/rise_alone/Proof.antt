@@ -8,19 +8,19 @@ use lib.ListN.{length}
 use Rattle.boolean.specs.Functions.{at}
 use Rattle.differential.specs.Running.{LargestSoFar, higherOf}
 use Rattle.differential.proofs.Rises.{running-higher}
-use Rattle.differential.proofs.OwnSlots.{own-fits, alone-risen, alone-next}
+use Rattle.differential.proofs.OwnBuckets.{own-fits, alone-risen, alone-next}
 use Rattle.differential.proofs.narrow.rise_alone.Statement.{statement}
 use Rattle.differential.proofs.narrow.rise_alone.Tie as tie
 
--- the difference has its slot
-inside : (c : tie.After-slice-known) → let a = c .before .before .args in at (a .differences .now) (a .y) < length (a .slots .now)
+-- the difference has its bucket
+inside : (c : tie.After-slice-known) → let a = c .before .before .args in at (a .differences .now) (a .y) < length (a .buckets .now)
 inside c = let start = c .before .before in start .pre .2 .inside (start .args .y) (start .pre .0)
 
 few : (c : tie.After-slice-known) → let a = c .before .before .args in at (a .differences .now) (a .y) < 256
 few c = omega (arith, inside c, c .before .before .pre .2 .few)
 
-cast-slot : tie.Need-cast-slot
-cast-slot c = omega (arith, few (c .before))
+cast-bucket : tie.Need-cast-bucket
+cast-bucket c = omega (arith, few (c .before))
 
 mul-standing : tie.Need-mul-standing
 mul-standing c = omega (arith, few (c .before))
@@ -31,11 +31,11 @@ slice-read-standing c = inside (c .before .before)
 add-standing : tie.Need-add-standing
 add-standing c = let start = c .before .before .before .before in omega (arith, own-fits (start .pre .2) (start .pre .0), start .pre .0, start .pre .1)
 
-mul-slots : tie.Need-mul-slots
-mul-slots c = omega (arith, few (c .before .before))
+mul-buckets : tie.Need-mul-buckets
+mul-buckets c = omega (arith, few (c .before .before))
 
-slice-write-slots : tie.Need-slice-write-slots
-slice-write-slots c = inside (c .before .before)
+slice-write-buckets : tie.Need-slice-write-buckets
+slice-write-buckets c = inside (c .before .before)
 
 returns : tie.Need-returns
 returns c =
@@ -49,5 +49,5 @@ returns c =
 pub rise-alone-spec : {M : Type 1} → statement M
 rise-alone-spec =
     tie.close
-    (tie.spec (λ c. search needs) (λ c. search needs) cast-slot mul-standing slice-read-standing add-standing mul-slots
-    slice-write-slots (λ c κs. search needs) (λ c. search needs) returns)
+    (tie.spec (λ c. search needs) (λ c. search needs) cast-bucket mul-standing slice-read-standing add-standing mul-buckets
+    slice-write-buckets (λ c κs. search needs) (λ c. search needs) returns)

@@ -8,7 +8,7 @@ use borrow.Author.Needs.{needs}
 use lib.Dec.{lit≤}
 use lib.ListN.{length}
 use lib.Pow.{pow-pos, pow-mono}
-use Rattle.differential.specs.Work.{candidate}
+use Rattle.differential.specs.Work.{cellFound}
 use Rattle.differential.proofs.Sweeps.{box-inside, pairs-few, Sweeping, sweep-starts, sweep-next, sweep-ends, sweep-last}
 use Rattle.differential.proofs.Rises.{largest-few}
 use Rattle.differential.proofs.Pairs.{pair-small}
@@ -16,10 +16,10 @@ use Rattle.differential.proofs.narrow.sweep_narrow.Statement.{statement
 use Rattle.differential.proofs.narrow.sweep_narrow.Tie as tie
 
 abbrev Inv-loop : tie.InvT-loop
-Inv-loop n m rows pairs₀ slots₀ inputs found₀ a₀ pairs slots found a = Sweeping n m rows (candidate found₀) (candidate found) pairs a × (length slots ≡ 2 ^ m)
+Inv-loop n m rows pairs₀ buckets₀ inputs found₀ a₀ pairs buckets found a = Sweeping n m rows (cellFound found₀) (cellFound found) pairs a × (length buckets ≡ 2 ^ m)
 
 abbrev μ-loop : tie.MeasureT-loop
-μ-loop n m rows pairs₀ slots₀ inputs found₀ a₀ pairs slots found a = inputs - a
+μ-loop n m rows pairs₀ buckets₀ inputs found₀ a₀ pairs buckets found a = inputs - a
 
 power-of-two-requires : tie.Need-power-of-two-requires Inv-loop μ-loop
 power-of-two-requires c κs = le-trans (c .before .before .before .pre .0 .n-high) (lit≤ tt)

@@ -5,7 +5,7 @@ use borrow.Author.Needs.{needs}
 use Rattle.refusals.specs.Table.{first}
 use Rattle.refusals.specs.declared.Checked.the-variants.{Accepted}
 use Rattle.server.specs.Model.{heldChecks}
-use Rattle.server.specs.Calls.{state}
+use Rattle.server.specs.Calls.{stateOfServer}
 use Rattle.server.proofs.Checks.{held-low, held-high, ask-refused, ask-unfinished, ask-finished}
 use Rattle.server.proofs.Server.ask.Statement.{statement}
 use Rattle.server.proofs.Server.ask.Tie as tie
@@ -17,14 +17,14 @@ returns c =
 
 accepted : (c : tie.After-enum-told) →
     let a = c .before .before .before .args in
-    first (heldChecks (state (a .t1)) (a .place)) ≡ Accepted
+    first (heldChecks (stateOfServer (a .t1)) (a .place)) ≡ Accepted
 accepted c = sym (c .before .before .check-held .ensures) ∙ c .enum-told .given .1
 
 sub-i : tie.Need-sub-i
 sub-i c = held-low _ _ (accepted c)
 
 element-copy-out-asked : tie.Need-element-copy-out-asked
-element-copy-out-asked c = let a = c .before .before .before .args in omega (arith, held-low (state (a .t1)) (a .place) (accepted c), held-high (state (a .t1)) (a .place) (accepted c))
+element-copy-out-asked c = let a = c .before .before .before .args in omega (arith, held-low (stateOfServer (a .t1)) (a .place) (accepted c), held-high (stateOfServer (a .t1)) (a .place) (accepted c))
 
 returns-2 : tie.Need-returns-2
 returns-2 c =

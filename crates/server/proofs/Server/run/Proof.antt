@@ -5,7 +5,7 @@ use mathlib.Core.Path.{_≡_, refl, sym, _∙_, subst}
 use native.Mathlib.Omega.{arith}
 use borrow.Author.Needs.{needs}
 use Rattle.server.specs.Model.{served}
-use Rattle.server.specs.Calls.{state, Ran, none}
+use Rattle.server.specs.Calls.{stateOfServer, ServerRan, none}
 use Rattle.server.specs.Work.{Waiting}
 use Rattle.server.proofs.Steps.{turn-served, served-left}
 use Rattle.server.proofs.Waits.{waiting-served}
@@ -14,7 +14,7 @@ use Rattle.server.proofs.Server.run.Statement.{statement}
 use Rattle.server.proofs.Server.run.Tie as tie
 
 abbrev Inv-loop : tie.InvT-loop
-Inv-loop budget fixed waiting₀ server₀ done₀ waiting server done = (done ≤ budget) × Ran server₀ done server × Waiting server waiting
+Inv-loop budget fixed waiting₀ server₀ done₀ waiting server done = (done ≤ budget) × ServerRan server₀ done server × Waiting server waiting
 
 abbrev μ-loop : tie.MeasureT-loop
 μ-loop budget fixed waiting₀ server₀ done₀ waiting server done = budget - done
@@ -23,7 +23,7 @@ loop-holds : tie.Need-loop-holds Inv-loop μ-loop
 loop-holds c = (omega arith, none, c .waiting-places .ensures)
 
 -- the turn that is found in what is kept of the places is the place that a step serves
-turn-now : (c : tie.After-next-place Inv-loop μ-loop) → c .next-place .result ≡ served (state (c .before .before .before .loop .server))
+turn-now : (c : tie.After-next-place Inv-loop μ-loop) → c .next-place .result ≡ served (stateOfServer (c .before .before .before .loop .server))
 turn-now c = let loop = c .before .before .before .loop in c .next-place .ensures .1 ∙ turn-served (loop .server) (loop .waiting) (loop .inv .2)
 
 returns : tie.Need-returns Inv-loop μ-loop
@@ -71,14 +71,14 @@ loop-again c =
       omega arith,
       ran-more (loop .inv .1) (stepped-some (loop .server) q v (turn-now next) some (c .before .examine .ensures) refl),
       waiting-served (loop .server) (loop .waiting) (q - 1) q v _ (omega (arith, next .next-place .ensures .0)) (loop .inv .2)
-          (served-left (state (loop .server)) q (turn-now next) some) (c .unfinished .ensures),
+          (served-left (stateOfServer (loop .server)) q (turn-now next) some) (c .unfinished .ensures),
     )
 
 returns-2 : tie.Need-returns-2 Inv-loop μ-loop
 returns-2 c =
     let loop = c .before in
     let all : loop .loop .done ≡ loop .before .before .before .args .budget = omega arith in
-    subst (λ (k : _). Ran (loop .before .before .before .args .self) k (loop .loop .server)) all (loop .loop .inv .1)
+    subst (λ (k : _). ServerRan (loop .before .before .before .args .self) k (loop .loop .server)) all (loop .loop .inv .1)
 
 pub run-spec : {M : Type 1} → statement M
 run-spec =

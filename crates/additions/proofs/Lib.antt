@@ -1,6 +1,0 @@
-pub mod Effects
-pub mod Merging
-pub mod Shorter
-pub mod Theorems
-pub mod Unchanged
-pub mod Witness

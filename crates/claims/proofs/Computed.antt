@@ -1,0 +1,63 @@
+-- Document 01: "Proved in a single theorem over a table of these". Each line is computed over the definitions that the contracts cite, but
+-- for the long catalogues, which have a law.
+use mathlib.Core.Path.{refl, ap}
+use mathlib.Core.List.{List, [], _∷_, _++_}
+use native.Mathlib.Omega.{arith}
+use lib.Count.{ones, onesIn}
+use Rattle.boolean.specs.Bits.{parity, dot, affine, bit, onesWithin}
+use Rattle.boolean.specs.Sums.{sumBelow, one-if, countBelow, xorBelow, listFrom, listBelow, each, every, keep, largestBelow, distinct, firstOf}
+use Rattle.boolean.specs.Functions.{agreement, approximation, spectrum, distance, autocorrelation, changes, coefficient, degree, column}
+use Rattle.boolean.specs.Functions.{component, components, sign, transform, signBit, inverse, isSpectrum, swapped}
+use Rattle.boolean.specs.Selection.{best, firstLeast, firstLargest}
+use Rattle.refusals.specs.Table.{first, limitChecks, tableCallChecks}
+use Rattle.walsh.specs.Calls.{inverseLengths, functionCheck, inverseChecks}
+use Rattle.linear.specs.Nonlinearity.{pairsOf, pairs, nonlinearity}
+use Rattle.columns.specs.Addition.{addedRow, addedRows, additionChecks}
+use Rattle.rounds.specs.Round.{inputsOf, sumAt, sumRows, masksOfInputs, joined, sumPairsOf, sumPairs, sumNonlinearity, sumChecks}
+use Rattle.swaps.specs.Swaps.{swapAt, swapsFrom, swapsBy, swaps, raises, raised}
+use Rattle.differential.specs.XorTable.{difference, cell, cellsOf, cells, largestCell}
+use Rattle.differential.specs.Calls.{rowChecks}
+use Rattle.avalanche.specs.Avalanche.{shifts, atMost, measured, boxAutocorrelation, imbalance, dynamicDistance, complete}
+use Rattle.avalanche.specs.Calls.{distanceChecks}
+use Rattle.algebraic.specs.Algebraic.{degrees, boxDegree}
+use Rattle.constructions.specs.Enlargement.{enlarged, enlargedTable, enlargedRows}
+use Rattle.constructions.specs.BentForm.{bentForm, bentTable, isPermutation}
+use Rattle.constructions.specs.Calls.{columnChecks, enlargeChecks, bentChecks}
+use Rattle.design.specs.Model as design
+use Rattle.server.specs.Model as server
+use Rattle.claims.specs.Outcomes.{Case, says, _is_, Right}
+use Rattle.claims.specs.Worked.{cases, bounds, laterBounds, lengthBounds, workedTable}
+use Rattle.claims.proofs.Lengths.{zeros-taken, zeros-too-few, zeros-too-many}
+
+-- two tables, one after the other
+joined-right : (lines rest : List Case) → Right lines → Right rest → Right (lines ++ rest)
+joined-right [] rest p q = q
+joined-right ((asked is printed) ∷ lines) rest p q = (p .0, joined-right lines rest (p .1) q)
+
+cases-right : Right cases
+unfolding parity dot affine bit onesWithin ones onesIn sumBelow one-if countBelow xorBelow listFrom listBelow each every keep largestBelow distinct agreement approximation spectrum distance autocorrelation changes coefficient degree column component components sign transform signBit inverse isSpectrum swapped best firstLeast firstLargest first limitChecks tableCallChecks inverseLengths functionCheck inverseChecks pairsOf pairs nonlinearity difference cell cellsOf cells largestCell rowChecks shifts atMost measured boxAutocorrelation imbalance dynamicDistance complete distanceChecks degrees boxDegree enlarged enlargedTable enlargedRows bentForm bentTable isPermutation columnChecks enlargeChecks bentChecks addedRow addedRows additionChecks
+cases-right =
+    (refl, (refl, (refl, (refl, (refl, (refl, (refl, (refl, (refl, (refl, (refl, (refl, (refl, (refl, (refl, (refl, (refl, (refl, (refl, (refl, tt))))))))))))))))))))
+
+bounds-right : Right bounds
+unfolding parity dot affine bit onesWithin ones onesIn sumBelow one-if countBelow xorBelow listFrom listBelow each every keep largestBelow distinct agreement approximation spectrum distance autocorrelation changes coefficient degree column component components sign transform signBit inverse isSpectrum swapped best firstLeast firstLargest first limitChecks tableCallChecks inverseLengths functionCheck inverseChecks pairsOf pairs nonlinearity difference cell cellsOf cells largestCell rowChecks shifts atMost measured boxAutocorrelation imbalance dynamicDistance complete distanceChecks degrees boxDegree enlarged enlargedTable enlargedRows bentForm bentTable isPermutation columnChecks enlargeChecks bentChecks addedRow addedRows additionChecks
+bounds-right =
+    (refl, (refl, (refl, (refl, (refl, (refl, (refl, (refl, (refl, (refl, (refl, (refl, (refl, (refl, (refl, (refl, (refl, (refl, (refl, (refl, (refl, (refl, (refl, (refl, (refl, (refl, (refl, (refl, (refl, (refl, (refl, (refl, (refl, (refl, (refl, (refl, (refl, (refl, (refl, (refl, (refl, (refl, (refl, (refl, (refl, (refl, (refl, (refl, (refl, (refl, (refl, (refl, (refl, (refl, (refl, (refl, (refl, (refl, (refl, (refl, (refl, (refl, (refl, tt)))))))))))))))))))))))))))))))))))))))))))))))))))))))))))))))
+
+later-right : Right laterBounds
+unfolding parity dot affine ones onesIn one-if countBelow listFrom listBelow each every keep distance component components swapped best firstLeast first pairsOf pairs nonlinearity inputsOf sumAt sumRows masksOfInputs joined sumPairsOf sumPairs sumNonlinearity sumChecks swapAt swapsFrom swapsBy swaps raises firstOf raised design.newDesign design.setMark design.markChecks design.returnChecks server.start server.put server.putChecks server.heldChecks server.analysisOf server.among server.examinedOf
+later-right =
+    (refl, (refl, (refl, (refl, (refl, (refl, (refl, (refl, (refl, (refl, (refl, (refl, (refl, (refl, (refl, (refl, (refl, (refl, (refl, (refl, (refl, (refl, (refl, (refl, (refl, (refl, (refl, (refl, (refl, (refl, tt))))))))))))))))))))))))))))))
+
+lengths-right : Right lengthBounds
+lengths-right =
+    let few = ap says (zeros-too-few 257 (omega arith)) in
+    let least = ap says (zeros-taken 258 (omega arith) (omega arith)) in
+    let most = ap says (zeros-taken 65535 (omega arith) (omega arith)) in
+    let many = ap says (zeros-too-many 65536 (omega arith)) in
+    (few, (least, (most, (many, tt))))
+
+pub table-right : Right workedTable
+table-right =
+    joined-right cases (bounds ++ (laterBounds ++ lengthBounds)) cases-right
+    (joined-right bounds (laterBounds ++ lengthBounds) bounds-right (joined-right laterBounds lengthBounds later-right lengths-right))

@@ -1,0 +1,229 @@
+-- Document 01's proved cases, with the limits and the later calls of document 02: a table. The theorem over it is `worked` (proofs/Worked).
+use Prim.Native.Nat.{ℕ, _^_}
+use mathlib.Core.List.{List, [], _∷_, _++_}
+use lib.IntN.{pos, negsuc}
+use lib.ListN.{drop, replicate}
+use Rattle.boolean.specs.Sums.{listBelow}
+use Rattle.refusals.specs.Table.{figures, refusal}
+use Rattle.rounds.specs.Round.{Summand}
+use Rattle.design.specs.Model as design
+use Rattle.server.specs.Model as server
+use Rattle.claims.specs.Outcomes.{Case, says, holds, holdsSigned, _is_}
+use Rattle.claims.specs.Outcomes.{nonlinearityOf, autocorrelationOf, degreeOutcome}
+use Rattle.claims.specs.Outcomes.{distanceOutcome, cellOutcome, rowReply, completeOf}
+use Rattle.claims.specs.Outcomes.{spectrumOf, inverseReply, inverseOf, columnOf, columnReply, enlargedBoxOf, boxReply, bentOf}
+use Rattle.claims.specs.Outcomes.{additionReply, additionOf, sumOf, raisingOf, checkOf}
+use Rattle.claims.specs.Outcomes.{markReply, returnReply, putReply, withdrawReply}
+
+-- what stands in an array before a call
+abbrev pub sixteen : List ℕ
+sixteen = 9 ∷ 9 ∷ 9 ∷ 9 ∷ 9 ∷ 9 ∷ 9 ∷ 9 ∷ 9 ∷ 9 ∷ 9 ∷ 9 ∷ 9 ∷ 9 ∷ 9 ∷ 9 ∷ []
+
+-- the boxes and functions of cases 8, 9 and 10
+abbrev pub case8 : List ℕ
+case8 = 1 ∷ 1 ∷ 0 ∷ 0 ∷ 0 ∷ 1 ∷ 0 ∷ 1 ∷ []
+
+abbrev pub case9Rows : List ℕ
+case9Rows = 3 ∷ 1 ∷ 4 ∷ 0 ∷ 2 ∷ 5 ∷ 6 ∷ 7 ∷ []
+
+abbrev pub case9Table : List ℕ
+case9Table = 1 ∷ 0 ∷ 0 ∷ 0 ∷ 1 ∷ 1 ∷ 0 ∷ 1 ∷ []
+
+abbrev pub case9 : List ℕ
+case9 = 11 ∷ 1 ∷ 4 ∷ 0 ∷ 10 ∷ 13 ∷ 6 ∷ 15 ∷ 9 ∷ 3 ∷ 8 ∷ 12 ∷ 5 ∷ 2 ∷ 7 ∷ 14 ∷ []
+
+abbrev pub case10 : List ℕ
+case10 = 0 ∷ 0 ∷ 0 ∷ 0 ∷ 0 ∷ 1 ∷ 0 ∷ 1 ∷ 0 ∷ 0 ∷ 1 ∷ 1 ∷ 0 ∷ 1 ∷ 1 ∷ 0 ∷ []
+
+abbrev pub cases : List Case
+cases =
+    -- 1
+    (nonlinearityOf 1 1 (0 ∷ 1 ∷ []) 1 is says (figures (0 ∷ 1 ∷ 1 ∷ 0 ∷ [])))
+    ∷ (distanceOutcome 1 1 (0 ∷ 1 ∷ []) 1 1 is says (figures (1 ∷ 1 ∷ 1 ∷ [])))
+    ∷ (degreeOutcome 1 1 (0 ∷ 1 ∷ []) 1 is says (figures (1 ∷ 1 ∷ [])))
+    -- 2
+    ∷ (nonlinearityOf 1 1 (0 ∷ 0 ∷ []) 1 is says (figures (0 ∷ 1 ∷ 0 ∷ 0 ∷ [])))
+    ∷ (degreeOutcome 1 1 (0 ∷ 0 ∷ []) 1 is says (figures (0 ∷ 1 ∷ [])))
+    -- 3
+    ∷ (spectrumOf 2 (0 ∷ 0 ∷ 0 ∷ 1 ∷ []) (pos 0 ∷ pos 0 ∷ pos 0 ∷ pos 0 ∷ [])
+    is holdsSigned (pos 1 ∷ pos 1 ∷ pos 1 ∷ negsuc 0 ∷ []))
+    ∷ (nonlinearityOf 2 1 (0 ∷ 0 ∷ 0 ∷ 1 ∷ []) 1 is says (figures (1 ∷ 1 ∷ 0 ∷ 0 ∷ [])))
+    ∷ (distanceOutcome 2 1 (0 ∷ 0 ∷ 0 ∷ 1 ∷ []) 1 2 is says (figures (0 ∷ 1 ∷ 1 ∷ [])))
+    -- 4
+    ∷ (inverseOf 2 (pos 1 ∷ pos 1 ∷ pos 1 ∷ negsuc 0 ∷ []) (9 ∷ 9 ∷ 9 ∷ 9 ∷ []) is holds (0 ∷ 0 ∷ 0 ∷ 1 ∷ []))
+    -- 5
+    ∷ (inverseReply 2 (pos 1 ∷ pos 1 ∷ pos 1 ∷ pos 1 ∷ []) (9 ∷ 9 ∷ 9 ∷ 9 ∷ []) is says (refusal 8))
+    ∷ (inverseOf 2 (pos 1 ∷ pos 1 ∷ pos 1 ∷ pos 1 ∷ []) (9 ∷ 9 ∷ 9 ∷ 9 ∷ []) is holds (9 ∷ 9 ∷ 9 ∷ 9 ∷ []))
+    -- 6
+    ∷ (inverseReply 1 (pos 0 ∷ pos 0 ∷ []) (9 ∷ 9 ∷ []) is says (refusal 8))
+    -- 7
+    ∷ (nonlinearityOf 2 2 (0 ∷ 1 ∷ 2 ∷ 3 ∷ []) 2 is says (figures (0 ∷ 1 ∷ 1 ∷ 0 ∷ [])))
+    ∷ (cellOutcome 2 2 (0 ∷ 1 ∷ 2 ∷ 3 ∷ []) is says (figures (4 ∷ 1 ∷ 1 ∷ [])))
+    ∷ (autocorrelationOf 2 2 (0 ∷ 1 ∷ 2 ∷ 3 ∷ []) 2 is says (figures (4 ∷ 1 ∷ 1 ∷ [])))
+    -- 8: the upper half
+    ∷ (holds (drop 8 (columnOf 3 case8 1 1 sixteen)) is holds (0 ∷ 0 ∷ 1 ∷ 1 ∷ 0 ∷ 1 ∷ 0 ∷ 1 ∷ []))
+    -- 9
+    ∷ (holds (enlargedBoxOf 3 case9Rows case9Table 1 sixteen) is holds case9)
+    ∷ (nonlinearityOf 4 4 case9 4 is says (figures (0 ∷ 12 ∷ 1 ∷ 1 ∷ [])))
+    -- 10
+    ∷ (holds (bentOf 4 (0 ∷ 1 ∷ 2 ∷ 3 ∷ []) (0 ∷ 0 ∷ 0 ∷ 0 ∷ []) sixteen) is holds case10)
+    ∷ (nonlinearityOf 4 1 case10 1 is says (figures (6 ∷ 1 ∷ 0 ∷ 0 ∷ [])))
+    ∷ []
+
+-- a truth table of n inputs that is 0 everywhere, and the rows 0, 1, .., 2^n − 1
+abbrev pub zeros : ℕ → List ℕ
+zeros n = listBelow (2 ^ n) (λ x. 0)
+
+abbrev pub identity : ℕ → List ℕ
+identity n = listBelow (2 ^ n) (λ x. x)
+
+-- each bound of document 01 from both sides, as document 02 has it
+abbrev pub bounds : List Case
+bounds =
+    -- the widths, and which number comes first
+    (nonlinearityOf 0 1 (0 ∷ []) 1 is says (refusal 1))
+    ∷ (nonlinearityOf 9 33 [] 0 is says (refusal 1))
+    ∷ (nonlinearityOf 8 0 [] 0 is says (refusal 2))
+    ∷ (nonlinearityOf 8 33 [] 0 is says (refusal 2))
+    ∷ (nonlinearityOf 8 32 [] 0 is says (refusal 3))
+    ∷ (completeOf 1 17 (0 ∷ 131071 ∷ []) is says (figures (1 ∷ [])))
+    ∷ (completeOf 1 32 (0 ∷ 4294967295 ∷ []) is says (figures (1 ∷ [])))
+    ∷ (completeOf 1 33 (0 ∷ 4294967295 ∷ []) is says (refusal 2))
+    -- a row of the XOR table is given up to 16 outputs
+    ∷ (rowReply 1 16 (0 ∷ 65535 ∷ []) 1 65536 is says (figures []))
+    ∷ (rowReply 1 17 (0 ∷ 65535 ∷ []) 1 131072 is says (refusal 2))
+    -- the rows, and then the limit
+    ∷ (nonlinearityOf 1 3 (7 ∷ 7 ∷ []) 3 is says (figures (0 ∷ 1 ∷ 0 ∷ 1 ∷ [])))
+    ∷ (nonlinearityOf 1 3 (7 ∷ 8 ∷ []) 3 is says (refusal 4))
+    ∷ (nonlinearityOf 1 3 (7 ∷ 8 ∷ []) 0 is says (refusal 4))
+    ∷ (nonlinearityOf 1 3 (7 ∷ 7 ∷ []) 0 is says (refusal 6))
+    ∷ (nonlinearityOf 1 3 (7 ∷ 7 ∷ []) 1 is says (figures (0 ∷ 1 ∷ 0 ∷ 1 ∷ [])))
+    ∷ (nonlinearityOf 1 3 (7 ∷ 7 ∷ []) 4 is says (refusal 6))
+    ∷ (nonlinearityOf 1 32 (0 ∷ 4294967295 ∷ []) 33 is says (refusal 6))
+    ∷ (autocorrelationOf 1 3 (7 ∷ 7 ∷ []) 0 is says (refusal 6))
+    ∷ (autocorrelationOf 1 3 (7 ∷ 7 ∷ []) 3 is says (figures (2 ∷ 1 ∷ 1 ∷ [])))
+    ∷ (autocorrelationOf 1 3 (7 ∷ 7 ∷ []) 4 is says (refusal 6))
+    ∷ (degreeOutcome 1 3 (7 ∷ 7 ∷ []) 0 is says (refusal 6))
+    ∷ (degreeOutcome 1 3 (7 ∷ 7 ∷ []) 3 is says (figures (0 ∷ 1 ∷ [])))
+    ∷ (degreeOutcome 1 3 (7 ∷ 7 ∷ []) 4 is says (refusal 6))
+    -- both numbers of an order, of a box with one output and two inputs
+    ∷ (distanceOutcome 1 1 (0 ∷ 1 ∷ []) 2 1 is says (refusal 6))
+    ∷ (distanceOutcome 2 1 (0 ∷ 0 ∷ 0 ∷ 1 ∷ []) 0 1 is says (refusal 6))
+    ∷ (distanceOutcome 2 1 (0 ∷ 0 ∷ 0 ∷ 1 ∷ []) 1 0 is says (refusal 6))
+    ∷ (distanceOutcome 2 1 (0 ∷ 0 ∷ 0 ∷ 1 ∷ []) 1 1 is says (figures (0 ∷ 1 ∷ 1 ∷ [])))
+    ∷ (distanceOutcome 2 1 (0 ∷ 0 ∷ 0 ∷ 1 ∷ []) 1 2 is says (figures (0 ∷ 1 ∷ 1 ∷ [])))
+    ∷ (distanceOutcome 2 1 (0 ∷ 0 ∷ 0 ∷ 1 ∷ []) 1 3 is says (refusal 6))
+    -- no output of this box is affine, and the combination of both is: the limit 1 leaves it out
+    ∷ (nonlinearityOf 2 2 (0 ∷ 2 ∷ 0 ∷ 1 ∷ []) 1 is says (figures (1 ∷ 1 ∷ 0 ∷ 0 ∷ [])))
+    ∷ (nonlinearityOf 2 2 (0 ∷ 2 ∷ 0 ∷ 1 ∷ []) 2 is says (figures (0 ∷ 3 ∷ 1 ∷ 0 ∷ [])))
+    -- so is the combination of all three outputs of this one, which the limit 2 leaves out
+    ∷ (nonlinearityOf 3 3 case9Rows 2 is says (figures (2 ∷ 1 ∷ 1 ∷ 0 ∷ [])))
+    ∷ (nonlinearityOf 3 3 case9Rows 3 is says (figures (0 ∷ 7 ∷ 7 ∷ 0 ∷ [])))
+    ∷ (degreeOutcome 3 3 case9Rows 2 is says (figures (2 ∷ 1 ∷ [])))
+    ∷ (degreeOutcome 3 3 case9Rows 3 is says (figures (1 ∷ 7 ∷ [])))
+    -- fewest outputs first: column 3 of this box is affine, and so are columns 1 and 2 together; c = 4 is preferred to c = 3
+    ∷ (nonlinearityOf 2 3 (0 ∷ 2 ∷ 4 ∷ 5 ∷ []) 3 is says (figures (0 ∷ 4 ∷ 2 ∷ 0 ∷ [])))
+    ∷ (autocorrelationOf 2 3 (0 ∷ 2 ∷ 4 ∷ 5 ∷ []) 3 is says (figures (4 ∷ 4 ∷ 1 ∷ [])))
+    ∷ (distanceOutcome 2 3 (0 ∷ 2 ∷ 4 ∷ 5 ∷ []) 3 2 is says (figures (2 ∷ 4 ∷ 1 ∷ [])))
+    ∷ (degreeOutcome 2 3 (0 ∷ 2 ∷ 4 ∷ 5 ∷ []) 3 is says (figures (1 ∷ 4 ∷ [])))
+    -- a spectrum's doubled values are no function's
+    ∷ (inverseReply 2 (pos 2 ∷ pos 2 ∷ pos 2 ∷ negsuc 1 ∷ []) (9 ∷ 9 ∷ 9 ∷ 9 ∷ []) is says (refusal 8))
+    ∷ (inverseReply 1 (pos 1 ∷ pos 0 ∷ []) (9 ∷ 9 ∷ []) is says (figures []))
+    ∷ (inverseReply 1 (pos 2 ∷ pos 0 ∷ []) (9 ∷ 9 ∷ []) is says (refusal 8))
+    -- enlarging a column: the width, the input, the constant, and the written array
+    ∷ (columnReply 7 (zeros 7) 7 0 (zeros 8) is says (figures []))
+    ∷ (columnReply 8 (zeros 8) 7 0 (zeros 9) is says (refusal 1))
+    ∷ (columnReply 7 (zeros 7) 8 0 (zeros 8) is says (refusal 6))
+    ∷ (columnReply 3 case8 3 1 sixteen is says (figures []))
+    ∷ (columnReply 3 case8 4 1 sixteen is says (refusal 6))
+    ∷ (columnReply 3 case8 3 2 sixteen is says (refusal 6))
+    ∷ (columnReply 3 case8 3 1 case8 is says (refusal 7))
+    -- enlarging a box: the same, but for the constant
+    ∷ (boxReply 7 (identity 7) (zeros 7) 7 (zeros 8) is says (figures []))
+    ∷ (boxReply 8 (identity 8) (zeros 8) 7 (zeros 9) is says (refusal 1))
+    ∷ (boxReply 7 (identity 7) (zeros 7) 8 (zeros 8) is says (refusal 6))
+    ∷ (boxReply 3 case9Rows case9Table 3 sixteen is says (figures []))
+    ∷ (boxReply 3 case9Rows case9Table 4 sixteen is says (refusal 6))
+    ∷ (boxReply 3 case9Rows case9Table 3 case8 is says (refusal 7))
+    -- column addition: the column, the mask, the constant, and the written array
+    ∷ (additionReply 2 2 (0 ∷ 1 ∷ 2 ∷ 3 ∷ []) 0 3 1 (9 ∷ 9 ∷ 9 ∷ 9 ∷ []) is says (refusal 6))
+    ∷ (additionReply 2 2 (0 ∷ 1 ∷ 2 ∷ 3 ∷ []) 2 3 1 (9 ∷ 9 ∷ 9 ∷ 9 ∷ []) is says (figures []))
+    ∷ (additionOf 2 2 (0 ∷ 1 ∷ 2 ∷ 3 ∷ []) 2 3 1 (9 ∷ 9 ∷ 9 ∷ 9 ∷ []) is holds (2 ∷ 1 ∷ 2 ∷ 1 ∷ []))
+    ∷ (additionReply 2 2 (0 ∷ 1 ∷ 2 ∷ 3 ∷ []) 3 3 1 (9 ∷ 9 ∷ 9 ∷ 9 ∷ []) is says (refusal 6))
+    ∷ (additionOf 2 2 (0 ∷ 1 ∷ 2 ∷ 3 ∷ []) 3 3 1 (9 ∷ 9 ∷ 9 ∷ 9 ∷ []) is holds (9 ∷ 9 ∷ 9 ∷ 9 ∷ []))
+    ∷ (additionReply 2 2 (0 ∷ 1 ∷ 2 ∷ 3 ∷ []) 2 4 1 (9 ∷ 9 ∷ 9 ∷ 9 ∷ []) is says (refusal 6))
+    ∷ (additionReply 2 2 (0 ∷ 1 ∷ 2 ∷ 3 ∷ []) 2 3 2 (9 ∷ 9 ∷ 9 ∷ 9 ∷ []) is says (refusal 6))
+    ∷ (additionReply 2 2 (0 ∷ 1 ∷ 2 ∷ 3 ∷ []) 2 3 1 (9 ∷ 9 ∷ 9 ∷ []) is says (refusal 7))
+    ∷ []
+
+-- ---- the bounds of document 02's own calls
+-- boxes of a sum: one input bit as one output, one input bit as two outputs, and the AND of two input bits
+abbrev pub oneBit : Summand
+oneBit = record { inputs = 1; outputs = 1; rows = 0 ∷ 1 ∷ [] }
+
+abbrev pub twoOutputs : Summand
+twoOutputs = record { inputs = 1; outputs = 2; rows = 0 ∷ 3 ∷ [] }
+
+abbrev pub conjunction : Summand
+conjunction = record { inputs = 2; outputs = 1; rows = 0 ∷ 0 ∷ 0 ∷ 1 ∷ [] }
+
+abbrev pub fourBits : List Summand
+fourBits = oneBit ∷ oneBit ∷ oneBit ∷ oneBit ∷ []
+
+-- a design whose mark 16 was set, and a server with a box on place 8
+abbrev pub markedDesign : design.DesignState
+markedDesign = design.setMark (design.newDesign 1 1 (0 ∷ 1 ∷ [])) 16
+
+abbrev pub servedServer : server.ServerState
+servedServer = server.put server.start 8 1 1 (0 ∷ 1 ∷ [])
+
+abbrev pub laterBounds : List Case
+laterBounds =
+    -- one to four boxes are added; then their output widths, and then the limit
+    (sumOf 0 fourBits 1 is says (refusal 11))
+    ∷ (sumOf 1 fourBits 1 is says (figures (0 ∷ 1 ∷ 1 ∷ 0 ∷ [])))
+    ∷ (sumOf 4 fourBits 1 is says (figures (0 ∷ 1 ∷ 1 ∷ 1 ∷ 1 ∷ 1 ∷ 0 ∷ [])))
+    ∷ (sumOf 5 fourBits 1 is says (refusal 11))
+    ∷ (sumOf 2 (conjunction ∷ conjunction ∷ oneBit ∷ oneBit ∷ []) 1 is says (figures (6 ∷ 1 ∷ 0 ∷ 0 ∷ 0 ∷ [])))
+    ∷ (sumOf 2 (oneBit ∷ twoOutputs ∷ oneBit ∷ oneBit ∷ []) 0 is says (refusal 12))
+    ∷ (sumOf 1 (oneBit ∷ twoOutputs ∷ oneBit ∷ oneBit ∷ []) 0 is says (refusal 6))
+    ∷ (sumOf 1 (oneBit ∷ twoOutputs ∷ oneBit ∷ oneBit ∷ []) 2 is says (refusal 6))
+    -- the raising swap: an affine function of three inputs is raised to 2, no swap raises one of two inputs, and eight outputs are taken
+    ∷ (raisingOf 3 1 (0 ∷ 0 ∷ 0 ∷ 0 ∷ 1 ∷ 1 ∷ 1 ∷ 1 ∷ []) is says (figures (1 ∷ 0 ∷ 4 ∷ 2 ∷ [])))
+    ∷ (raisingOf 2 1 (0 ∷ 0 ∷ 1 ∷ 1 ∷ []) is says (figures (0 ∷ 0 ∷ 0 ∷ 0 ∷ [])))
+    ∷ (raisingOf 1 8 (255 ∷ 255 ∷ []) is says (figures (0 ∷ 0 ∷ 0 ∷ 0 ∷ [])))
+    ∷ (raisingOf 1 9 (255 ∷ 255 ∷ []) is says (refusal 2))
+    -- marks 1 to 16; a mark that was never set
+    ∷ (markReply markedDesign 0 is says (refusal 6))
+    ∷ (markReply markedDesign 1 is says (figures []))
+    ∷ (markReply markedDesign 16 is says (figures []))
+    ∷ (markReply markedDesign 17 is says (refusal 6))
+    ∷ (returnReply markedDesign 0 is says (refusal 6))
+    ∷ (returnReply markedDesign 1 is says (refusal 17))
+    ∷ (returnReply markedDesign 16 is says (figures []))
+    ∷ (returnReply markedDesign 17 is says (refusal 6))
+    -- places 1 to 8, before the box's checks, and whether a place is taken; at most sixteen outputs
+    ∷ (putReply servedServer 0 0 0 [] is says (refusal 18))
+    ∷ (putReply servedServer 1 1 16 (0 ∷ 65535 ∷ []) is says (figures []))
+    ∷ (putReply servedServer 1 1 17 (0 ∷ 65535 ∷ []) is says (refusal 2))
+    ∷ (putReply server.start 8 1 1 (0 ∷ 1 ∷ []) is says (figures []))
+    ∷ (putReply servedServer 8 0 0 [] is says (refusal 19))
+    ∷ (putReply servedServer 9 0 0 [] is says (refusal 18))
+    ∷ (withdrawReply servedServer 0 is says (refusal 18))
+    ∷ (withdrawReply servedServer 1 is says (refusal 19))
+    ∷ (withdrawReply servedServer 8 is says (figures []))
+    ∷ (withdrawReply servedServer 9 is says (refusal 18))
+    ∷ []
+
+-- a catalogue has 258 to 65,535 bytes; zeros are an empty one
+abbrev pub lengthBounds : List Case
+lengthBounds =
+    (checkOf (replicate 257 0) is says (refusal 13))
+    ∷ (checkOf (replicate 258 0) is says (figures (0 ∷ [])))
+    ∷ (checkOf (replicate 65535 0) is says (figures (0 ∷ [])))
+    ∷ (checkOf (replicate 65536 0) is says (refusal 13))
+    ∷ []
+
+-- the table
+abbrev pub workedTable : List Case
+workedTable = cases ++ (bounds ++ (laterBounds ++ lengthBounds))

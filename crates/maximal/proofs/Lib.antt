@@ -1,2 +1,0 @@
-pub mod Evenly
-pub mod Theorems
