@@ -1,5 +1,4 @@
-//! Says where the libraries lie, which the shared files library.rs and library_server.rs name, and
-//! compiles the C peers of peers/ with gcc. Keeps what compiled them all, for the table.
+//! Compiles the C peers of peers/ with gcc. Keeps what compiled them and the others, for the table.
 use std::env;
 use std::fs;
 use std::path::{Path, PathBuf};
@@ -10,15 +9,6 @@ const FLAGS: [&str; 8] = ["-std=c11", "-O3", "-march=x86-64", "-falign-functions
 
 fn main() -> ExitCode {
     let package = PathBuf::from(env::var("CARGO_MANIFEST_DIR").expect("cargo sets this"));
-    let libraries = match env::var("SATMEGWO_STATICLIB") {
-        Ok(given) => PathBuf::from(given),
-        Err(_) => package.join("../target/staticlib"),
-    };
-    println!("cargo:rustc-link-search=native={}", libraries.display());
-    for library in ["libsatmegwo.a", "libsatmegwo_server.a"] {
-        println!("cargo:rerun-if-changed={}", libraries.join(library).display());
-    }
-    println!("cargo:rerun-if-env-changed=SATMEGWO_STATICLIB");
     println!("cargo:rustc-env=LIBRARY_COMPILER={}", version("rt", "version"));
     println!("cargo:rustc-env=SECOND_COMPILER={}", version(&env::var("RUSTC").expect("cargo sets this"), "--version"));
     println!("cargo:rustc-env=PEER_COMPILER={}", version("gcc", "--version"));

@@ -17,7 +17,7 @@
 static satmegwo_design design;
 
 /* Takes over the design of an operation, and says its number where it was refused. */
-static uint32_t take(const char *step, satmegwo_outcome outcome)
+static uint32_t take(const char *step, satmegwo_design_outcome outcome)
 {
     design = outcome.design;
     if (outcome.status != 0)

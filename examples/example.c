@@ -7,37 +7,53 @@
  */
 #include <stdint.h>
 #include <stdio.h>
+#include "common.h"
 #include "satmegwo.h"
 
 /* The nonlinearity over the combinations of at most i outputs. */
 static int print_nonlinearity(const uint32_t *rows, uint32_t i)
 {
-    uint32_t figures[4];
-    uint32_t refusal = satmegwo_nonlinearity(3, 3, rows, 8, i, figures, 4);
-
-    if (refusal != 0) {
-        printf("refused %u\n", (unsigned)refusal);
-        return 1;
-    }
+    uint32_t f[4];
+    uint32_t number = satmegwo_nonlinearity(3, 3, rows, 8, i, f, 4);
+    if (number != 0)
+        return refused("nonlinearity", number);
     printf("nonlinearity %u with at most %u outputs: combination %u against w = %u, b = %u\n",
-           (unsigned)figures[0], (unsigned)i, (unsigned)figures[1], (unsigned)figures[2], (unsigned)figures[3]);
+           (unsigned)f[0], (unsigned)i, (unsigned)f[1], (unsigned)f[2], (unsigned)f[3]);
     return 0;
 }
 
-/* The box and a second one with two inputs, added together: a box of five inputs. The two
- * boxes that are not read are empty. */
+/* Three figures are written here, so three elements are lent. */
+static int print_largest_cell(const uint32_t *rows)
+{
+    uint32_t f[3];
+    uint32_t number = satmegwo_largest_cell(3, 3, rows, 8, f, 3);
+    if (number != 0)
+        return refused("largest cell", number);
+    printf("largest XOR cell %u: a = %u, beta = %u\n", (unsigned)f[0], (unsigned)f[1], (unsigned)f[2]);
+    return 0;
+}
+
+static int print_degree(const uint32_t *rows)
+{
+    uint32_t f[2];
+    uint32_t number = satmegwo_degree(3, 3, rows, 8, 3, f, 2);
+    if (number != 0)
+        return refused("degree", number);
+    printf("degree %u: combination %u\n", (unsigned)f[0], (unsigned)f[1]);
+    return 0;
+}
+
+/* The box and a second one with two inputs, added together: a box of five inputs. */
 static int print_sum(const uint32_t *rows)
 {
     const uint32_t second[4] = {0, 5, 3, 6};
-    uint32_t figures[5];
-    uint32_t refusal = satmegwo_sum_nonlinearity(2, 3, 3, rows, 8, 2, 3, second, 4, 0, 0, rows, 0, 0, 0, rows, 0, 1, figures, 5);
-
-    if (refusal != 0) {
-        printf("refused %u\n", (unsigned)refusal);
-        return 1;
-    }
+    const satmegwo_box boxes[2] = {{3, 3, rows, 8}, {2, 3, second, 4}};
+    uint32_t f[5];
+    uint32_t number = satmegwo_sum_of_boxes(boxes, 2, 1, f, 5);
+    if (number != 0)
+        return refused("sum", number);
     printf("sum of two boxes %u with at most 1 output: combination %u against w = %u and %u, b = %u\n",
-           (unsigned)figures[0], (unsigned)figures[1], (unsigned)figures[2], (unsigned)figures[3], (unsigned)figures[4]);
+           (unsigned)f[0], (unsigned)f[1], (unsigned)f[2], (unsigned)f[3], (unsigned)f[4]);
     return 0;
 }
 
@@ -45,33 +61,16 @@ int main(void)
 {
     const uint32_t rows[8] = {3, 1, 4, 0, 2, 5, 6, 7};
     uint32_t figures[4];
-    uint32_t refusal;
 
     /* All three outputs together are affine; no two of them are. */
     if (print_nonlinearity(rows, 3) != 0 || print_nonlinearity(rows, 2) != 0)
         return 1;
-
-    /* Three figures are written here, so three elements are lent. */
-    refusal = satmegwo_largest_cell(3, 3, rows, 8, figures, 3);
-    if (refusal != 0) {
-        printf("refused %u\n", (unsigned)refusal);
-        return 1;
-    }
-    printf("largest XOR cell %u: a = %u, beta = %u\n",
-           (unsigned)figures[0], (unsigned)figures[1], (unsigned)figures[2]);
-
-    refusal = satmegwo_degree(3, 3, rows, 8, 3, figures, 2);
-    if (refusal != 0) {
-        printf("refused %u\n", (unsigned)refusal);
-        return 1;
-    }
-    printf("degree %u: combination %u\n", (unsigned)figures[0], (unsigned)figures[1]);
-
-    if (print_sum(rows) != 0)
+    if (print_largest_cell(rows) != 0 || print_degree(rows) != 0 || print_sum(rows) != 0)
         return 1;
 
     /* With two outputs the first row that is not below 4 stops the call. */
-    refusal = satmegwo_nonlinearity(3, 2, rows, 8, 2, figures, 4);
-    printf("with m = 2: refused %u, a row is not below 2^m\n", (unsigned)refusal);
+    if (satmegwo_nonlinearity(3, 2, rows, 8, 2, figures, 4) != SATMEGWO_REFUSED_VALUE)
+        return 1;
+    printf("with m = 2: refused %u, a row is not below 2^m\n", (unsigned)SATMEGWO_REFUSED_VALUE);
     return 0;
 }

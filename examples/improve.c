@@ -9,16 +9,8 @@
  */
 #include <stdint.h>
 #include <stdio.h>
+#include "common.h"
 #include "satmegwo.h"
-
-#define MOST_ROWS 256
-#define MOST_FILE (2 + 4 * MOST_ROWS)
-
-static int refused(uint32_t number)
-{
-    printf("refused %u\n", (unsigned)number);
-    return 1;
-}
 
 static void swap(uint32_t *rows, uint32_t low, uint32_t high)
 {
@@ -29,27 +21,28 @@ static void swap(uint32_t *rows, uint32_t low, uint32_t high)
 
 int main(void)
 {
-    uint8_t file[MOST_FILE + 1];
-    uint32_t rows[MOST_ROWS], widths[2], pair[4], step[4];
-    size_t length = fread(file, 1, sizeof file, stdin);
-    size_t count = length > 0 && file[0] <= 8 ? (size_t)1 << file[0] : 0;
-    uint32_t number = satmegwo_read_box(file, length, rows, count, widths, 2);
+    struct file file = read_file(stdin);
+    struct box box;
+    uint32_t least[4], step[4];
+    uint32_t number = box_of(&file, &box);
     if (number != 0)
-        return refused(number);
+        return refused("box", number);
 
-    uint32_t n = widths[0], m = widths[1];
-    number = satmegwo_nonlinearity(n, m, rows, count, m, pair, 4);
+    /* The swap comes first: it refuses a box of more than eight outputs at once, whose
+     * nonlinearity over all combinations may take half an hour. */
+    number = satmegwo_raising_swap(box.n, box.m, box.rows, box.size, step, 4);
     if (number != 0)
-        return refused(number);
-    printf("nonlinearity %u\n", (unsigned)pair[0]);
-    for (;;) {
-        number = satmegwo_raising_swap(n, m, rows, count, step, 4);
-        if (number != 0)
-            return refused(number);
-        if (step[0] == 0)
-            break;
-        swap(rows, step[1], step[2]);
+        return refused("raising swap", number);
+    number = satmegwo_nonlinearity(box.n, box.m, box.rows, box.size, box.m, least, 4);
+    if (number != 0)
+        return refused("nonlinearity", number);
+    printf("nonlinearity %u\n", (unsigned)least[0]);
+    while (step[0] != 0) {
+        swap(box.rows, step[1], step[2]);
         printf("swap %u %u, nonlinearity %u\n", (unsigned)step[1], (unsigned)step[2], (unsigned)step[3]);
+        number = satmegwo_raising_swap(box.n, box.m, box.rows, box.size, step, 4);
+        if (number != 0)
+            return refused("raising swap", number);
     }
     printf("no swap raises it\n");
     return 0;

@@ -10,17 +10,8 @@
 #include <stdint.h>
 #include <stdio.h>
 #include <string.h>
+#include "common.h"
 #include "satmegwo.h"
-
-#define MOST_ROWS 256
-#define MOST_FILE (2 + 4 * MOST_ROWS)
-#define MOST_PACKED 1024
-
-static int refused(uint32_t number)
-{
-    printf("refused %u\n", (unsigned)number);
-    return 1;
-}
 
 /* The bytes of column j, of which there are `size`. */
 static void print_column(const uint8_t *packed, size_t size, uint32_t j)
@@ -33,24 +24,24 @@ static void print_column(const uint8_t *packed, size_t size, uint32_t j)
 
 int main(void)
 {
-    uint8_t file[MOST_FILE + 1], packed[MOST_PACKED];
-    uint32_t rows[MOST_ROWS], back[MOST_ROWS], widths[2];
-    size_t length = fread(file, 1, sizeof file, stdin);
-    size_t count = length > 0 && file[0] <= 8 ? (size_t)1 << file[0] : 0;
-    uint32_t number = satmegwo_read_box(file, length, rows, count, widths, 2);
+    struct file file = read_file(stdin);
+    struct box box;
+    uint8_t packed[SATMEGWO_PACKED_BYTES];
+    uint32_t back[SATMEGWO_MOST_ROWS];
+    uint32_t number = box_of(&file, &box);
     if (number != 0)
-        return refused(number);
+        return refused("box", number);
 
-    size_t size = count < 8 ? 1 : count / 8;
-    number = satmegwo_pack_columns(widths[0], widths[1], rows, count, packed, widths[1] * size);
+    size_t column = box.size < 8 ? 1 : box.size / 8;
+    number = satmegwo_pack_columns(box.n, box.m, box.rows, box.size, packed, box.m * column);
     if (number != 0)
-        return refused(number);
-    number = satmegwo_unpack_columns(widths[0], widths[1], packed, widths[1] * size, back, count);
+        return refused("packing", number);
+    number = satmegwo_unpack_columns(box.n, box.m, packed, box.m * column, back, box.size);
     if (number != 0)
-        return refused(number);
-    if (memcmp(rows, back, count * sizeof rows[0]) != 0)
+        return refused("unpacking", number);
+    if (memcmp(box.rows, back, box.size * sizeof back[0]) != 0)
         return 1;
-    for (uint32_t j = 1; j <= widths[1]; j++)
-        print_column(packed, size, j);
+    for (uint32_t j = 1; j <= box.m; j++)
+        print_column(packed, column, j);
     return 0;
 }

@@ -10,34 +10,34 @@
  */
 #include <stdint.h>
 #include <stdio.h>
+#include "common.h"
 #include "satmegwo.h"
 #include "satmegwo_server.h"
 
-static struct satmegwo_server server;
+static satmegwo_server server;
 
 /* Puts the box of a file on a place. */
 static int put_file(uint32_t place, const char *name)
 {
-    uint8_t bytes[1027]; /* one byte more than the longest box file */
-    uint32_t rows[256], widths[2];
+    struct file file;
+    struct box box;
     FILE *input = fopen(name, "rb");
     if (input == NULL) {
         printf("%s: cannot be opened\n", name);
         return 1;
     }
-    size_t length = fread(bytes, 1, sizeof bytes, input);
+    file = read_file(input);
     fclose(input);
-    size_t size = length >= 2 && bytes[0] <= 8 ? (size_t)1 << bytes[0] : 0;
-    uint32_t number = satmegwo_read_box(bytes, length, rows, size, widths, 2);
+    uint32_t number = box_of(&file, &box);
     if (number == 0) {
-        struct satmegwo_server_outcome outcome = satmegwo_server_put(server, place, widths[0], widths[1], rows, size);
+        satmegwo_server_outcome outcome = satmegwo_server_put(server, place, box.n, box.m, box.rows, box.size);
         server = outcome.server;
         number = outcome.status;
     }
     if (number != 0)
         printf("put %s on place %u: refused %u\n", name, (unsigned)place, (unsigned)number);
     else
-        printf("put %s on place %u: %u by %u\n", name, (unsigned)place, (unsigned)widths[0], (unsigned)widths[1]);
+        printf("put %s on place %u: %u by %u\n", name, (unsigned)place, (unsigned)box.n, (unsigned)box.m);
     return 0;
 }
 

@@ -5,7 +5,9 @@
  *
  * No proof speaks of the machine's stack, so this is measured.
  */
-#define _GNU_SOURCE
+#ifndef _GNU_SOURCE
+#define _GNU_SOURCE /* for mmap without a file; C++ has it from the start */
+#endif
 #include <pthread.h>
 #include <stdint.h>
 #include <stdio.h>
@@ -23,19 +25,22 @@ struct measured { const char *name; uint32_t (*call)(void); };
 
 static uint32_t rows[256], narrow_rows[256], square_rows[256], half_rows[128], out_rows[256], figures[4], sum_figures[7], standing[5];
 static uint16_t counts[65536];
-static uint8_t table[256], out_table[256], permutation[16], file[1026], catalogue[65535];
+static uint8_t table[256], out_table[256], permutation[16], file[SATMEGWO_FILE_BYTES], catalogue[SATMEGWO_CATALOGUE_MOST];
 static int32_t values[256];
-static uint64_t list[32640];
-static uint8_t packed[1024];
+/* The nearest pairs of all combinations of at most two of 32 outputs: there are 528. */
+#define MOST_PAIRS (528u * SATMEGWO_PAIRS_OF_A_COMBINATION)
+static uint64_t list[SATMEGWO_MOST_CELLS], pairs[MOST_PAIRS], number_of_pairs[1];
+static uint8_t packed[SATMEGWO_PACKED_BYTES], text[SATMEGWO_SHEET_BYTES];
 
 static uint32_t spectrum(void) { return satmegwo_spectrum(8, table, 256, values, 256); }
 static uint32_t inverse(void) { return satmegwo_inverse_spectrum(8, values, 256, out_table, 256); }
 static uint32_t component(void) { return satmegwo_component_spectrum(8, 32, rows, 256, 4294967295u, values, 256); }
 static uint32_t nonlinearity(void) { return satmegwo_nonlinearity(8, 32, rows, 256, 2, figures, 4); }
+static uint32_t nearest_pairs(void) { return satmegwo_nearest_pairs(8, 32, rows, 256, 2, pairs, MOST_PAIRS, number_of_pairs, 1); }
 static uint32_t add_to_column(void) { return satmegwo_add_to_column(8, 32, rows, 256, 32, 255, 1, out_rows, 256); }
 static uint32_t xor_row(void) { return satmegwo_xor_row(8, 16, narrow_rows, 256, 255, counts, 65536); }
 static uint32_t largest_cell(void) { return satmegwo_largest_cell(8, 32, rows, 256, figures, 3); }
-static uint32_t largest_cells(void) { return satmegwo_largest_cells(8, 32, rows, 256, list, 32640, figures, 1); }
+static uint32_t largest_cells(void) { return satmegwo_largest_cells(8, 32, rows, 256, list, SATMEGWO_MOST_CELLS, figures, 1); }
 static uint32_t autocorrelation(void) { return satmegwo_autocorrelation(8, 32, rows, 256, 2, figures, 3); }
 static uint32_t distance(void) { return satmegwo_dynamic_distance(8, 32, rows, 256, 2, 8, figures, 3); }
 static uint32_t normal_form(void) { return satmegwo_normal_form(8, table, 256, out_table, 256); }
@@ -45,7 +50,11 @@ static uint32_t bijective(void) { return satmegwo_bijective(8, 8, square_rows, 2
 static uint32_t enlarge_column(void) { return satmegwo_enlarge_column(7, table, 128, 7, 1, out_table, 256); }
 static uint32_t enlarge_box(void) { return satmegwo_enlarge_box(7, half_rows, 128, table, 128, 7, out_rows, 256); }
 static uint32_t bent_function(void) { return satmegwo_bent_function(8, permutation, 16, table, 16, out_table, 256); }
+static uint32_t check_box(void) { return satmegwo_check_box(8, 32, rows, 256); }
+static uint32_t write_box(void) { return satmegwo_write_box(8, 32, rows, 256, file, 1026); }
 static uint32_t read_box(void) { return satmegwo_read_box(file, 1026, out_rows, 256, figures, 2); }
+static uint32_t sheet(void) { return satmegwo_sheet(file, 1026, text, 332, figures, 1); }
+static uint32_t version(void) { return satmegwo_version() == SATMEGWO_VERSION ? 0 : 1; }
 static uint32_t sum(void) { return satmegwo_sum_nonlinearity(4, 8, 32, rows, 256, 8, 32, rows, 256, 8, 32, rows, 256, 8, 32, rows, 256, 2, sum_figures, 7); }
 
 static uint32_t add_record(void) { return satmegwo_add_record(catalogue, 65535, file, 1026, figures, 1); }
@@ -59,10 +68,12 @@ static uint32_t unpack_columns(void) { return satmegwo_unpack_columns(8, 32, pac
 
 static const struct measured calls[] = {
     {"spectrum", spectrum}, {"inverse_spectrum", inverse}, {"component_spectrum", component}, {"nonlinearity", nonlinearity},
+    {"nearest_pairs", nearest_pairs},
     {"add_to_column", add_to_column}, {"xor_row", xor_row}, {"largest_cell", largest_cell}, {"largest_cells", largest_cells},
     {"autocorrelation", autocorrelation}, {"dynamic_distance", distance}, {"normal_form", normal_form}, {"degree", degree},
     {"complete", complete}, {"bijective", bijective}, {"enlarge_column", enlarge_column}, {"enlarge_box", enlarge_box},
-    {"bent_function", bent_function}, {"read_box", read_box}, {"sum_nonlinearity", sum},
+    {"bent_function", bent_function}, {"check_box", check_box}, {"write_box", write_box}, {"read_box", read_box}, {"sheet", sheet},
+    {"version", version}, {"sum_nonlinearity", sum},
     {"add_record", add_record}, {"add_record", add_record},
     {"check_catalogue", check_catalogue}, {"fetch_record", fetch_record}, {"remove_record", remove_record},
     {"compact_catalogue", compact_catalogue},
@@ -70,7 +81,7 @@ static const struct measured calls[] = {
     {"raising_swap", raising_swap},
 };
 
-static satmegwo_outcome now;
+static satmegwo_design_outcome now;
 
 static uint32_t design_begin(void) { return (now = satmegwo_design_begin(8, 32, rows, 256)).status; }
 static uint32_t design_mark(void) { return (now = satmegwo_design_mark(now.design, 16)).status; }
@@ -85,8 +96,8 @@ static const struct measured design_calls[] = {
 };
 
 /* The server's: a server by value is on the caller's stack, and counted here too. */
-static struct satmegwo_server server;
-static uint32_t kept(struct satmegwo_server_outcome outcome) { server = outcome.server; return outcome.status; }
+static satmegwo_server server;
+static uint32_t kept(satmegwo_server_outcome outcome) { server = outcome.server; return outcome.status; }
 static uint32_t server_begin(void) { server = satmegwo_server_begin(); return 0; }
 static uint32_t server_put(void) { return kept(satmegwo_server_put(server, 8, 8, 16, narrow_rows, 256)); }
 static uint32_t server_step(void) { server = satmegwo_server_step(server); return 0; }
@@ -149,11 +160,10 @@ static int within(uint8_t *stack, const struct measured *calls, size_t count, si
 
 int main(void)
 {
-    uint8_t *stack = mmap(NULL, SIZE, PROT_READ | PROT_WRITE, MAP_PRIVATE | MAP_ANONYMOUS, -1, 0);
-    if (stack == MAP_FAILED)
+    void *mapped = mmap(NULL, SIZE, PROT_READ | PROT_WRITE, MAP_PRIVATE | MAP_ANONYMOUS, -1, 0);
+    uint8_t *stack = (uint8_t *)mapped;
+    if (mapped == MAP_FAILED)
         return 1;
-    file[0] = 8;
-    file[1] = 32;
     for (uint32_t x = 0; x < 256; x++) {
         rows[x] = x * 2654435769u;
         narrow_rows[x] = rows[x] >> 16;

@@ -7,81 +7,102 @@
  *
  * A STEP examines one combination, not examined before, of the next unfinished box after
  * the place last served, in a circle, from place 1 at the start; with none unfinished it
- * does nothing. A box that is not withdrawn is finished within 8 x (2^m - 1) steps of being
- * put there, whatever is called for other places, and then has the figure and the witness
- * that satmegwo_nonlinearity gives with the limit m.
+ * does nothing. A box that is not withdrawn is finished within 8 x (2^m - 1) steps of
+ * being put there, whatever is called for other places, and then has the figure and the
+ * witness that satmegwo_nonlinearity gives with the limit m.
  *
  * A server that anything but these calls has made or changed may hold any bytes. No call
- * reads or writes outside of it, a refused call hands it back as it was, and it is soon done:
- * what has other widths than a box that may be put here is never unfinished, so that no box
- * is after 8 x 65,535 steps. But its figures need be those of no box.
+ * reads or writes outside of it, a refused call hands it back as it was, and it is soon
+ * done: what has other widths than a box that may be put here is never unfinished, so
+ * that no box is after 8 x 65,535 steps. But its figures need be those of no box.
  *
- * Refusals: 18 the place is not 1 to 8; then 19 it is taken (on putting) or empty (on asking
- * and withdrawing); then those of a box, where 2 means that m is not 1 to 16. A refused call
- * hands the server back as it was, every field of it, and writes to no array.
+ * Refusals: 18 the place is not 1 to 8; then 19 it is taken (on putting) or empty (on
+ * asking and withdrawing); then those of a box, where 2 means that m is not 1 to 16. A
+ * refused call hands the server back as it was, every field of it, and writes to no
+ * array.
+ *
+ * This is libsatmegwo_server.a, which can be linked beside libsatmegwo.a; libsatmegwo.so
+ * has these calls too. What satmegwo.h says of threads and arrays holds here.
  */
 #ifndef SATMEGWO_SERVER_H
 #define SATMEGWO_SERVER_H
-#include <stddef.h>
-#include <stdint.h>
+#include "satmegwo.h"
 
 #ifdef __cplusplus
 extern "C" {
 #endif
 
-/* A place: a box where `taken` is 1, and else none. Of the box it holds the widths and rows,
- * how many combinations were examined (1, 2, 3 and so on, as many as this says), and the
- * least count among exactly those with its first witness c, w, b. Before the first one was
- * examined `count` is 2^n + 1, which no pair has, and c, w and b are 0. The array has zeros
- * past the 2^n rows. A place with no box holds zeros in every field: nothing is left there
- * of a box that was withdrawn. */
-struct satmegwo_place {
-    uint32_t taken, n, m;
-    uint32_t rows[256];
-    uint32_t examined;
-    uint32_t count, c, w, b;
-};
-
-struct satmegwo_server {
-    struct satmegwo_place places[8];
-    uint32_t last; /* the place last served; 0 at the start */
-};
-
-/* The server after a call that may be refused, and 0 or the number of the refusal. */
-struct satmegwo_server_outcome {
-    struct satmegwo_server server;
-    uint32_t status;
-};
-
-/* STACK. Measured as for satmegwo.h (examples/stack.c): a call needs at most this many bytes,
- * among them the servers that the caller hands in and gets back by value. */
+/* STACK. Measured as for satmegwo.h (examples/stack.c): a call needs at most this many
+ * bytes, among them the servers that the caller hands in and gets back by value. */
 #define SATMEGWO_SERVER_STACK 60000u
 
+/* Places are numbered from 1 to this; a box on one has at most so many outputs. */
+#define SATMEGWO_SERVER_PLACES 8u
+#define SATMEGWO_SERVER_MOST_OUTPUTS 16u
+
+/* A place: a box where `taken` is 1, and else none. Of the box it holds the widths and
+ * rows, how many combinations were examined (1, 2, 3 and so on, as many as this says),
+ * and the least count among exactly those with its first witness c, w, b. Before the
+ * first one was examined `count` is 2^n + 1, which no pair has, and c, w and b are 0. The
+ * array has zeros past the 2^n rows. A place with no box holds zeros in every field:
+ * nothing is left there of a box that was withdrawn. */
+typedef struct satmegwo_server_place {
+    uint32_t taken;
+    uint32_t n;
+    uint32_t m;
+    uint32_t rows[SATMEGWO_MOST_ROWS];
+    uint32_t examined;
+    uint32_t count;
+    uint32_t c;
+    uint32_t w;
+    uint32_t b;
+} satmegwo_server_place;
+
+/* Place p is places[p - 1]; `last` is the place last served, and 0 at the start. The
+ * fields may be read. */
+typedef struct satmegwo_server {
+    satmegwo_server_place places[SATMEGWO_SERVER_PLACES];
+    uint32_t last;
+} satmegwo_server;
+
+/* The server after a call that may be refused, and 0 or the number of the refusal. */
+typedef struct satmegwo_server_outcome {
+    satmegwo_server server;
+    uint32_t status;
+} satmegwo_server_outcome;
+
+SATMEGWO_ASSERT(sizeof(satmegwo_server_place) == 1056, "a place has another size");
+SATMEGWO_ASSERT(sizeof(satmegwo_server) == 8452, "a server has another size");
+SATMEGWO_ASSERT(sizeof(satmegwo_server_outcome) == 8456, "an outcome has another size");
+
 /* An empty server. */
-struct satmegwo_server satmegwo_server_begin(void);
+satmegwo_server satmegwo_server_begin(void);
 
 /* Puts a box on a place. Putting examines no combination.
  *   rows  read, 2^n elements below 2^m
  * Refusals: 18, 19, 1, 2, 3, 4. */
-struct satmegwo_server_outcome satmegwo_server_put(struct satmegwo_server server, uint32_t place, uint32_t n, uint32_t m, const uint32_t *rows, size_t rows_len);
+satmegwo_server_outcome satmegwo_server_put(
+    satmegwo_server server, uint32_t place, uint32_t n, uint32_t m,
+    const uint32_t *rows, size_t rows_len);
 
 /* Takes the box off a place, finished or not: the place is empty again, all zeros.
  * Refusals: 18, 19. */
-struct satmegwo_server_outcome satmegwo_server_withdraw(struct satmegwo_server server, uint32_t place);
+satmegwo_server_outcome satmegwo_server_withdraw(satmegwo_server server, uint32_t place);
 
 /* One step. With no box unfinished the server comes back as it was, every field of it. */
-struct satmegwo_server satmegwo_server_step(struct satmegwo_server server);
+satmegwo_server satmegwo_server_step(satmegwo_server server);
 
 /* So many steps, one after the other. It returns early where no box is unfinished, after
  * 8 x 65,535 steps at the latest, so that a budget of 4294967295 means "to the end". */
-struct satmegwo_server satmegwo_server_run(struct satmegwo_server server, uint32_t budget);
+satmegwo_server satmegwo_server_run(satmegwo_server server, uint32_t budget);
 
 /* What stands on a place. A finished box keeps its result until it is withdrawn.
- *   figures  written, 5 elements: 1, the nonlinearity over all combinations, c, w and b of
- *            its first witness; or five zeros until all combinations were examined
+ *   figures  written, 5 elements: 1, the nonlinearity over all combinations, c, w and b
+ *            of its first witness; or five zeros until all combinations were examined
  * Returns 0 or the number of a refusal.
  * Refusals: 18, 19, 7. */
-uint32_t satmegwo_server_ask(struct satmegwo_server server, uint32_t place, uint32_t *figures, size_t figures_len);
+uint32_t satmegwo_server_ask(
+    satmegwo_server server, uint32_t place, uint32_t *figures, size_t figures_len);
 
 #ifdef __cplusplus
 }

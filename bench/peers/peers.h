@@ -64,9 +64,9 @@ uint32_t peer_compact_catalogue(uint8_t *catalogue, size_t size);
 /* Document 02, section 14, on a server of include/satmegwo_server.h that is changed in place. A
  * place that is put to is empty, and of a place that is asked the box is finished. Figures: 1, the
  * figure, c, w, b. */
-void peer_server_begin(struct satmegwo_server *server);
-void peer_server_put(struct satmegwo_server *server, uint32_t place, uint32_t n, uint32_t m, const uint32_t *rows);
-void peer_server_run(struct satmegwo_server *server, uint32_t steps);
-void peer_server_ask(const struct satmegwo_server *server, uint32_t place, uint32_t *figures);
+void peer_server_begin(satmegwo_server *server);
+void peer_server_put(satmegwo_server *server, uint32_t place, uint32_t n, uint32_t m, const uint32_t *rows);
+void peer_server_run(satmegwo_server *server, uint32_t steps);
+void peer_server_ask(const satmegwo_server *server, uint32_t place, uint32_t *figures);
 
 #endif

@@ -12,14 +12,14 @@ struct work {
     struct table columns[MOST_SERVED_OUTPUTS], highest[MOST_SERVED_OUTPUTS + 1];
 };
 
-void peer_server_begin(struct satmegwo_server *server)
+void peer_server_begin(satmegwo_server *server)
 {
     memset(server, 0, sizeof *server);
 }
 
-void peer_server_put(struct satmegwo_server *server, uint32_t place, uint32_t n, uint32_t m, const uint32_t *rows)
+void peer_server_put(satmegwo_server *server, uint32_t place, uint32_t n, uint32_t m, const uint32_t *rows)
 {
-    struct satmegwo_place *held = &server->places[place - 1];
+    satmegwo_server_place *held = &server->places[place - 1];
     held->taken = 1;
     held->n = n;
     held->m = m;
@@ -27,12 +27,12 @@ void peer_server_put(struct satmegwo_server *server, uint32_t place, uint32_t n,
     held->count = (1u << n) + 1;
 }
 
-static int is_unfinished(const struct satmegwo_place *held)
+static int is_unfinished(const satmegwo_server_place *held)
 {
     return held->taken && held->examined + 1 < 1u << held->m;
 }
 
-static void prepare(const struct satmegwo_place *held, struct work *work)
+static void prepare(const satmegwo_server_place *held, struct work *work)
 {
     write_columns(held->n, held->m, held->rows, work->columns);
     work->highest[0] = (struct table){{0}};
@@ -42,7 +42,7 @@ static void prepare(const struct satmegwo_place *held, struct work *work)
 
 /* The next combination, in ascending order: it replaces what was found if it is nearer, or as near and
  * has fewer outputs. */
-static void examine_next(struct satmegwo_place *held, struct work *work)
+static void examine_next(satmegwo_server_place *held, struct work *work)
 {
     _Alignas(16) int16_t values[MOST_ROWS];
     uint32_t c = ++held->examined, outputs = ones(c);
@@ -58,7 +58,7 @@ static void examine_next(struct satmegwo_place *held, struct work *work)
 }
 
 /* The next place with an unfinished box, counted from 0, after the one last served; PLACES if none. */
-static uint32_t next_place(const struct satmegwo_server *server)
+static uint32_t next_place(const satmegwo_server *server)
 {
     for (uint32_t k = 0; k < PLACES; k++) {
         uint32_t place = (server->last + k) % PLACES;
@@ -68,7 +68,7 @@ static uint32_t next_place(const struct satmegwo_server *server)
     return PLACES;
 }
 
-void peer_server_run(struct satmegwo_server *server, uint32_t steps)
+void peer_server_run(satmegwo_server *server, uint32_t steps)
 {
     struct work work[PLACES];
     for (uint32_t place = 0; place < PLACES; place++)
@@ -83,9 +83,9 @@ void peer_server_run(struct satmegwo_server *server, uint32_t steps)
     }
 }
 
-void peer_server_ask(const struct satmegwo_server *server, uint32_t place, uint32_t *figures)
+void peer_server_ask(const satmegwo_server *server, uint32_t place, uint32_t *figures)
 {
-    const struct satmegwo_place *held = &server->places[place - 1];
+    const satmegwo_server_place *held = &server->places[place - 1];
     figures[0] = !is_unfinished(held);
     figures[1] = held->count;
     figures[2] = held->c;

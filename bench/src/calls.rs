@@ -1,7 +1,7 @@
 //! The calls that give figures of a box: from the library, the second program and the C peers.
-use crate::library;
 use crate::peers;
 use crate::rows::{Other, Row};
+use satmegwo::slices as library;
 use second_model::published;
 use second_model::rounds::{self, Summand};
 use second_model::sheet::limit;

@@ -2,9 +2,9 @@
 //! removing and compacting on that buffer, held against a buffer that is half as long too, since they
 //! are to be linear in it. The second program has a quick way to check alone; of the other calls its
 //! answers are compared, and not its times.
-use crate::library;
 use crate::peers;
 use crate::rows::{Other, Row, Rows};
+use satmegwo::slices as library;
 use second_model::boxes::random_rows;
 use second_model::catalogue::{self, Catalogue, Record, FIRST, LONGEST};
 use second_model::model::file_of;

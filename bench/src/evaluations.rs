@@ -2,10 +2,10 @@
 //! call; and the same box on all eight places, held against one place. The second program has no server
 //! to measure: beside one box stands its plain sweep, and beside eight nothing.
 use crate::calls::{library_nonlinearity, Figures, Job, NONLINEARITY};
-use crate::library_server as server;
 use crate::peers;
 use crate::rows::{Other, Row, Rows};
 use crate::table::Bar;
+use satmegwo::slices::server;
 use second_model::boxes::random_rows;
 use second_model::random::Random;
 

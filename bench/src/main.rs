@@ -23,10 +23,6 @@ mod calls;
 mod catalogues;
 mod evaluations;
 mod figures;
-#[path = "../../tests/compare/library.rs"]
-mod library;
-#[path = "../../tests/compare/library_server.rs"]
-mod library_server;
 mod lists;
 mod machine;
 mod packing;

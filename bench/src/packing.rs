@@ -1,7 +1,7 @@
 //! Packed columns: both ways, on random boxes.
-use crate::library;
 use crate::peers;
 use crate::rows::{Row, Rows};
+use satmegwo::slices as library;
 use second_model::boxes::random_rows;
 use second_model::packing::{bytes_of_a_column, pack_quickly, unpack_quickly};
 use second_model::random::Random;

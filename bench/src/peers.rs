@@ -1,11 +1,11 @@
 //! The plain C peers of peers/, and safe faces for them. A face makes sure of the lengths; that rows
 //! lie below 2^m and limits in their ranges is for the caller, as in C.
-use crate::library_server::Server;
+use satmegwo::raw::Server;
 use std::mem::MaybeUninit;
 
 #[rustfmt::skip]
 mod raw {
-    use crate::library_server::Server;
+    use satmegwo::raw::Server;
 
     #[link(name = "peers", kind = "static")]
     extern "C" {

@@ -218,6 +218,8 @@ fn lengths_written(run: &mut Run) {
         for length in lengths_around(1) {
             run.largest_cells(n, m, &rows, 9000, length);
             run.largest_cells(n, m, &rows, 0, length);
+            run.nearest_pairs(n, m, &rows, m, (9000, length));
+            run.nearest_pairs(n, m, &rows, m, (0, length));
         }
         for length in lengths_around(1 << n) {
             run.component_spectrum(n, m, &rows, 1, length);

@@ -2,8 +2,8 @@
 //! returned, what each array that was to be written holds afterwards, and that no array that was
 //! only to be read has changed. The library gets a copy of what the model reads.
 use crate::lent::{Kept, Lent, Pattern};
-use crate::library;
 use crate::pages;
+use satmegwo::slices as library;
 use second_model::model::{self, Answer};
 use second_model::random::Random;
 use std::collections::BTreeMap;
@@ -282,13 +282,35 @@ impl Run {
         let (read, mut list, mut figures) = (self.copy(rows), self.lend(list_len), self.lend(figures_len));
         let code = library::largest_cells(n, m, read.content(), list.part(), figures.part());
         let same = match &wanted {
-            Ok(cells) => code == 0 && figures.holds(&[cells.len() as u32]) && holds_cells(&list, cells),
+            Ok(cells) => code == 0 && figures.holds(&[cells.len() as u32]) && holds_first(&list, cells),
             Err(number) => code == *number && list.untouched() && figures.untouched(),
         };
         let kept = read.untouched();
         self.compared(wanted.is_err(), same && kept, || {
             let arguments = format!("{}, list_len = {list_len}, figures_len = {figures_len}", shown(n, m, rows));
             report("largest_cells", &arguments, code, kept, (list.content(), figures.content()), &wanted)
+        });
+    }
+
+    /// The lengths are those of the list and of the figures.
+    pub fn nearest_pairs(&mut self, n: u32, m: u32, rows: &[u32], i: u32, lengths: (usize, usize)) {
+        let wanted = model::nearest_pairs(n, m, rows, i, lengths.0, lengths.1);
+        self.nearest_pairs_known(n, m, rows, i, lengths, wanted);
+    }
+
+    /// The same where the model's answer is known already. Past the pairs nothing may change.
+    pub fn nearest_pairs_known(&mut self, n: u32, m: u32, rows: &[u32], i: u32, lengths: (usize, usize), wanted: Answer<Vec<u64>>) {
+        self.calling("nearest_pairs");
+        let (read, mut list, mut figures) = (self.copy(rows), self.lend(lengths.0), self.lend(lengths.1));
+        let code = library::nearest_pairs(n, m, read.content(), i, list.part(), figures.part());
+        let same = match &wanted {
+            Ok(pairs) => code == 0 && figures.holds(&[pairs.len() as u64]) && holds_first(&list, pairs),
+            Err(number) => code == *number && list.untouched() && figures.untouched(),
+        };
+        let kept = read.untouched();
+        self.compared(wanted.is_err(), same && kept, || {
+            let arguments = format!("{}, i = {i}, lengths {lengths:?}", shown(n, m, rows));
+            report("nearest_pairs", &arguments, code, kept, (list.content(), figures.content()), &wanted)
         });
     }
 
@@ -370,8 +392,9 @@ fn all_kept(read: &[&dyn Kept]) -> bool {
     read.iter().all(|one| one.untouched())
 }
 
-fn holds_cells(list: &Lent<u64>, cells: &[u64]) -> bool {
-    list.content()[..cells.len()] == *cells && list.untouched_from(cells.len())
+/// The first entries of a list are these, and those past them stayed.
+fn holds_first(list: &Lent<u64>, entries: &[u64]) -> bool {
+    list.content()[..entries.len()] == *entries && list.untouched_from(entries.len())
 }
 
 fn shown(n: u32, m: u32, rows: &[u32]) -> String {
@@ -443,14 +466,14 @@ mod tests {
     }
 
     #[test]
-    fn cells_past_the_last_must_stay() {
+    fn entries_past_the_last_must_stay() {
         let list = |change: Option<usize>| {
             let mut lent = Lent::new(4, &mut Random::new(1));
             lent.part()[..2].copy_from_slice(&[10, 11]);
             if let Some(place) = change {
                 lent.part()[place] ^= 1;
             }
-            holds_cells(&lent, &[10, 11])
+            holds_first(&lent, &[10, 11])
         };
         assert!(list(None));
         assert!((0..4).all(|place| !list(Some(place))));

@@ -1,8 +1,8 @@
 //! `second catalogue`: every call on a catalogue against the model, in long histories, on
 //! damaged and on forged catalogues, and at each bound.
 use crate::calls::Run;
-use crate::library;
 use crate::parts::Work;
+use satmegwo::slices as library;
 use second_model::boxes::{self, KINDS};
 use second_model::catalogue::{self, Catalogue, Record, FIRST, LONGEST, MOST_RECORDS};
 use second_model::model;

@@ -1,7 +1,7 @@
 //! `second compare`: every call of the library against the model.
 use crate::calls::{Run, AUTOCORRELATION, DEGREE, FIGURE_CALLS, LIMITED_CALLS, NONLINEARITY};
 use crate::parts::Work;
-use crate::{additions, bounds, damage, far, limits, maximal, orders, packing, rounds, swaps};
+use crate::{additions, bounds, damage, far, limits, maximal, nearest, nowhere, orders, packing, rounds, swaps, written};
 use second_model::boxes::{self, KINDS};
 use second_model::combinations::quick_limit;
 use second_model::model::{self, all_outputs};
@@ -18,10 +18,13 @@ pub const PARTS: &[(&str, Work)] = &[
     ("lists of column additions", &lists_of_additions),
     ("sums of boxes", &rounds::all),
     ("packed columns", &packing::all),
+    ("nearest pairs", &nearest::all),
     ("raising swaps", &swaps::all),
     ("shorter lists of additions", &additions::all),
     ("even and bent boxes", &maximal::all),
+    ("boxes written, and sheets", &written::all),
     ("lengths above 2^32", &far::all),
+    ("arrays without an address", &nowhere::all),
     ("published boxes", &published_boxes),
 ];
 
@@ -33,6 +36,8 @@ pub fn usual_limits(run: &mut Run, n: u32, m: u32) -> [u32; 2] {
 
 /// Every call that takes a box, with arguments and lengths that fit, as far as n and m do.
 pub fn every_box_call(run: &mut Run, n: u32, m: u32, rows: &[u32], limits: &[u32]) {
+    run.check_box(n, m, rows);
+    run.write_box(n, m, rows, 2 + 4 * rows.len());
     for call in &FIGURE_CALLS {
         run.figures(call, n, m, rows, call.figures);
     }
@@ -41,6 +46,7 @@ pub fn every_box_call(run: &mut Run, n: u32, m: u32, rows: &[u32], limits: &[u32
             run.limited_figures(call, n, m, rows, i, call.figures);
         }
     }
+    nearest::lists(run, n, m, rows, limits[limits.len() - 1]);
     box_calls_with_parameters(run, n, m, rows);
 }
 

@@ -107,11 +107,20 @@ fn box_calls(run: &mut Run) {
         let figures_len = length(&mut run.random, call.figures);
         run.limited_figures(call, n, m, &rows, i, figures_len);
     }
+    box_file(run);
     spectrum_of_combination(run);
     addition(run);
     row_of_xor_table(run);
     cell_list(run);
+    pair_list(run);
     distance(run);
+}
+
+fn box_file(run: &mut Run) {
+    let DamagedBox { n, m, rows } = damaged_box(&mut run.random);
+    run.check_box(n, m, &rows);
+    let file_len = length(&mut run.random, 2 + 4 * power(n));
+    run.write_box(n, m, &rows, file_len);
 }
 
 fn spectrum_of_combination(run: &mut Run) {
@@ -144,6 +153,15 @@ fn cell_list(run: &mut Run) {
     let list_len = length(&mut run.random, number);
     let figures_len = length(&mut run.random, 1);
     run.largest_cells(n, m, &rows, list_len, figures_len);
+}
+
+fn pair_list(run: &mut Run) {
+    let DamagedBox { n, m, rows } = damaged_box(&mut run.random);
+    let i = limit(&mut run.random, n, m);
+    let number = model::nearest_pairs(n, m, &rows, i, usize::MAX, 1).map_or(5, |pairs| pairs.len());
+    let list_len = length(&mut run.random, number);
+    let figures_len = length(&mut run.random, 1);
+    run.nearest_pairs(n, m, &rows, i, (list_len, figures_len));
 }
 
 fn distance(run: &mut Run) {

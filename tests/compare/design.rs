@@ -3,8 +3,8 @@
 use crate::calls::{Run, LIMITED_CALLS};
 use crate::compare::usual_limits;
 use crate::guarded::design::{self as library_design, Design, Snapshot, MOST_ROWS};
-use crate::library;
 use crate::parts::Work;
+use satmegwo::slices as library;
 use second_model::boxes::{self, KINDS};
 use second_model::design::{self, Operation, MARKS};
 use second_model::model::all_outputs;

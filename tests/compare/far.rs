@@ -3,8 +3,7 @@
 //! is lent is the right array, with a page behind it that cannot be touched.
 use crate::calls::Run;
 use crate::lent::{Lent, Pattern};
-use crate::library::raw;
-use crate::{library_design, library_server};
+use satmegwo::{raw, slices};
 use second_model::boxes;
 use second_model::model;
 
@@ -18,6 +17,7 @@ pub fn all(run: &mut Run) {
         boxes_with_arrays(run, more);
         boxes_made_from_boxes(run, more);
         files_and_catalogues(run, more);
+        boxes_written_and_sheets(run, more);
         packed_columns(run, more);
         sums(run, more);
         designs_and_servers(run, more);
@@ -32,22 +32,23 @@ macro_rules! refused {
         let code = unsafe { $call };
         let untouched = [$($array.untouched()),+].iter().all(|&one| one);
         $run.compared(true, code == $number && untouched, || {
-            format!("{} with a length above 2^32: {code}, untouched {untouched}", $name)
+            format!("{}: {code} in place of {}, untouched {untouched}", stringify!($call), $number)
         });
     };
 }
+pub(crate) use refused;
 
 /// The address of an array that is lent.
-fn at<T: Pattern>(lent: &mut Lent<T>) -> *mut T {
+pub fn at<T: Pattern>(lent: &mut Lent<T>) -> *mut T {
     lent.part().as_mut_ptr()
 }
 
-fn random_box(run: &mut Run, n: u32, m: u32) -> Lent<u32> {
+pub fn random_box(run: &mut Run, n: u32, m: u32) -> Lent<u32> {
     let rows = boxes::random_rows(n, m, &mut run.random);
     run.copy(&rows)
 }
 
-fn random_table(run: &mut Run, n: u32) -> Lent<u8> {
+pub fn random_table(run: &mut Run, n: u32) -> Lent<u8> {
     let table = boxes::random_table(n, &mut run.random);
     run.copy(&table)
 }
@@ -88,7 +89,9 @@ fn boxes_with_figures(run: &mut Run, more: usize) {
 fn boxes_with_arrays(run: &mut Run, more: usize) {
     let (mut rows, mut values, mut out) = (random_box(run, 3, 5), run.lend::<i32>(8), run.lend::<u32>(8));
     let (mut counts, mut list, mut one) = (run.lend::<u16>(32), run.lend::<u64>(40), run.lend::<u32>(1));
+    let mut long = run.lend::<u64>(1);
     let (r, v, o, c, l, f) = (at(&mut rows), at(&mut values), at(&mut out), at(&mut counts), at(&mut list), at(&mut one));
+    let g = at(&mut long);
     refused!(run, "component_spectrum", 3, raw::satmegwo_component_spectrum(3, 5, r, 8 + more, 9, v, 8), rows, values);
     refused!(run, "component_spectrum", 7, raw::satmegwo_component_spectrum(3, 5, r, 8, 9, v, 8 + more), rows, values);
     refused!(run, "add_to_column", 3, raw::satmegwo_add_to_column(3, 5, r, 8 + more, 2, 1, 1, o, 8), rows, out);
@@ -97,6 +100,8 @@ fn boxes_with_arrays(run: &mut Run, more: usize) {
     refused!(run, "xor_row", 7, raw::satmegwo_xor_row(3, 5, r, 8, 1, c, 32 + more), rows, counts);
     refused!(run, "largest_cells", 3, raw::satmegwo_largest_cells(3, 5, r, 8 + more, l, 40, f, 1), rows, list, one);
     refused!(run, "largest_cells", 7, raw::satmegwo_largest_cells(3, 5, r, 8, l, 40, f, 1 + more), rows, list, one);
+    refused!(run, "nearest_pairs", 3, raw::satmegwo_nearest_pairs(3, 5, r, 8 + more, 5, l, 40, g, 1), rows, list, long);
+    refused!(run, "nearest_pairs", 7, raw::satmegwo_nearest_pairs(3, 5, r, 8, 5, l, 40, g, 1 + more), rows, list, long);
 }
 
 fn boxes_made_from_boxes(run: &mut Run, more: usize) {
@@ -132,6 +137,22 @@ fn files_and_catalogues(run: &mut Run, more: usize) {
     refused!(run, "remove_record", 13, raw::satmegwo_remove_record(b, 300 + more, 0), empty);
     refused!(run, "fetch_record", 13, raw::satmegwo_fetch_record(b, 300 + more, 0, f2, 2), empty, two);
     refused!(run, "compact_catalogue", 13, raw::satmegwo_compact_catalogue(b, 300 + more), empty);
+}
+
+/// A box file that is too long has a sheet, which says so.
+fn boxes_written_and_sheets(run: &mut Run, more: usize) {
+    let (mut rows, mut file) = (run.copy(&[3, 1]), run.copy(&model::file_of(1, 2, &[3, 1])));
+    let (mut text, mut one) = (run.lend::<u8>(332), run.lend::<u32>(1));
+    let (r, f, t, f1) = (at(&mut rows), at(&mut file), at(&mut text), at(&mut one));
+    refused!(run, "check_box", 3, raw::satmegwo_check_box(1, 2, r, 2 + more), rows);
+    refused!(run, "write_box", 3, raw::satmegwo_write_box(1, 2, r, 2 + more, f, 10), rows, file);
+    refused!(run, "write_box", 7, raw::satmegwo_write_box(1, 2, r, 2, f, 10 + more), rows, file);
+    refused!(run, "sheet", 7, raw::satmegwo_sheet(f, 10, t, 332 + more, f1, 1), file, text, one);
+    refused!(run, "sheet", 7, raw::satmegwo_sheet(f, 10, t, 332, f1, 1 + more), file, text, one);
+    run.calling("sheet");
+    let code = unsafe { raw::satmegwo_sheet(f, 10 + more, t, 332, f1, 1) };
+    let said = text.content().starts_with(b"refused 10\n") && text.untouched_from(11) && one.holds(&[11]);
+    run.compared(false, code == 0 && said && file.untouched(), || format!("the sheet of a file too long by {more}: {code}"));
 }
 
 fn packed_columns(run: &mut Run, more: usize) {
@@ -171,16 +192,16 @@ fn sums(run: &mut Run, more: usize) {
 fn designs_and_servers(run: &mut Run, more: usize) {
     let (mut rows, mut widths, mut five) = (random_box(run, 2, 3), run.lend::<u32>(2), run.lend::<u32>(5));
     let (r, w, f) = (at(&mut rows), at(&mut widths), at(&mut five));
-    let begun = library_design::begin(2, 3, rows.content()).design;
-    let served = library_server::put(library_server::begin(), 1, 2, 3, rows.content()).server;
-    refused!(run, "design_begin", 3, library_design::raw::satmegwo_design_begin(2, 3, r, 4 + more).status, rows);
-    refused!(run, "design_read", 7, library_design::raw::satmegwo_design_read(begun, r, 4 + more, w, 2), rows, widths);
-    refused!(run, "design_read", 7, library_design::raw::satmegwo_design_read(begun, r, 4, w, 2 + more), rows, widths);
-    refused!(run, "server_put", 3, library_server::raw::satmegwo_server_put(served, 2, 2, 3, r, 4 + more).status, rows);
-    refused!(run, "server_ask", 7, library_server::raw::satmegwo_server_ask(served, 1, f, 5 + more), five);
+    let begun = slices::design::begin(2, 3, rows.content()).design;
+    let served = slices::server::put(slices::server::begin(), 1, 2, 3, rows.content()).server;
+    refused!(run, "design_begin", 3, raw::satmegwo_design_begin(2, 3, r, 4 + more).status, rows);
+    refused!(run, "design_read", 7, raw::satmegwo_design_read(begun, r, 4 + more, w, 2), rows, widths);
+    refused!(run, "design_read", 7, raw::satmegwo_design_read(begun, r, 4, w, 2 + more), rows, widths);
+    refused!(run, "server_put", 3, raw::satmegwo_server_put(served, 2, 2, 3, r, 4 + more).status, rows);
+    refused!(run, "server_ask", 7, raw::satmegwo_server_ask(served, 1, f, 5 + more), five);
 }
 
-/// A list of cells may be longer than there are cells, by any number: only so many are written.
+/// A list may be longer than there are cells, or pairs, by any number: only so many are written.
 fn long_lists(run: &mut Run, more: usize) {
     let rows = boxes::random_rows(3, 5, &mut run.random);
     let cells = model::largest_cells(3, 5, &rows, usize::MAX, 1).expect("nothing to refuse");
@@ -190,4 +211,11 @@ fn long_lists(run: &mut Run, more: usize) {
     let code = unsafe { raw::satmegwo_largest_cells(3, 5, r, 8, l, more, f, 1) };
     let same = code == 0 && read.untouched() && list.holds(&cells) && one.holds(&[cells.len() as u32]);
     run.compared(false, same, || format!("largest_cells with a list of {more}: {code}, {:?} of {rows:?}", list.content()));
+    let pairs = model::nearest_pairs(3, 5, &rows, 5, usize::MAX, 1).expect("nothing to refuse");
+    let (mut list, mut long) = (run.lend::<u64>(pairs.len()), run.lend::<u64>(1));
+    run.calling("nearest_pairs");
+    let (l, g) = (at(&mut list), at(&mut long));
+    let code = unsafe { raw::satmegwo_nearest_pairs(3, 5, r, 8, 5, l, more, g, 1) };
+    let same = code == 0 && read.untouched() && list.holds(&pairs) && long.holds(&[pairs.len() as u64]);
+    run.compared(false, same, || format!("nearest_pairs with a list of {more}: {code}, {:?} of {rows:?}", list.content()));
 }

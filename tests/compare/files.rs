@@ -28,10 +28,12 @@ fn all() -> Result<Vec<File>, String> {
     let texts = [
         ("examples/example.stdout", printed::example()),
         ("examples/catalogue.stdout", printed::catalogue(2, &boxes)),
+        ("examples/pairs.stdout", printed::pairs(4, "des-s4")),
         ("examples/packing.stdout", printed::packing("aes")),
         ("examples/improve.stdout", printed::improve("des-s1")),
         ("examples/design.stdout", printed::design()),
         ("examples/server.stdout", printed::server(["example", "des-s1", "present"])),
+        ("examples/fields.stdout", printed::fields()),
         ("crates/boxsheet/stdout", sheet(&example)),
         ("crates/published/stdout", printed::published_output()),
         ("crates/spectra/stdout", printed::spectra_output(&String::from_utf8_lossy(&spectra))),

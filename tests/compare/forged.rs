@@ -1,9 +1,8 @@
 //! Servers of random bytes, some with places that look sound: what every call makes of them.
 //! A refused call changes nothing, a step serves only what has a box's widths, and a run ends.
 use crate::calls::Run;
-use crate::guarded::server::{self as library, Place, Server};
+use crate::guarded::server::{self as library, found_on, untouched_box, with_found, Place, Server, EMPTY};
 use crate::lent::Lent;
-use crate::library_server::{untouched_box, EMPTY};
 use crate::server::{any_box, any_place, figures_of};
 use second_model::model::{all_outputs, check_box_up_to, refuse_when, Answer};
 use second_model::random::Random;
@@ -33,7 +32,7 @@ fn forged(random: &mut Random) -> Server {
     for held in &mut server.places {
         let word = |random: &mut Random| random.draw() as u32;
         held.rows.iter_mut().for_each(|row| *row = word(random));
-        held.found.iter_mut().for_each(|number| *number = word(random));
+        *held = with_found(*held, std::array::from_fn(|_| word(random)));
         (held.taken, held.n, held.m, held.examined) = (word(random), word(random), word(random), word(random));
         if !random.one_in(3) {
             (held.taken, held.n, held.m) = (random.pick(&[0, 1, 1, 1, 2]), random.below(11), random.below(34));
@@ -117,7 +116,7 @@ fn step(run: &mut Run, server: Server) -> Server {
         held.examined += 1;
         let rows = &held.rows[..1 << held.n];
         if rows.iter().all(|&row| row <= all_outputs(held.m)) {
-            held.found = given.places[place as usize - 1].found;
+            *held = with_found(*held, found_on(&given.places[place as usize - 1]));
         }
         wanted.last = place;
     }
@@ -145,7 +144,7 @@ fn ask(run: &mut Run, server: Server, place: u32) -> Server {
         Err(number) => status == number && figures.untouched(),
         Ok(()) => {
             let held = &server.places[place as usize - 1];
-            status == 0 && figures.holds(&figures_of((!unfinished(held)).then_some(held.found)))
+            status == 0 && figures.holds(&figures_of((!unfinished(held)).then_some(found_on(held))))
         }
     };
     run.compared(checked.is_err(), same, || format!("asking a forged server: {status}, {:?}", figures.content()));

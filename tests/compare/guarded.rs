@@ -1,11 +1,12 @@
-//! The calls on designs and servers as in library_design.rs and library_server.rs, but with nothing
-//! behind what goes in by value that could be read (see by_value.rs).
+//! The calls on designs and servers as the crate `satmegwo` has them, but with nothing behind what
+//! goes in by value that could be read (see by_value.rs).
 
 pub mod design {
     use crate::by_value::{giving, telling};
-    use crate::library_design::raw;
-    pub use crate::library_design::{begin, Design, Outcome, Snapshot, MOST_ROWS};
     use crate::pages;
+    use satmegwo::raw;
+    pub use satmegwo::raw::{Design, DesignOutcome as Outcome, DesignSnapshot as Snapshot, MOST_ROWS};
+    pub use satmegwo::slices::design::begin;
     use second_model::design::Operation;
 
     pub fn operate(design: &Design, operation: Operation) -> Outcome {
@@ -29,8 +30,29 @@ pub mod design {
 
 pub mod server {
     use crate::by_value::{giving, telling};
-    use crate::library_server::raw;
-    pub use crate::library_server::{begin, Outcome, Place, Server};
+    use satmegwo::raw;
+    pub use satmegwo::raw::{Server, ServerOutcome as Outcome, ServerPlace as Place, MOST_ROWS};
+    pub use satmegwo::slices::server::begin;
+
+    /// A place with no box on it.
+    pub const EMPTY: Place = Place { taken: 0, n: 0, m: 0, rows: [0; MOST_ROWS], examined: 0, count: 0, c: 0, w: 0, b: 0 };
+
+    /// A box as it is put on a place: its rows and then zeros, and a count that no pair has.
+    pub fn untouched_box(n: u32, m: u32, rows: &[u32]) -> Place {
+        let mut kept = [0; MOST_ROWS];
+        kept[..rows.len()].copy_from_slice(rows);
+        Place { taken: 1, n, m, rows: kept, count: rows.len() as u32 + 1, ..EMPTY }
+    }
+
+    /// The least count of a place, with its witness.
+    pub fn found_on(held: &Place) -> [u32; 4] {
+        [held.count, held.c, held.w, held.b]
+    }
+
+    /// The place with this count and witness.
+    pub fn with_found(held: Place, [count, c, w, b]: [u32; 4]) -> Place {
+        Place { count, c, w, b, ..held }
+    }
 
     pub fn put(server: Server, place: u32, n: u32, m: u32, rows: &[u32]) -> Outcome {
         let numbers = [place as usize, n as usize, m as usize, rows.as_ptr() as usize, rows.len()];

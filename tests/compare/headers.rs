@@ -1,20 +1,24 @@
-//! What the headers declare against what this program declares: every function with its arguments,
-//! and the layout of every struct. (examples/layout.c has the same numbers.)
-use crate::library_design::{Design, Outcome, Snapshot};
-use crate::library_server::{self, Place, Server};
+//! What the headers say against what the crate `satmegwo` says: every function with its arguments, the
+//! layout of every struct, the refusals with their sentences, and the bounds. (examples/fields.c has the
+//! same layout.)
+use satmegwo::raw::{Design, DesignOutcome, DesignSnapshot, Server, ServerOutcome, ServerPlace, MARKS, MOST_ROWS, PLACES};
+use satmegwo::Refusal;
+use second_model::{catalogue, rounds};
 use std::collections::BTreeMap;
 use std::mem::{offset_of, size_of};
 
 /// A function's result and its arguments, each as its type and its name, in Rust's words.
 type Signature = (String, Vec<(String, String)>);
 
-const HEADERS: [(&str, &str); 3] = [
-    (include_str!("../../include/satmegwo.h"), include_str!("library.rs")),
-    (include_str!("../../include/satmegwo_design.h"), include_str!("library_design.rs")),
-    (include_str!("../../include/satmegwo_server.h"), include_str!("library_server.rs")),
-];
+const HEADER: &str = include_str!("../../include/satmegwo.h");
+const OTHERS: [&str; 2] = [include_str!("../../include/satmegwo_design.h"), include_str!("../../include/satmegwo_server.h")];
+const DECLARED: &str = include_str!("../../rust/src/raw.rs");
 
-/// Without its comments, and all on one line.
+fn one_line(text: &str) -> String {
+    text.split_whitespace().collect::<Vec<&str>>().join(" ")
+}
+
+/// Without its comments and without what is said to the preprocessor, and all on one line.
 fn plain(text: &str) -> String {
     let mut rest = text;
     let mut kept = String::new();
@@ -22,7 +26,16 @@ fn plain(text: &str) -> String {
         kept += before;
         rest = behind.split_once("*/").expect("a comment ends").1;
     }
-    (kept + rest).split_whitespace().collect::<Vec<&str>>().join(" ")
+    kept += rest;
+    one_line(&kept.lines().filter(|line| !line.starts_with('#')).collect::<Vec<&str>>().join("\n"))
+}
+
+/// A header without the functions that it defines itself: they are the caller's own.
+fn declarations(text: &str) -> String {
+    let text = plain(text);
+    let mut parts = text.split("static inline ");
+    let first = parts.next().expect("there is one").to_string();
+    parts.fold(first, |kept, part| kept + part.split_once(" return number; }").expect("it returns a number").1)
 }
 
 fn rust_type(words: &[&str]) -> String {
@@ -35,14 +48,14 @@ fn rust_type(words: &[&str]) -> String {
             ("int32_t", "i32"),
             ("size_t", "usize"),
             ("satmegwo_design", "Design"),
-            ("satmegwo_outcome", "Outcome"),
+            ("satmegwo_design_outcome", "DesignOutcome"),
             ("satmegwo_server", "Server"),
-            ("satmegwo_server_outcome", "Outcome"),
+            ("satmegwo_server_outcome", "ServerOutcome"),
         ];
         known.iter().find(|(c, _)| *c == word).unwrap_or_else(|| panic!("{word} is no type that is known")).1.to_string()
     };
     match words {
-        ["struct", word] | [word] => name(word),
+        [word] => name(word),
         ["const", word, "*"] => format!("*const {}", name(word)),
         [word, "*"] => format!("*mut {}", name(word)),
         _ => panic!("{words:?} is no type that is known"),
@@ -51,17 +64,15 @@ fn rust_type(words: &[&str]) -> String {
 
 /// The functions of a header: what stands before a name, the name, and what stands in brackets.
 fn of_header(text: &str) -> BTreeMap<String, Signature> {
-    let text = plain(text);
+    let text = declarations(text);
     let mut found = BTreeMap::new();
     for statement in text.split(';').filter(|statement| statement.contains('(')) {
         let (head, arguments) = statement.rsplit_once('(').expect("it was looked for");
         let words: Vec<&str> = head.split(|c: char| c.is_whitespace() || c == '{' || c == '}' || c == '"').collect();
         let (name, before) = words.split_last().expect("it has a name");
-        if !name.starts_with("satmegwo_") {
-            continue;
+        if name.starts_with("satmegwo_") {
+            found.insert(name.to_string(), (rust_type(&before[before.len() - 1..]), c_arguments(arguments)));
         }
-        let result = if before[before.len() - 2] == "struct" { &before[before.len() - 2..] } else { &before[before.len() - 1..] };
-        found.insert(name.to_string(), (rust_type(result), c_arguments(arguments)));
     }
     found
 }
@@ -76,54 +87,117 @@ fn c_arguments(text: &str) -> Vec<(String, String)> {
     text.split(',').filter(|argument| argument.trim() != "void").map(one).collect()
 }
 
-/// The functions that this program declares as another's.
-fn of_program(text: &str) -> BTreeMap<String, Signature> {
-    let block = text.split_once("extern \"C\" {").expect("it declares functions").1;
-    let block = block.split_once("\n    }").expect("the block ends").0;
+/// The functions that the crate declares as the library's.
+fn of_crate(text: &str) -> BTreeMap<String, Signature> {
     let mut found = BTreeMap::new();
-    for statement in block.split(';').filter(|statement| statement.contains("pub fn ")) {
-        let statement = statement.split_whitespace().collect::<Vec<&str>>().join(" ");
-        let (name, rest) = statement.trim_start_matches("pub fn ").split_once('(').expect("it has arguments");
-        let (arguments, result) = rest.split_once(") -> ").expect("it has a result");
-        let arguments = arguments.split(',').map(str::trim).filter(|argument| !argument.is_empty());
-        let pairs = arguments.map(|argument| argument.split_once(": ").expect("an argument has a type"));
-        found.insert(name.to_string(), (result.to_string(), pairs.map(|(name, kind)| (kind.to_string(), name.to_string())).collect()));
+    for block in text.split("extern \"C\" {").skip(1) {
+        let block = block.split_once("\n}").expect("the block ends").0;
+        for statement in block.split(';').filter(|statement| statement.contains("pub fn ")) {
+            let statement = one_line(statement);
+            let (name, rest) = statement.trim_start_matches("pub fn ").split_once('(').expect("it has arguments");
+            let (arguments, result) = rest.rsplit_once(") -> ").expect("it has a result");
+            let arguments = arguments.split(',').map(str::trim).filter(|argument| !argument.is_empty());
+            let pairs = arguments.map(|argument| argument.split_once(": ").expect("an argument has a type"));
+            found.insert(name.to_string(), (result.to_string(), pairs.map(|(name, kind)| (kind.to_string(), name.to_string())).collect()));
+        }
     }
+    found
+}
+
+fn of_headers() -> BTreeMap<String, Signature> {
+    let mut found = of_header(HEADER);
+    OTHERS.iter().for_each(|header| found.extend(of_header(header)));
     found
 }
 
 #[test]
 fn every_function_is_declared_as_its_header_has_it() {
-    let mut number = 0;
-    for (header, program) in HEADERS {
-        let (wanted, declared) = (of_header(header), of_program(program));
-        assert_eq!(declared, wanted);
-        number += wanted.len();
-    }
-    assert_eq!(number, 27 + 6 + 6);
+    let (wanted, declared) = (of_headers(), of_crate(DECLARED));
+    assert_eq!(declared, wanted);
+    assert_eq!(wanted.len(), 32 + 6 + 6);
 }
 
 #[test]
 fn another_type_or_order_is_noticed() {
-    let [(header, program), ..] = HEADERS;
+    let all = |header: &str| {
+        let mut found = of_headers();
+        found.extend(of_header(header));
+        found
+    };
+    assert_eq!(all(HEADER), of_crate(DECLARED));
     for (right, wrong) in [
         ("uint32_t n, uint32_t m", "uint32_t m, uint32_t n"),
         ("const uint8_t *table", "uint8_t *table"),
         ("size_t out_len", "uint32_t out_len"),
     ] {
-        assert_ne!(of_header(&header.replace(right, wrong)), of_program(program), "{wrong}");
+        assert_ne!(all(&HEADER.replace(right, wrong)), of_crate(DECLARED), "{wrong}");
     }
 }
 
 #[test]
 fn structs_lie_as_the_headers_have_them() {
+    type Snapshot = DesignSnapshot;
+    type Place = ServerPlace;
     assert_eq!((size_of::<Snapshot>(), offset_of!(Snapshot, taken), offset_of!(Snapshot, rows)), (1028, 0, 4));
     assert_eq!((size_of::<Design>(), offset_of!(Design, n), offset_of!(Design, m)), (17480, 0, 4));
     assert_eq!((offset_of!(Design, rows), offset_of!(Design, marks)), (8, 1032));
-    assert_eq!((size_of::<Outcome>(), offset_of!(Outcome, design), offset_of!(Outcome, status)), (17484, 0, 17480));
+    assert_eq!((size_of::<DesignOutcome>(), offset_of!(DesignOutcome, design), offset_of!(DesignOutcome, status)), (17484, 0, 17480));
     assert_eq!((size_of::<Place>(), offset_of!(Place, taken), offset_of!(Place, n), offset_of!(Place, m)), (1056, 0, 4, 8));
-    assert_eq!((offset_of!(Place, rows), offset_of!(Place, examined), offset_of!(Place, found)), (12, 1036, 1040));
+    assert_eq!((offset_of!(Place, rows), offset_of!(Place, examined), offset_of!(Place, count)), (12, 1036, 1040));
+    assert_eq!((offset_of!(Place, c), offset_of!(Place, w), offset_of!(Place, b)), (1044, 1048, 1052));
     assert_eq!((size_of::<Server>(), offset_of!(Server, places), offset_of!(Server, last)), (8452, 0, 8448));
-    type ServerOutcome = library_server::Outcome;
     assert_eq!((size_of::<ServerOutcome>(), offset_of!(ServerOutcome, server), offset_of!(ServerOutcome, status)), (8456, 0, 8452));
+}
+
+/// The numbers of the header's enum, each with its name and the comment before it.
+fn refusals_of_header() -> Vec<(u32, String, String)> {
+    let block = HEADER.split_once("enum satmegwo_refusal {").expect("it is there").1.split_once("};").expect("it ends").0;
+    let one = |part: &str| {
+        let (sentence, rest) = part.split_once("*/").expect("a comment ends");
+        let (name, number) = rest.trim().trim_end_matches(',').split_once(" = ").expect("it has a number");
+        let sentence = one_line(sentence).replace(" * ", " ");
+        (number.parse().expect("it is a number"), name.to_string(), sentence)
+    };
+    block.split("/*").skip(1).map(one).collect()
+}
+
+/// `InputWidth` is `SATMEGWO_REFUSED_INPUT_WIDTH`.
+fn name_in_c(refusal: Refusal) -> String {
+    let mut name = "SATMEGWO_REFUSED".to_string();
+    for letter in format!("{refusal:?}").chars() {
+        if letter.is_uppercase() {
+            name.push('_');
+        }
+        name.extend(letter.to_uppercase());
+    }
+    name
+}
+
+#[test]
+fn refusals_have_the_numbers_names_and_sentences_of_the_header() {
+    let wanted: Vec<(u32, String, String)> =
+        Refusal::ALL.iter().map(|refusal| (refusal.number(), name_in_c(*refusal), refusal.sentence().to_string())).collect();
+    assert_eq!(refusals_of_header(), wanted);
+}
+
+/// The value of a macro that is a number.
+fn bound(name: &str) -> usize {
+    let start = format!("#define {name} ");
+    let line = HEADER.lines().chain(OTHERS.iter().flat_map(|text| text.lines())).find_map(|line| line.strip_prefix(&start));
+    let word = line.and_then(|line| line.split_whitespace().next()).unwrap_or_else(|| panic!("{name} is not there"));
+    word.trim_end_matches('u').parse().expect("it is a number")
+}
+
+#[test]
+fn bounds_are_those_of_the_model() {
+    assert_eq!((bound("SATMEGWO_MOST_ROWS"), bound("SATMEGWO_FILE_BYTES")), (MOST_ROWS, 2 + 4 * MOST_ROWS));
+    assert_eq!((bound("SATMEGWO_MOST_INPUTS"), bound("SATMEGWO_MOST_OUTPUTS")), (8, 32));
+    assert_eq!((bound("SATMEGWO_MOST_COUNTS"), bound("SATMEGWO_MOST_CELLS")), (1 << 16, 255 * 128));
+    assert_eq!((bound("SATMEGWO_PAIRS_OF_A_COMBINATION"), bound("SATMEGWO_PACKED_BYTES")), (256, 32 * 256 / 8));
+    assert_eq!((bound("SATMEGWO_CATALOGUE_LEAST"), bound("SATMEGWO_CATALOGUE_MOST")), (catalogue::FIRST, 65_535));
+    assert_eq!((bound("SATMEGWO_MOST_RECORDS"), bound("SATMEGWO_MOST_BOXES")), (catalogue::MOST_RECORDS, rounds::MOST));
+    assert_eq!((bound("SATMEGWO_DESIGN_MARKS"), bound("SATMEGWO_SERVER_PLACES")), (MARKS, PLACES));
+    let parts = ["MAJOR", "MINOR", "PATCH"].map(|part| bound(&format!("SATMEGWO_VERSION_{part}")));
+    assert_eq!(bound("SATMEGWO_VERSION"), parts[0] * 10_000 + parts[1] * 100 + parts[2]);
+    assert_eq!(satmegwo::version() as usize, bound("SATMEGWO_VERSION"));
 }

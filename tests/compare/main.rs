@@ -14,11 +14,10 @@ mod guarded;
 #[cfg(test)]
 mod headers;
 mod lent;
-mod library;
-mod library_design;
-mod library_server;
 mod limits;
 mod maximal;
+mod nearest;
+mod nowhere;
 mod orders;
 mod packing;
 mod pages;
@@ -27,6 +26,7 @@ mod rounds;
 mod server;
 mod sheets;
 mod swaps;
+mod written;
 
 use std::path::Path;
 use std::process::ExitCode;

@@ -7,7 +7,7 @@ use second_model::model::{self, all_outputs};
 
 pub fn all(run: &mut Run) {
     for n in 1..=4 {
-        for right in 0..=6 {
+        for right in 0..=7 {
             tables(run, n, right);
             spectra_back(run, n, right);
             for m in [1, 3, 16, 31] {
@@ -74,13 +74,14 @@ fn boxes_alone(run: &mut Run, n: u32, m: u32, right: u32) {
     run.largest_cells(n, m, &rows, or_wrong(right >= 6, 1 << 9, 0), 1 + usize::from(right < 5));
 }
 
-/// 1, 2, 3, 4, 6, 7.
+/// 1, 2, 3, 4, 6, 7, and for the list of nearest pairs 9.
 fn boxes_with_limits(run: &mut Run, n: u32, m: u32, right: u32) {
     let (width, outputs, rows) = box_with_faults(run, n, m, right);
     let (i, more) = (or_wrong(right >= 5, 1, m + 1), usize::from(right < 6));
     for call in &LIMITED_CALLS {
         run.limited_figures(call, width, outputs, &rows, i, call.figures + more);
     }
+    run.nearest_pairs(width, outputs, &rows, i, (or_wrong(right >= 7, 1 << 10, 0), 1 + more));
     for wrong in [(m + 1, 1), (1, n + 1), (0, 0)] {
         run.dynamic_distance(width, outputs, &rows, or_wrong(right >= 5, (1, n), wrong), 3 + more);
     }

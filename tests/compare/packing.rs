@@ -1,7 +1,7 @@
 //! The calls of document 02, section 8, against the model: all widths, every refusal from
 //! both sides and in its order, damaged arguments, and the way there and back.
 use crate::calls::Run;
-use crate::library;
+use satmegwo::slices as library;
 use second_model::boxes::{self, KINDS};
 use second_model::model::all_outputs;
 use second_model::packing::{self, bytes_of_a_column};

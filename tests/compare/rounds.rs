@@ -2,7 +2,7 @@
 //! with nonsense in place of the boxes that are not read.
 use crate::calls::{Run, NONLINEARITY};
 use crate::lent::Kept;
-use crate::library;
+use satmegwo::slices as library;
 use second_model::boxes::{self, KINDS};
 use second_model::combinations::quick_limit;
 use second_model::model::all_outputs;

@@ -2,9 +2,8 @@
 //! over all places, and on servers of random bytes.
 use crate::calls::{Run, NONLINEARITY};
 use crate::forged::damaged_servers;
-use crate::guarded::server::{self as library, Place};
+use crate::guarded::server::{self as library, untouched_box, with_found, Place, EMPTY};
 use crate::lent::Lent;
-use crate::library_server::{untouched_box, EMPTY};
 use crate::parts::Work;
 use second_model::boxes::{self, KINDS};
 use second_model::model::{all_outputs, Answer};
@@ -34,10 +33,10 @@ struct Pair {
 /// Whether a place of the library's server holds what the model's does, and nothing more: an
 /// empty one zeros, and a box of which no combination was examined a count that no pair has.
 fn same_place(held: &Place, model: &Server, place: u32) -> bool {
-    let wanted = model.on(place).map_or(EMPTY, |analysis| Place {
-        examined: analysis.examined(),
-        found: analysis.least().unwrap_or([(1 << analysis.n) + 1, 0, 0, 0]),
-        ..untouched_box(analysis.n, analysis.m, &analysis.rows)
+    let wanted = model.on(place).map_or(EMPTY, |analysis| {
+        let found = analysis.least().unwrap_or([(1 << analysis.n) + 1, 0, 0, 0]);
+        let put = untouched_box(analysis.n, analysis.m, &analysis.rows);
+        with_found(Place { examined: analysis.examined(), ..put }, found)
     });
     *held == wanted
 }
@@ -306,10 +305,10 @@ mod tests {
             |held| held.rows[1] ^= 1,
             |held| held.rows[255] ^= 1,
             |held| held.examined += 1,
-            |held| held.found[0] += 1,
-            |held| held.found[1] += 1,
-            |held| held.found[2] += 1,
-            |held| held.found[3] += 1,
+            |held| held.count += 1,
+            |held| held.c += 1,
+            |held| held.w += 1,
+            |held| held.b += 1,
         ];
         for place in [1, 2, 5, 8] {
             for (number, change) in changes.iter().enumerate() {

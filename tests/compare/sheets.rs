@@ -7,7 +7,7 @@ use second_model::boxes::{self, KINDS};
 use second_model::model::file_of;
 use second_model::published;
 use second_model::random::Random;
-use second_model::sheet::sheet;
+use second_model::sheet::{sheet, BYTES};
 use std::fs;
 use std::io::Write;
 use std::os::unix::process::ExitStatusExt;
@@ -95,10 +95,12 @@ fn in_pieces(mut input: Input, file: &[u8], length: usize) {
     }
 }
 
-/// What the program prints for a file that is handed over in some way, compared with the model.
+/// What the program prints for a file that is handed over in some way, compared with the model; the
+/// library's sheet of the same file is compared too.
 fn compare(run: &mut Run, name: &str, file: &[u8], hand_over: impl FnOnce(Input, &[u8]) + Send) -> Output {
-    run.calling("boxsheet");
     let wanted = sheet(file);
+    run.sheet_known(file, BYTES, 1, Ok(wanted.clone()));
+    run.calling("boxsheet");
     let printed = output_of(file, hand_over);
     let same = printed.status.success() && printed.stderr.is_empty() && printed.stdout == wanted.as_bytes();
     run.compared(wanted.starts_with("refused"), same, || {

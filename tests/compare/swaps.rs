@@ -1,7 +1,7 @@
 //! The call of document 02, section 10, against the model: all small boxes, all widths, whole
 //! climbs, every refusal from both sides and in its order, and damaged arguments.
 use crate::calls::{Run, NONLINEARITY};
-use crate::library;
+use satmegwo::slices as library;
 use second_model::boxes::{self, KINDS};
 use second_model::model::{all_outputs, Answer};
 use second_model::swaps::{self, MOST_OUTPUTS};

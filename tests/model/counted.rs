@@ -6,6 +6,7 @@
 //! Each function gives the figures within every limit from 1 to `most` at once, since those
 //! within i are met on the way to those within i + 1.
 
+use crate::model::coded_pair;
 use std::cell::Cell;
 
 /// The values of a truth table, 64 to a word, the lowest bit first. With fewer than 64 values the
@@ -116,6 +117,29 @@ fn nonlinearities_of<const W: usize>(n: u32, m: u32, rows: &[u32], most: u32) ->
     };
     let bests = best_within((n, m, rows), most, nearest, |one, other| one[0] < other[0]);
     bests.into_iter().map(|(c, [d, w, b])| [d, c, w, b]).collect()
+}
+
+/// All pairs that differ at the fewest inputs, in their order.
+fn nearest_pairs_of<const W: usize>(n: u32, m: u32, rows: &[u32], i: u32) -> Vec<u64> {
+    let (size, lines) = (1 << n, lines::<W>(n));
+    let (mut least, mut pairs) = (u32::MAX, Vec::new());
+    let visit = |c: u32, f: &Words<W>| {
+        for (w, line) in (0..).zip(&lines) {
+            let differing = ones(&xor(f, line));
+            // With b = 1 they differ at all the other inputs.
+            for (b, count) in (0..).zip([differing, size - differing]) {
+                if count < least {
+                    least = count;
+                    pairs.clear();
+                }
+                if count == least {
+                    pairs.push(coded_pair(c, w, b));
+                }
+            }
+        }
+    };
+    visit_all(&columns(n, m, rows), i, visit, || ());
+    pairs
 }
 
 /// A box whose rows are swapped, with all lines: for pairs of a combination and an affine function
@@ -250,6 +274,11 @@ pub fn nonlinearities(n: u32, m: u32, rows: &[u32], most: u32) -> Vec<[u32; 4]> 
     with_words!(n, nonlinearities_of(n, m, rows, most))
 }
 
+/// All pairs within the limit i that differ at the fewest inputs, each as one number.
+pub fn nearest_pairs(n: u32, m: u32, rows: &[u32], i: u32) -> Vec<u64> {
+    with_words!(n, nearest_pairs_of(n, m, rows, i))
+}
+
 /// Figures within each limit: figure, c, s.
 pub fn autocorrelations(n: u32, m: u32, rows: &[u32], most: u32) -> Vec<[u32; 3]> {
     let (size, tried) = (1u32 << n, (1..1 << n).collect::<Vec<u32>>());
@@ -330,6 +359,7 @@ mod tests {
             assert_eq!(correlations[at], model::autocorrelation_by_definition(n, m, rows, i), "i = {i}, {shown}");
             assert_eq!(distances[at], model::dynamic_distance_by_definition(n, m, rows, i, j), "i = {i}, j = {j}, {shown}");
             assert_eq!(least[at], model::degree_by_definition(m, rows, i), "i = {i}, {shown}");
+            assert_eq!(nearest_pairs(n, m, rows, i), model::nearest_pairs_by_definition(n, m, rows, i), "i = {i}, {shown}");
         }
     }
 

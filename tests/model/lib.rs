@@ -5,7 +5,9 @@
 //! figures stand, and how long their arrays are; that a raising swap is 1, low, high and the new
 //! figure, and "none" four zeros; that a finished box is 1 and its four figures; that 7 is told of a
 //! server's array after 18 and 19, and of a file's or a design's after everything else; that a
-//! server examines the combinations 1, 2, 3 and so on, and what its fields hold.
+//! server examines the combinations 1, 2, 3 and so on, and what its fields hold. Calls that no document
+//! asks for are the headers' alone: a box that is checked or written, a sheet in an array of 332 bytes, all
+//! nearest pairs.
 //!
 //! `model` follows the definitions word for word, value by value; `counted` counts the same by packed
 //! words, and takes its place for wide boxes. Up to 16 outputs, and up to the limit 4 above, every

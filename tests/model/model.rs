@@ -145,6 +145,25 @@ pub fn nonlinearity_by_definition(n: u32, m: u32, rows: &[u32], i: u32) -> [u32;
     best
 }
 
+/// A pair in the list of all nearest pairs: c * 512 + 2 * w + b.
+pub fn coded_pair(c: u32, w: u32, b: u32) -> u64 {
+    u64::from(c) * 512 + 2 * u64::from(w) + u64::from(b)
+}
+
+/// All pairs that differ at the fewest inputs: the combinations in their order, then w, then b.
+pub fn nearest_pairs_by_definition(n: u32, m: u32, rows: &[u32], i: u32) -> Vec<u64> {
+    let least = nonlinearity_by_definition(n, m, rows, i)[0];
+    let lines: Vec<Vec<u8>> = (0..1 << n).map(|w| linear(n, w)).collect();
+    let mut pairs = Vec::new();
+    for c in within(m, i) {
+        let f = combination(rows, c);
+        for (w, line) in (0..).zip(&lines) {
+            pairs.extend((0..2).filter(|&b| count_of_differing(&f, line, b) == least).map(|b| coded_pair(c, w, b)));
+        }
+    }
+    pairs
+}
+
 /// The cells of one row of the XOR table that are not 0: for each β its count of x with
 /// S(x) XOR S(x XOR a) = β, in ascending β.
 fn cells_by_definition(rows: &[u32], a: u32) -> BTreeMap<u32, u32> {
@@ -343,6 +362,19 @@ pub fn nonlinearity(n: u32, m: u32, rows: &[u32], i: u32, figures_len: usize) ->
     })
 }
 
+/// The pairs in their order; their number is the figure.
+pub fn nearest_pairs(n: u32, m: u32, rows: &[u32], i: u32, list_len: usize, figures_len: usize) -> Answer<Vec<u64>> {
+    check_box(n, m, rows)?;
+    check_parameter(i, 1, m)?;
+    check_written(figures_len, 1)?;
+    let pairs = match way(n, m, i) {
+        Way::ByDefinition => nearest_pairs_by_definition(n, m, rows, i),
+        _ => counted::nearest_pairs(n, m, rows, i),
+    };
+    refuse_when(list_len < pairs.len(), LIST_TOO_SHORT)?;
+    Ok(pairs)
+}
+
 pub fn add_to_column(n: u32, m: u32, rows: &[u32], j: u32, w: u32, b: u32, out_len: usize) -> Answer<Vec<u32>> {
     check_box(n, m, rows)?;
     check_parameter(j, 1, m)?;
@@ -505,6 +537,13 @@ pub fn read_box(file: &[u8], rows_len: usize, figures_len: usize) -> Answer<File
     check_written(rows_len, 1 << read.n)?;
     check_written(figures_len, 2)?;
     Ok(read)
+}
+
+/// The file of a box, to be written to an array of exactly its length.
+pub fn write_box(n: u32, m: u32, rows: &[u32], file_len: usize) -> Answer<Vec<u8>> {
+    check_box(n, m, rows)?;
+    check_written(file_len, 2 + 4 * (1 << n))?;
+    Ok(file_of(n, m, rows))
 }
 
 /// The file that holds a box.
@@ -692,6 +731,29 @@ mod tests {
         assert_eq!(largest_cells(1, 1, &[0, 0], 0, 1), Err(9));
     }
 
+    /// The identity of two bits: each of its three combinations is one linear function, and differs
+    /// from it nowhere.
+    #[test]
+    fn the_nearest_pairs_of_a_linear_box() {
+        let pairs = vec![coded_pair(1, 1, 0), coded_pair(2, 2, 0), coded_pair(3, 3, 0)];
+        assert_eq!(pairs, [514, 1028, 1542]);
+        assert_eq!(nearest_pairs(2, 2, &[0, 1, 2, 3], 2, 3, 1), Ok(pairs.clone()));
+        assert_eq!(nearest_pairs(2, 2, &[0, 1, 2, 3], 1, 9, 1), Ok(pairs[..2].to_vec()));
+        assert_eq!(nearest_pairs(2, 2, &[0, 1, 2, 3], 2, 2, 1), Err(9));
+        assert_eq!(nearest_pairs(2, 2, &[0, 1, 2, 3], 2, 2, 0), Err(7));
+        assert_eq!(nearest_pairs(2, 2, &[0, 1, 2, 3], 3, 2, 0), Err(6));
+    }
+
+    /// Fewer outputs come first, and within a combination w, then b: x AND y differs at one input from
+    /// 0, x, y and NOT (x XOR y), and so does the same column shifted.
+    #[test]
+    fn the_nearest_pairs_of_a_bent_function() {
+        let of = |c: u32| [coded_pair(c, 0, 0), coded_pair(c, 1, 0), coded_pair(c, 2, 0), coded_pair(c, 3, 1)];
+        assert_eq!(nearest_pairs(2, 1, &[0, 0, 0, 1], 1, 4, 1), Ok(of(1).to_vec()));
+        assert_eq!(nearest_pairs(2, 3, &[0, 0, 0, 5], 1, 8, 1), Ok(vec![coded_pair(2, 0, 0)]));
+        assert_eq!(nearest_pairs(2, 2, &[0, 0, 0, 3], 1, 8, 1), Ok([of(1), of(2)].concat()));
+    }
+
     /// 1, 2, 3, 4, then 6 for the limit, then 7.
     #[test]
     fn a_limit_is_looked_at_after_the_box_and_before_the_figures() {
@@ -710,6 +772,17 @@ mod tests {
         assert_eq!(file_of(1, 32, &[0x0403_0201, 255]), [1, 32, 1, 2, 3, 4, 255, 0, 0, 0]);
         let read = read_box(&[1, 32, 1, 2, 3, 4, 255, 0, 0, 0], 2, 2);
         assert_eq!(read, Ok(FileBox { n: 1, m: 32, rows: vec![0x0403_0201, 255] }));
+    }
+
+    #[test]
+    fn a_box_is_written_as_its_file() {
+        assert_eq!(write_box(1, 32, &[0x0403_0201, 255], 10), Ok(vec![1, 32, 1, 2, 3, 4, 255, 0, 0, 0]));
+        assert_eq!(write_box(3, 3, &F, 34), Ok(file_of(3, 3, &F)));
+        assert_eq!(write_box(9, 33, &[], 0), Err(1));
+        assert_eq!(write_box(1, 33, &[], 0), Err(2));
+        assert_eq!(write_box(1, 1, &[2], 0), Err(3));
+        assert_eq!(write_box(1, 1, &[0, 2], 0), Err(4));
+        assert_eq!(write_box(1, 1, &[0, 1], 9), Err(7));
     }
 
     #[test]

@@ -96,6 +96,15 @@ pub fn improve(name: &str) -> String {
     }
 }
 
+/// examples/pairs.c.
+pub fn pairs(i: u32, name: &str) -> String {
+    let Published { n, m, rows, .. } = box_named(name);
+    let [d, ..] = told(model::nonlinearity(n, m, &rows, i, 4));
+    let pairs = told(model::nearest_pairs(n, m, &rows, i, usize::MAX, 1));
+    let line = |pair: &u64| format!("combination {} against w = {}, b = {}\n", pair / 512, pair / 2 % 256, pair % 2);
+    format!("nonlinearity {d}; pairs that reach it: {}\n", pairs.len()) + &pairs.iter().map(line).collect::<String>()
+}
+
 /// A tuning run as it is printed.
 struct Tuning {
     design: Design,
@@ -198,6 +207,33 @@ pub fn server(names: [&str; 3]) -> String {
     run.ask(1);
     run.ask(4);
     run.text
+}
+
+/// examples/fields.c: the fields of a design whose mark 16 is set before a swap, and of a server with the
+/// same box on place 8, six of its combinations examined.
+pub fn fields() -> String {
+    let (mut design, mut server) = (Design::begin(3, 3, &EXAMPLE).0, Server::default());
+    told(design.operate(Operation::Mark(16)));
+    told(design.operate(Operation::Swap(0, 7)));
+    let taken = |k: u32| u32::from(design.kept(k).is_some());
+    told(server.put(8, 3, 3, &EXAMPLE));
+    (0..6).for_each(|_| server.step());
+    let held = server.on(8).expect("it was put there");
+    let [count, c, w, b] = held.least().expect("some were examined");
+    [
+        format!("design of {} inputs and {} outputs, marks 15 and 16: {} {}\n", design.n, design.m, taken(15), taken(16)),
+        line("rows", design.rows()),
+        line("mark 16", design.kept(16).expect("it was set")),
+        format!("server, last served {}; place 7 taken {}\n", server.last, u32::from(server.on(7).is_some())),
+        format!(
+            "place 8 taken 1, {} inputs, {} outputs, {} examined, count {count}, c {c}, w {w}, b {b}\n",
+            held.n,
+            held.m,
+            held.examined()
+        ),
+        line("rows", &held.rows),
+    ]
+    .concat()
 }
 
 /// The boxes that the program of the crate `published` reads: all whose combinations can be run.

@@ -11,6 +11,17 @@ pub fn limit(m: u32) -> u32 {
     }
 }
 
+/// A sheet goes to an array of so many bytes: no sheet is longer.
+pub const BYTES: usize = 332;
+
+/// The sheet, where the arrays for it and for its length have the right lengths. A file that is no box
+/// file has a sheet too.
+pub fn written(file: &[u8], text_len: usize, figures_len: usize) -> Answer<String> {
+    model::check_written(text_len, BYTES)?;
+    model::check_written(figures_len, 1)?;
+    Ok(sheet(file))
+}
+
 /// The text for a box file: nine lines, or the one line of a refusal.
 pub fn sheet(file: &[u8]) -> String {
     match model::parse_file(file).and_then(|read| lines(&read)) {
@@ -85,6 +96,14 @@ mod tests {
     fn the_limit_is_m_up_to_16_and_4_above() {
         for (m, i) in [(1, "1"), (4, "4"), (5, "5"), (15, "15"), (16, "16"), (17, "4"), (32, "4")] {
             assert_eq!(limits(&sheet(&file_of(1, m, &[0, 1]))), [i; 3], "m = {m}");
+        }
+    }
+
+    #[test]
+    fn the_lengths_of_both_arrays_are_looked_at() {
+        assert_eq!(written(&[], BYTES, 1).as_deref(), Ok("refused 10\n"));
+        for (text_len, figures_len) in [(BYTES - 1, 1), (BYTES + 1, 1), (BYTES, 0), (BYTES, 2), (0, 0)] {
+            assert_eq!(written(&[], text_len, figures_len), Err(7));
         }
     }
 

@@ -13,6 +13,9 @@ RIGHT(satmegwo_degree);
 RIGHT(satmegwo_add_to_column);
 RIGHT(satmegwo_sum_nonlinearity);
 RIGHT(satmegwo_raising_swap);
+RIGHT(satmegwo_nearest_pairs);
+RIGHT(satmegwo_write_box);
+RIGHT(satmegwo_sheet);
 RIGHT(satmegwo_xor_row);
 RIGHT(satmegwo_add_record);
 RIGHT(satmegwo_compact_catalogue);
@@ -139,6 +142,12 @@ uint32_t satmegwo_sum_nonlinearity(uint32_t count,
     return number;
 }
 
+static int by_number(const void *one, const void *other)
+{
+    uint64_t a = *(const uint64_t *)one, b = *(const uint64_t *)other;
+    return (a > b) - (a < b);
+}
+
 /* Finds no swap in a wide box. */
 uint32_t satmegwo_raising_swap(uint32_t n, uint32_t m, const uint32_t *rows, size_t rows_len, uint32_t *figures,
                                size_t figures_len)
@@ -149,12 +158,44 @@ uint32_t satmegwo_raising_swap(uint32_t n, uint32_t m, const uint32_t *rows, siz
     return number;
 }
 
+/* Writes behind the last pair, or gives the pairs in ascending order of their numbers. */
+uint32_t satmegwo_nearest_pairs(uint32_t n, uint32_t m, const uint32_t *rows, size_t rows_len, uint32_t i, uint64_t *list,
+                                size_t list_len, uint64_t *figures, size_t figures_len)
+{
+    uint32_t number = right_satmegwo_nearest_pairs(n, m, rows, rows_len, i, list, list_len, figures, figures_len);
+    if (is_wrong("written-behind-the-pairs") && number == 0 && figures[0] < list_len)
+        list[figures[0]] ^= 1;
+    if (is_wrong("pairs-in-another-order") && number == 0)
+        qsort(list, figures[0], sizeof list[0], by_number);
+    return number;
+}
+
 /* Looks for 6 before 4. */
 uint32_t satmegwo_xor_row(uint32_t n, uint32_t m, const uint32_t *rows, size_t rows_len, uint32_t a,
                           uint16_t *counts, size_t counts_len)
 {
     uint32_t number = right_satmegwo_xor_row(n, m, rows, rows_len, a, counts, counts_len);
     return is_wrong("order-of-checks") && number == 4 && (a == 0 || a >= 1u << n) ? 6 : number;
+}
+
+/* Writes the rows with the high byte first. */
+uint32_t satmegwo_write_box(uint32_t n, uint32_t m, const uint32_t *rows, size_t rows_len, uint8_t *file, size_t file_len)
+{
+    uint32_t number = right_satmegwo_write_box(n, m, rows, rows_len, file, file_len);
+    if (is_wrong("high-byte-first") && number == 0)
+        for (size_t x = 0; x < rows_len; x++)
+            for (size_t k = 0; k < 4; k++)
+                file[2 + 4 * x + k] = (uint8_t)(rows[x] >> (24 - 8 * k));
+    return number;
+}
+
+/* Ends the text with a zero, as C programs do. */
+uint32_t satmegwo_sheet(const uint8_t *file, size_t file_len, uint8_t *text, size_t text_len, uint32_t *figures, size_t figures_len)
+{
+    uint32_t number = right_satmegwo_sheet(file, file_len, text, text_len, figures, figures_len);
+    if (is_wrong("zero-behind-the-sheet") && number == 0 && figures[0] < text_len)
+        text[figures[0]] = 0;
+    return number;
 }
 
 static size_t word(const uint8_t *bytes)

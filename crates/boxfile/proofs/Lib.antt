@@ -1,2 +1,5 @@
 pub mod FileRows
 pub mod FileRoom
+pub mod FileBytes
+pub mod Written
+pub mod Theorems

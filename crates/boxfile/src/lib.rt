@@ -1,14 +1,16 @@
-// Reads a box file.
+// Reads and writes a box file.
 use refusals::Checked;
 use refusals::Refusal;
+use refusals::Written;
 ghost use mathlib.Core.Path.{_≡_};
-ghost use mathlib.Core.List.{[], _∷_};
 ghost use Prim.Native.Nat.{_+_, _*_, _^_, _<_, _≤_};
 ghost use lib.ListN.{length};
+ghost use lib.Seq.{sets};
 ghost use Rattle.boolean.specs.Functions.{at};
-ghost use Rattle.boolean.specs.Sums.{largestBelow};
-ghost use Rattle.refusals.specs.Table.{first, allBelow, Wrote};
-ghost use Rattle.boxfile.specs.File.{rowAt, fileRows, readChecks, fileChecks, saidBoxFile, roomOf, fileFound};
+ghost use Rattle.boolean.specs.Sums.{largestBelow, each};
+ghost use Rattle.refusals.specs.Table.{first, allBelow};
+ghost use Rattle.boxfile.specs.File.{rowAt, fileRows, readChecks, fileChecks, ReadCalled, roomOf, fileFound};
+ghost use Rattle.boxfile.specs.File.{rowBytes, writeChecks, WriteCalled};
 
 // The answer of reading a file: the widths of its box.
 pub enum BoxFile {
@@ -110,11 +112,7 @@ pub fn check_file(file: &[u8], room: usize) -> Checked
 
 // Reads a box from the bytes of its file: the widths are the answer, and the rows go to the lent array.
 pub fn read_box(file: &[u8], rows: &mut [u32]) -> BoxFile
-    ensures { λ r. ⌜ Wrote
-        (fileChecks (now (file .entry)) (length (now (rows .entry))))
-        (at (now (file .entry)) 0 ∷ at (now (file .entry)) 1 ∷ [])
-        (fileRows (now (file .entry)) (at (now (file .entry)) 0))
-        (now (rows .entry)) (saidBoxFile r) (now (rows .exit)) ⌝ }
+    ensures { λ r. ⌜ ReadCalled (now (file .entry)) (now (rows .entry)) r (now (rows .exit)) ⌝ }
 {
     if let Checked::Refused(e) = check_file(file, rows.len()) {
         return BoxFile::Declined(e);
@@ -147,4 +145,53 @@ pub fn check_alone(file: &[u8]) -> Checked
 {
     let rows = room_of(file);
     check_file(file, rows)
+}
+
+// The four bytes of a row at a place, low byte first.
+fn put_row(file: &mut [u8], place: usize, row: u32)
+    requires { ⌜ place + 3 < length (now file) ⌝ }
+    ensures { λ _. ⌜ now (file .exit) ≡ sets (now (file .entry)) place (rowBytes row) ⌝ }
+{
+    file[place] = (row % 256) as u8;
+    file[place + 1] = (row / 256 % 256) as u8;
+    file[place + 2] = (row / 65536 % 256) as u8;
+    file[place + 3] = (row / 16777216 % 256) as u8;
+}
+
+// The bytes of all rows, behind n and m.
+fn put_rows(rows: &[u32], file: &mut [u8])
+    requires { ⌜ length (now file) ≡ 2 + 4 * length (now rows) ⌝ }
+    ensures { λ _. ⌜ now (file .exit) ≡ sets (now (file .entry)) 2 (each (now (rows .entry)) rowBytes) ⌝ }
+{
+    let mut x = 0;
+    while x < rows.len() {
+        put_row(file, 2 + 4 * x, rows[x]);
+        x += 1;
+    }
+}
+
+// The checks of writing.
+fn check_write(n: u32, m: u32, rows: &[u32], room: usize) -> Checked
+    ensures { λ r. ⌜ r ≡ first (writeChecks n m (now (rows .entry)) room) ⌝ }
+{
+    if let Checked::Refused(e) = refusals::check_box(n, m, rows) {
+        return Checked::Refused(e);
+    }
+    if room != 2 + 4 * rows.len() {
+        return Checked::Refused(Refusal::WrittenLength);
+    }
+    Checked::Accepted
+}
+
+// Writes the file of a box to the lent array.
+pub fn write_box(n: u32, m: u32, rows: &[u32], file: &mut [u8]) -> Written
+    ensures { λ r. ⌜ WriteCalled n m (now (rows .entry)) (now (file .entry)) r (now (file .exit)) ⌝ }
+{
+    if let Checked::Refused(e) = check_write(n, m, rows, file.len()) {
+        return Written::Declined(e);
+    }
+    file[0] = n as u8;
+    file[1] = m as u8;
+    put_rows(rows, file);
+    Written::Done
 }

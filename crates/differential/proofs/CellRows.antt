@@ -24,7 +24,7 @@ use Rattle.differential.specs.Statements.{cellCandidate}
 use Rattle.differential.proofs.Cells.{in-cellsOf, mem-cellsOf, ascending-cellsOf}
 
 -- ---- lists in general
-map-each : {A B C : Type 0} (f : B → C) (xs : List A) (g : A → List B) → map f (each xs g) ≡ each xs (λ x. map f (g x))
+pub map-each : {A B C : Type 0} (f : B → C) (xs : List A) (g : A → List B) → map f (each xs g) ≡ each xs (λ x. map f (g x))
 unfolding each
 map-each f [] g = refl
 map-each {C = C} f (x ∷ xs) g = map-append f (g x) (each xs g) ∙ ap (λ (l : List C). map f (g x) ++ l) (map-each f xs g)

@@ -9,30 +9,37 @@ use catalogue::Told;
 use differential::CellList;
 use differential::LargestCell;
 use linear::LeastPair;
+use nearest::PairList;
+use refusals::Checked;
+use refusals::Refusal;
 use rounds::Widths;
 use swaps::RaisingSwap;
 ghost use mathlib.Core.List.{[], _∷_};
 ghost use Prim.Native.Nat.{_^_};
+ghost use mathlib.Core.Path.{_≡_};
 ghost use lib.ListN.{length};
+ghost use lib.Seq.{sets};
 ghost use Rattle.boolean.specs.Sums.{listBelow};
 ghost use Rattle.boolean.specs.Functions.{at, valueAt, component, spectrum, inverse, normalForm};
-ghost use Rattle.refusals.specs.Table.{tableCallChecks};
+ghost use Rattle.refusals.specs.Table.{tableCallChecks, boxChecks, first, replyAfter};
 ghost use Rattle.walsh.specs.Calls.{inverseChecks};
 ghost use Rattle.linear.specs.Calls.{componentChecks};
 ghost use Rattle.linear.specs.Nonlinearity.{nonlinearityReply};
 ghost use Rattle.columns.specs.Addition.{additionChecks, addedRows};
 ghost use Rattle.differential.specs.XorTable.{xorRow, largestCells};
 ghost use Rattle.differential.specs.Calls.{rowChecks, largestCellReply, listAfter};
+ghost use Rattle.nearest.specs.NearestPairs.{nearestPairs};
 ghost use Rattle.avalanche.specs.Calls.{autocorrelationReply, distanceReply, completeReply};
 ghost use Rattle.algebraic.specs.Calls.{boxDegreeReply, bijectiveReply};
 ghost use Rattle.constructions.specs.Enlargement.{enlargedTable, enlargedRows};
 ghost use Rattle.constructions.specs.BentForm.{bentTable};
 ghost use Rattle.constructions.specs.Calls.{columnChecks, enlargeChecks, bentChecks};
-ghost use Rattle.boxfile.specs.File.{fileRows};
+ghost use Rattle.boxfile.specs.File.{fileRows, writeChecks, fileOf};
 ghost use Rattle.rounds.specs.Round.{summandOf, sumReply};
 ghost use Rattle.swaps.specs.Swaps.{raisingReply};
-ghost use Rattle.border.specs.Border.{WroteOut, FiguresOut};
-ghost use Rattle.satmegwo.specs.Exports.{cellsChecks, readBoxChecks, addRecordChecks};
+ghost use Rattle.border.specs.Border.{WroteOut, FiguresOut, status};
+ghost use Rattle.satmegwo.specs.Exports.{cellsChecks, readBoxChecks, addRecordChecks, sheetChecks, version, nearestChecks};
+ghost use Rattle.sheet.specs.Sheet.{sheetText};
 ghost use Rattle.catalogue.specs.Calls.{checkReply, fetchReply, catalogueChecks, indexChecks, gapFor, gapIndex, removed, added, compacted};
 ghost use Rattle.packing.specs.Packing.{packed as packedForm, unpacked, packChecks, unpackChecks};
 
@@ -414,5 +421,83 @@ pub extern "C" fn satmegwo_raising_swap(n: u32, m: u32, rows: &[u32], figures: &
         RaisingSwap::Raised { low, high, figure } => border::give(&[1, low, high, figure], figures),
         RaisingSwap::NoSwap => border::give(&[0u32, 0, 0, 0], figures),
         RaisingSwap::Declined(e) => refusals::number_of(e),
+    }
+}
+
+// The checks 1 to 4 of a box, by themselves.
+#[no_mangle]
+pub extern "C" fn satmegwo_check_box(n: u32, m: u32, rows: &[u32]) -> u32
+    ensures { λ r. ⌜ r ≡ status (replyAfter (first (boxChecks n m (now (rows .entry)))) []) ⌝ }
+{
+    match refusals::check_box(n, m, rows) {
+        Checked::Accepted => 0,
+        Checked::Refused(e) => refusals::number_of(e),
+    }
+}
+
+// Writes the file of a box.
+#[no_mangle]
+pub extern "C" fn satmegwo_write_box(n: u32, m: u32, rows: &[u32], file: &mut [u8]) -> u32
+    ensures { λ r. ⌜ WroteOut (writeChecks n m (now (rows .entry)) (length (now (file .entry))))
+        (fileOf n m (now (rows .entry))) (now (file .entry)) r (now (file .exit)) ⌝ }
+{
+    border::status_of(boxfile::write_box(n, m, rows, file))
+}
+
+// Writes the sheet of a box file at the start of the text, and how many bytes it has: a refused file has a sheet too. The sheet is made in
+// an array whose type says its length, and then copied. Neither array is written to unless both can be.
+#[no_mangle]
+pub extern "C" fn satmegwo_sheet(file: &[u8], text: &mut [u8], figures: &mut [u32]) -> u32
+    ensures size { λ r. ⌜ WroteOut (sheetChecks (length (now (text .entry))) (length (now (figures .entry))))
+        (length (sheetText (now (file .entry))) ∷ []) (now (figures .entry)) r (now (figures .exit)) ⌝ }
+    ensures text { λ r. ⌜ WroteOut (sheetChecks (length (now (text .entry))) (length (now (figures .entry))))
+        (sets (now (text .entry)) 0 (sheetText (now (file .entry)))) (now (text .entry)) r (now (text .exit)) ⌝ }
+{
+    if text.len() != 332 {
+        return refusals::number_of(Refusal::WrittenLength);
+    }
+    let room = figures.len();
+    if room != 1 {
+        return refusals::number_of(Refusal::WrittenLength);
+    }
+    let mut made = [0u8; 332];
+    let size = sheet::write_sheet(file, &mut made);
+    texts::put_bytes(text, 0, &made[..size]);
+    border::give(&[size as u32], figures)
+}
+
+// The version of the library.
+#[no_mangle]
+pub extern "C" fn satmegwo_version() -> u32
+    ensures { λ r. ⌜ r ≡ version ⌝ }
+{
+    10000
+}
+
+// All pairs that differ at as few inputs as the nonlinearity within the limit i says, and how many they are.
+#[no_mangle]
+pub extern "C" fn satmegwo_nearest_pairs(
+    n: u32,
+    m: u32,
+    rows: &[u32],
+    i: u32,
+    list: &mut [u64],
+    figures: &mut [u64],
+) -> u32
+    ensures count { λ r. ⌜ WroteOut (nearestChecks n m (now (rows .entry)) i (length (now (figures .entry))) (length (now (list .entry))))
+        (length (nearestPairs n m (now (rows .entry)) i) ∷ []) (now (figures .entry)) r (now (figures .exit)) ⌝ }
+    ensures pairs { λ r. ⌜ WroteOut (nearestChecks n m (now (rows .entry)) i (length (now (figures .entry))) (length (now (list .entry))))
+        (listAfter (nearestPairs n m (now (rows .entry)) i) (now (list .entry))) (now (list .entry)) r (now (list .exit)) ⌝ }
+{
+    let counts = figures.len();
+    if counts != 1 {
+        return border::number_for_room(refusals::check_limited(n, m, rows, i));
+    }
+    match nearest::nearest_pairs(n, m, rows, i, list) {
+        PairList::Listed { count } => {
+            figures[0] = count;
+            0
+        }
+        PairList::Declined(e) => refusals::number_of(e),
     }
 }

@@ -1,15 +1,14 @@
 -- `boxfile::read_box` meets its contract: what the checks found says which case it is, in the reply and in the array. Assumes nothing.
 use mathlib.Core.Path.{_≡_, sym, ap, ap₂, _∙_, subst}
-use mathlib.Core.List.{List, [], _∷_}
-use Prim.Native.Nat.{ℕ, _+_, _*_, _^_, _≤_}
+use mathlib.Core.List.{[], _∷_}
+use Prim.Native.Nat.{ℕ, _+_, _*_, _^_}
 use native.Mathlib.Omega.{arith}
-use borrow.Author.Tests.{leb-true, eqb-true}
 use lib.ListN.{length}
-use Rattle.boolean.specs.Functions.{at}
 use Rattle.refusals.specs.Table.{first, figures}
 use Rattle.refusals.specs.declared.Checked.the-variants.{Accepted}
-use Rattle.refusals.proofs.Checks.{passed, reply-refused, reply-accepted, after-refused, after-accepted}
-use Rattle.boxfile.specs.File.{fileRows, readChecks, fileChecks}
+use Rattle.refusals.proofs.Checks.{reply-refused, reply-accepted, after-refused, after-accepted}
+use Rattle.boxfile.specs.File.{fileRows, fileChecks}
+use Rattle.boxfile.proofs.FileRows.{Whole, whole}
 use borrow.Author.Needs.{needs}
 use Rattle.boxfile.proofs.read_box.Statement.{statement}
 use Rattle.boxfile.proofs.read_box.Tie as tie
@@ -25,22 +24,10 @@ accepted : (c : tie.After-enum-told) →
     first (fileChecks (a .file .now) (length (a .rows .now))) ≡ Accepted
 accepted c = sym (c .before .before .check-file .ensures) ∙ c .enum-told .given .1
 
--- what the checks of an accepted file say
-record Whole (file rows : List ℕ) : Type 0 where
-  two : 2 ≤ length file
-  size : length file ≡ 2 + 4 * 2 ^ at file 0
-  room : length rows ≡ 2 ^ at file 0
-
-whole : (file rows : List ℕ) → first (fileChecks file (length rows)) ≡ Accepted → Whole file rows
-unfolding fileChecks readChecks
-whole file rows h =
-    let p = passed (fileChecks file (length rows)) h in
-    record { two = leb-true 2 (length file) (p .0); size = eqb-true _ _ (p .1 .1 .1 .0); room = eqb-true _ _ (p .1 .1 .1 .1 .1 .0) }
-
 known : (c : tie.After-enum-told) →
     let a = c .before .before .before .before .before .args in
-    Whole (a .file .now) (a .rows .now)
-known c = let a = c .before .before .before .before .before .args in whole (a .file .now) (a .rows .now) (accepted c)
+    Whole (a .file .now) (length (a .rows .now))
+known c = let a = c .before .before .before .before .before .args in whole (a .file .now) (length (a .rows .now)) (accepted c)
 
 shared-slice-read-wide : tie.Need-shared-slice-read-wide
 shared-slice-read-wide c = omega (arith, known (c .before) .two)
@@ -50,7 +37,7 @@ write-rows-requires c κs =
     let w = c .before in
     let told = w .before .before in
     let a = told .before .before .before .before .before .args in
-    subst (λ (n : ℕ). (length (a .rows .now) ≡ 2 ^ n) × (length (a .file .now) ≡ 2 + 4 * 2 ^ n)) (sym (w .wide .ensures .0)) (known told .room, known told .size)
+    subst (λ (n : ℕ). (length (a .rows .now) ≡ 2 ^ n) × (length (a .file .now) ≡ 2 + 4 * 2 ^ n)) (sym (w .wide .ensures .0)) (known told .room-is, known told .size)
 
 shared-slice-read-wide-2 : tie.Need-shared-slice-read-wide-2
 shared-slice-read-wide-2 c = omega (arith, known (c .before .before .before .before .before .before .before) .two)

@@ -1,132 +1,149 @@
-//! The library's exports and safe faces for them.
+//! One function for each of the library's calls, with slices in place of pointers and lengths. Each
+//! returns 0, or the number of a refusal, and has written to no slice then.
 //!
-//! A slice is two C arguments, its pointer and its number of elements. Every function
-//! returns 0, or the number of a refusal.
-#![allow(dead_code)] // the benchmark shares this file and calls fewer of the functions
+//! Nothing is allocated here and every argument may be wrong: this is what C callers have, with the
+//! lifetimes checked. `include/satmegwo.h` says what each reads and writes. [`crate::Sbox`] and its
+//! neighbours have the same calls with results in place of numbers.
+//!
+//! ```
+//! let mut figures = [0; 4];
+//! let number = satmegwo::slices::nonlinearity(3, 3, &[3, 1, 4, 0, 2, 5, 6, 7], 2, &mut figures);
+//! assert_eq!((number, figures), (0, [2, 1, 1, 0]));
+//! let number = satmegwo::slices::nonlinearity(3, 3, &[3, 1, 4, 0, 2, 5, 6, 7], 2, &mut figures[..3]);
+//! assert_eq!(number, 7);
+//! ```
+#![allow(missing_docs)] // the header has a paragraph on each
+#![allow(unsafe_code)]
+// The pointers below come from slices that live for the whole call and are passed with their own
+// lengths; what is written is borrowed for that alone, so that it overlaps nothing; and the library
+// keeps no pointer.
+use crate::raw;
 
-#[rustfmt::skip]
-pub mod raw {
-    #[link(name = "satmegwo", kind = "static")]
-    extern "C" {
-        pub fn satmegwo_spectrum(n: u32, table: *const u8, table_len: usize, out: *mut i32, out_len: usize) -> u32;
-        pub fn satmegwo_inverse_spectrum(n: u32, values: *const i32, values_len: usize, table: *mut u8, table_len: usize) -> u32;
-        pub fn satmegwo_component_spectrum(n: u32, m: u32, rows: *const u32, rows_len: usize, c: u32, out: *mut i32, out_len: usize) -> u32;
-        pub fn satmegwo_nonlinearity(n: u32, m: u32, rows: *const u32, rows_len: usize, i: u32, figures: *mut u32, figures_len: usize) -> u32;
-        pub fn satmegwo_add_to_column(n: u32, m: u32, rows: *const u32, rows_len: usize, j: u32, w: u32, b: u32, out: *mut u32, out_len: usize) -> u32;
-        pub fn satmegwo_xor_row(n: u32, m: u32, rows: *const u32, rows_len: usize, a: u32, counts: *mut u16, counts_len: usize) -> u32;
-        pub fn satmegwo_largest_cell(n: u32, m: u32, rows: *const u32, rows_len: usize, figures: *mut u32, figures_len: usize) -> u32;
-        pub fn satmegwo_largest_cells(n: u32, m: u32, rows: *const u32, rows_len: usize, list: *mut u64, list_len: usize, figures: *mut u32, figures_len: usize) -> u32;
-        pub fn satmegwo_autocorrelation(n: u32, m: u32, rows: *const u32, rows_len: usize, i: u32, figures: *mut u32, figures_len: usize) -> u32;
-        pub fn satmegwo_dynamic_distance(n: u32, m: u32, rows: *const u32, rows_len: usize, i: u32, j: u32, figures: *mut u32, figures_len: usize) -> u32;
-        pub fn satmegwo_normal_form(n: u32, table: *const u8, table_len: usize, out: *mut u8, out_len: usize) -> u32;
-        pub fn satmegwo_degree(n: u32, m: u32, rows: *const u32, rows_len: usize, i: u32, figures: *mut u32, figures_len: usize) -> u32;
-        pub fn satmegwo_complete(n: u32, m: u32, rows: *const u32, rows_len: usize, figures: *mut u32, figures_len: usize) -> u32;
-        pub fn satmegwo_bijective(n: u32, m: u32, rows: *const u32, rows_len: usize, figures: *mut u32, figures_len: usize) -> u32;
-        pub fn satmegwo_enlarge_column(n: u32, table: *const u8, table_len: usize, k: u32, a: u32, out: *mut u8, out_len: usize) -> u32;
-        pub fn satmegwo_enlarge_box(n: u32, rows: *const u32, rows_len: usize, table: *const u8, table_len: usize, k: u32, out: *mut u32, out_len: usize) -> u32;
-        pub fn satmegwo_bent_function(n: u32, permutation: *const u8, permutation_len: usize, table: *const u8, table_len: usize, out: *mut u8, out_len: usize) -> u32;
-        pub fn satmegwo_read_box(file: *const u8, file_len: usize, rows: *mut u32, rows_len: usize, figures: *mut u32, figures_len: usize) -> u32;
-        pub fn satmegwo_sum_nonlinearity(
-            count: u32,
-            n1: u32, m1: u32, rows1: *const u32, rows1_len: usize,
-            n2: u32, m2: u32, rows2: *const u32, rows2_len: usize,
-            n3: u32, m3: u32, rows3: *const u32, rows3_len: usize,
-            n4: u32, m4: u32, rows4: *const u32, rows4_len: usize,
-            i: u32, figures: *mut u32, figures_len: usize,
-        ) -> u32;
-        pub fn satmegwo_check_catalogue(catalogue: *const u8, catalogue_len: usize, figures: *mut u32, figures_len: usize) -> u32;
-        pub fn satmegwo_add_record(catalogue: *mut u8, catalogue_len: usize, file: *const u8, file_len: usize, figures: *mut u32, figures_len: usize) -> u32;
-        pub fn satmegwo_remove_record(catalogue: *mut u8, catalogue_len: usize, index: u32) -> u32;
-        pub fn satmegwo_fetch_record(catalogue: *const u8, catalogue_len: usize, index: u32, figures: *mut u32, figures_len: usize) -> u32;
-        pub fn satmegwo_compact_catalogue(catalogue: *mut u8, catalogue_len: usize) -> u32;
-        pub fn satmegwo_pack_columns(n: u32, m: u32, rows: *const u32, rows_len: usize, packed: *mut u8, packed_len: usize) -> u32;
-        pub fn satmegwo_raising_swap(n: u32, m: u32, rows: *const u32, rows_len: usize, figures: *mut u32, figures_len: usize) -> u32;
-        pub fn satmegwo_unpack_columns(n: u32, m: u32, packed: *const u8, packed_len: usize, rows: *mut u32, rows_len: usize) -> u32;
-    }
+#[inline]
+pub fn version() -> u32 {
+    unsafe { raw::satmegwo_version() }
 }
 
-// In every function below the pointers come from slices that live for the whole call and
-// are passed with their own lengths; the library keeps none of them.
-
+#[inline]
 pub fn spectrum(n: u32, table: &[u8], out: &mut [i32]) -> u32 {
     unsafe { raw::satmegwo_spectrum(n, table.as_ptr(), table.len(), out.as_mut_ptr(), out.len()) }
 }
 
+#[inline]
 pub fn inverse_spectrum(n: u32, values: &[i32], table: &mut [u8]) -> u32 {
     unsafe { raw::satmegwo_inverse_spectrum(n, values.as_ptr(), values.len(), table.as_mut_ptr(), table.len()) }
 }
 
+#[inline]
 pub fn component_spectrum(n: u32, m: u32, rows: &[u32], c: u32, out: &mut [i32]) -> u32 {
     unsafe { raw::satmegwo_component_spectrum(n, m, rows.as_ptr(), rows.len(), c, out.as_mut_ptr(), out.len()) }
 }
 
+#[inline]
 pub fn nonlinearity(n: u32, m: u32, rows: &[u32], i: u32, figures: &mut [u32]) -> u32 {
     unsafe { raw::satmegwo_nonlinearity(n, m, rows.as_ptr(), rows.len(), i, figures.as_mut_ptr(), figures.len()) }
 }
 
+#[inline]
+pub fn nearest_pairs(n: u32, m: u32, rows: &[u32], i: u32, list: &mut [u64], figures: &mut [u64]) -> u32 {
+    unsafe {
+        raw::satmegwo_nearest_pairs(n, m, rows.as_ptr(), rows.len(), i, list.as_mut_ptr(), list.len(), figures.as_mut_ptr(), figures.len())
+    }
+}
+
+#[inline]
 pub fn add_to_column(n: u32, m: u32, rows: &[u32], j: u32, w: u32, b: u32, out: &mut [u32]) -> u32 {
     unsafe { raw::satmegwo_add_to_column(n, m, rows.as_ptr(), rows.len(), j, w, b, out.as_mut_ptr(), out.len()) }
 }
 
+#[inline]
 pub fn xor_row(n: u32, m: u32, rows: &[u32], a: u32, counts: &mut [u16]) -> u32 {
     unsafe { raw::satmegwo_xor_row(n, m, rows.as_ptr(), rows.len(), a, counts.as_mut_ptr(), counts.len()) }
 }
 
+#[inline]
 pub fn largest_cell(n: u32, m: u32, rows: &[u32], figures: &mut [u32]) -> u32 {
     unsafe { raw::satmegwo_largest_cell(n, m, rows.as_ptr(), rows.len(), figures.as_mut_ptr(), figures.len()) }
 }
 
+#[inline]
 pub fn largest_cells(n: u32, m: u32, rows: &[u32], list: &mut [u64], figures: &mut [u32]) -> u32 {
     unsafe {
         raw::satmegwo_largest_cells(n, m, rows.as_ptr(), rows.len(), list.as_mut_ptr(), list.len(), figures.as_mut_ptr(), figures.len())
     }
 }
 
+#[inline]
 pub fn autocorrelation(n: u32, m: u32, rows: &[u32], i: u32, figures: &mut [u32]) -> u32 {
     unsafe { raw::satmegwo_autocorrelation(n, m, rows.as_ptr(), rows.len(), i, figures.as_mut_ptr(), figures.len()) }
 }
 
+#[inline]
 pub fn dynamic_distance(n: u32, m: u32, rows: &[u32], i: u32, j: u32, figures: &mut [u32]) -> u32 {
     unsafe { raw::satmegwo_dynamic_distance(n, m, rows.as_ptr(), rows.len(), i, j, figures.as_mut_ptr(), figures.len()) }
 }
 
+#[inline]
 pub fn normal_form(n: u32, table: &[u8], out: &mut [u8]) -> u32 {
     unsafe { raw::satmegwo_normal_form(n, table.as_ptr(), table.len(), out.as_mut_ptr(), out.len()) }
 }
 
+#[inline]
 pub fn degree(n: u32, m: u32, rows: &[u32], i: u32, figures: &mut [u32]) -> u32 {
     unsafe { raw::satmegwo_degree(n, m, rows.as_ptr(), rows.len(), i, figures.as_mut_ptr(), figures.len()) }
 }
 
+#[inline]
 pub fn complete(n: u32, m: u32, rows: &[u32], figures: &mut [u32]) -> u32 {
     unsafe { raw::satmegwo_complete(n, m, rows.as_ptr(), rows.len(), figures.as_mut_ptr(), figures.len()) }
 }
 
+#[inline]
 pub fn bijective(n: u32, m: u32, rows: &[u32], figures: &mut [u32]) -> u32 {
     unsafe { raw::satmegwo_bijective(n, m, rows.as_ptr(), rows.len(), figures.as_mut_ptr(), figures.len()) }
 }
 
+#[inline]
 pub fn enlarge_column(n: u32, table: &[u8], k: u32, a: u32, out: &mut [u8]) -> u32 {
     unsafe { raw::satmegwo_enlarge_column(n, table.as_ptr(), table.len(), k, a, out.as_mut_ptr(), out.len()) }
 }
 
+#[inline]
 pub fn enlarge_box(n: u32, rows: &[u32], table: &[u8], k: u32, out: &mut [u32]) -> u32 {
     unsafe { raw::satmegwo_enlarge_box(n, rows.as_ptr(), rows.len(), table.as_ptr(), table.len(), k, out.as_mut_ptr(), out.len()) }
 }
 
+#[inline]
 pub fn bent_function(n: u32, permutation: &[u8], table: &[u8], out: &mut [u8]) -> u32 {
     unsafe {
         raw::satmegwo_bent_function(n, permutation.as_ptr(), permutation.len(), table.as_ptr(), table.len(), out.as_mut_ptr(), out.len())
     }
 }
 
+#[inline]
+pub fn check_box(n: u32, m: u32, rows: &[u32]) -> u32 {
+    unsafe { raw::satmegwo_check_box(n, m, rows.as_ptr(), rows.len()) }
+}
+
+#[inline]
 pub fn read_box(file: &[u8], rows: &mut [u32], figures: &mut [u32]) -> u32 {
     unsafe { raw::satmegwo_read_box(file.as_ptr(), file.len(), rows.as_mut_ptr(), rows.len(), figures.as_mut_ptr(), figures.len()) }
+}
+
+#[inline]
+pub fn write_box(n: u32, m: u32, rows: &[u32], file: &mut [u8]) -> u32 {
+    unsafe { raw::satmegwo_write_box(n, m, rows.as_ptr(), rows.len(), file.as_mut_ptr(), file.len()) }
+}
+
+#[inline]
+pub fn sheet(file: &[u8], text: &mut [u8], figures: &mut [u32]) -> u32 {
+    unsafe { raw::satmegwo_sheet(file.as_ptr(), file.len(), text.as_mut_ptr(), text.len(), figures.as_mut_ptr(), figures.len()) }
 }
 
 /// One box as it is handed over: n, m and the rows.
 pub type BoxLent<'a> = (u32, u32, &'a [u32]);
 
+#[inline]
 #[rustfmt::skip]
 pub fn sum_nonlinearity(count: u32, boxes: [BoxLent; 4], i: u32, figures: &mut [u32]) -> u32 {
     let [(n1, m1, rows1), (n2, m2, rows2), (n3, m3, rows3), (n4, m4, rows4)] = boxes;
@@ -141,36 +158,115 @@ pub fn sum_nonlinearity(count: u32, boxes: [BoxLent; 4], i: u32, figures: &mut [
         )
     }
 }
+
+#[inline]
 pub fn check_catalogue(catalogue: &[u8], figures: &mut [u32]) -> u32 {
     unsafe { raw::satmegwo_check_catalogue(catalogue.as_ptr(), catalogue.len(), figures.as_mut_ptr(), figures.len()) }
 }
 
+#[inline]
 pub fn add_record(catalogue: &mut [u8], file: &[u8], figures: &mut [u32]) -> u32 {
     unsafe {
         raw::satmegwo_add_record(catalogue.as_mut_ptr(), catalogue.len(), file.as_ptr(), file.len(), figures.as_mut_ptr(), figures.len())
     }
 }
 
+#[inline]
 pub fn remove_record(catalogue: &mut [u8], index: u32) -> u32 {
     unsafe { raw::satmegwo_remove_record(catalogue.as_mut_ptr(), catalogue.len(), index) }
 }
 
+#[inline]
 pub fn fetch_record(catalogue: &[u8], index: u32, figures: &mut [u32]) -> u32 {
     unsafe { raw::satmegwo_fetch_record(catalogue.as_ptr(), catalogue.len(), index, figures.as_mut_ptr(), figures.len()) }
 }
 
+#[inline]
 pub fn compact_catalogue(catalogue: &mut [u8]) -> u32 {
     unsafe { raw::satmegwo_compact_catalogue(catalogue.as_mut_ptr(), catalogue.len()) }
 }
 
+#[inline]
 pub fn pack_columns(n: u32, m: u32, rows: &[u32], packed: &mut [u8]) -> u32 {
     unsafe { raw::satmegwo_pack_columns(n, m, rows.as_ptr(), rows.len(), packed.as_mut_ptr(), packed.len()) }
 }
 
+#[inline]
 pub fn unpack_columns(n: u32, m: u32, packed: &[u8], rows: &mut [u32]) -> u32 {
     unsafe { raw::satmegwo_unpack_columns(n, m, packed.as_ptr(), packed.len(), rows.as_mut_ptr(), rows.len()) }
 }
 
+#[inline]
 pub fn raising_swap(n: u32, m: u32, rows: &[u32], figures: &mut [u32]) -> u32 {
     unsafe { raw::satmegwo_raising_swap(n, m, rows.as_ptr(), rows.len(), figures.as_mut_ptr(), figures.len()) }
+}
+
+/// The calls on a design, which goes in by value and comes out beside 0 or the number of a refusal.
+pub mod design {
+    use crate::raw::{self, Design, DesignOutcome};
+
+    #[inline]
+    pub fn begin(n: u32, m: u32, rows: &[u32]) -> DesignOutcome {
+        unsafe { raw::satmegwo_design_begin(n, m, rows.as_ptr(), rows.len()) }
+    }
+
+    #[inline]
+    pub fn swap(design: Design, x: u32, y: u32) -> DesignOutcome {
+        unsafe { raw::satmegwo_design_swap(design, x, y) }
+    }
+
+    #[inline]
+    pub fn add(design: Design, j: u32, w: u32, b: u32) -> DesignOutcome {
+        unsafe { raw::satmegwo_design_add(design, j, w, b) }
+    }
+
+    #[inline]
+    pub fn mark(design: Design, k: u32) -> DesignOutcome {
+        unsafe { raw::satmegwo_design_mark(design, k) }
+    }
+
+    #[inline]
+    pub fn return_to(design: Design, k: u32) -> DesignOutcome {
+        unsafe { raw::satmegwo_design_return(design, k) }
+    }
+
+    #[inline]
+    pub fn read(design: Design, rows: &mut [u32], figures: &mut [u32]) -> u32 {
+        unsafe { raw::satmegwo_design_read(design, rows.as_mut_ptr(), rows.len(), figures.as_mut_ptr(), figures.len()) }
+    }
+}
+
+/// The calls on a server, which goes in by value and comes out.
+pub mod server {
+    use crate::raw::{self, Server, ServerOutcome};
+
+    #[inline]
+    pub fn begin() -> Server {
+        unsafe { raw::satmegwo_server_begin() }
+    }
+
+    #[inline]
+    pub fn put(server: Server, place: u32, n: u32, m: u32, rows: &[u32]) -> ServerOutcome {
+        unsafe { raw::satmegwo_server_put(server, place, n, m, rows.as_ptr(), rows.len()) }
+    }
+
+    #[inline]
+    pub fn withdraw(server: Server, place: u32) -> ServerOutcome {
+        unsafe { raw::satmegwo_server_withdraw(server, place) }
+    }
+
+    #[inline]
+    pub fn step(server: Server) -> Server {
+        unsafe { raw::satmegwo_server_step(server) }
+    }
+
+    #[inline]
+    pub fn run(server: Server, budget: u32) -> Server {
+        unsafe { raw::satmegwo_server_run(server, budget) }
+    }
+
+    #[inline]
+    pub fn ask(server: Server, place: u32, figures: &mut [u32]) -> u32 {
+        unsafe { raw::satmegwo_server_ask(server, place, figures.as_mut_ptr(), figures.len()) }
+    }
 }

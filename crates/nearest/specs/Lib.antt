@@ -1,0 +1,4 @@
+pub mod NearestPairs
+pub mod Calls
+pub mod Work
+pub mod Statements

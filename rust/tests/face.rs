@@ -1,0 +1,218 @@
+//! The crate on the stored boxes of examples/, and its refusals. (The figures themselves are compared with
+//! the second program in tests/, call by call; here it is what the types make of them.)
+use satmegwo::{sheet_of_file, sum_nonlinearity, Catalogue, Design, Pair, Refusal, Sbox, Server, TruthTable};
+use std::fs;
+use std::path::{Path, PathBuf};
+
+fn stored() -> Vec<(PathBuf, Sbox)> {
+    let directory = Path::new(env!("CARGO_MANIFEST_DIR")).join("../examples");
+    let entries = fs::read_dir(&directory).expect("the examples are there").map(|entry| entry.expect("it can be read").path());
+    let boxes: Vec<PathBuf> = entries.filter(|path| path.extension().is_some_and(|end| end == "box")).collect();
+    assert!(boxes.len() >= 24);
+    let read = |path: PathBuf| {
+        let sbox = Sbox::from_file(&fs::read(&path).expect("it can be read")).expect("it is a box file");
+        (path, sbox)
+    };
+    boxes.into_iter().map(read).collect()
+}
+
+fn example() -> Sbox {
+    Sbox::new(3, 3, [3, 1, 4, 0, 2, 5, 6, 7]).expect("it is a box")
+}
+
+#[test]
+fn files_and_packed_columns_go_there_and_back() {
+    for (path, sbox) in stored() {
+        assert_eq!(sbox.to_file(), fs::read(&path).expect("it can be read"));
+        assert_eq!(Sbox::from_file(&sbox.to_file()), Ok(sbox.clone()));
+        assert_eq!(Sbox::from_packed(sbox.inputs(), sbox.outputs(), &sbox.to_packed()), Ok(sbox.clone()));
+        assert_eq!(Sbox::new(sbox.inputs(), sbox.outputs(), sbox.rows()), Ok(sbox));
+    }
+}
+
+/// Every figure by its method, put together as the sheet has them, is the sheet that is stored.
+#[test]
+fn figures_are_those_of_the_stored_sheets() {
+    for (path, sbox) in stored() {
+        let sheet = fs::read_to_string(path.with_extension("sheet")).expect("it is stored");
+        assert_eq!(sbox.sheet(), sheet);
+        assert_eq!(lines(&sbox).unwrap(), sheet, "{}", path.display());
+    }
+}
+
+fn lines(sbox: &Sbox) -> Result<String, Refusal> {
+    let i = if sbox.outputs() <= 16 { sbox.outputs() } else { 4 };
+    let (l, x, a) = (sbox.nonlinearity(i)?, sbox.largest_cell(), sbox.autocorrelation(i)?);
+    let (s, b, d) = (sbox.dynamic_distance(1, 1)?, sbox.dynamic_distance(2, 1)?, sbox.degree(i)?);
+    let word = |yes| if yes { "yes" } else { "no" };
+    Ok([
+        format!("box {} {}\n", sbox.inputs(), sbox.outputs()),
+        format!("nonlinearity {} {} {} {} {i}\n", l.figure, l.c, l.w, l.b),
+        format!("xor {} {} {}\n", x.figure, x.a, x.beta),
+        format!("autocorrelation {} {} {} {i}\n", a.figure, a.c, a.s),
+        format!("sac {} {} {}\nbic {} {} {}\n", s.figure, s.c, s.d, b.figure, b.c, b.d),
+        format!("degree {} {} {i}\n", d.figure, d.c),
+        format!("complete {}\nbijective {}\n", word(sbox.is_complete()), word(sbox.is_bijective())),
+    ]
+    .concat())
+}
+
+/// The lists hold what the single figures begin with, and what a row or a spectrum counts.
+#[test]
+fn lists_agree_with_rows_and_spectra() {
+    for (_, sbox) in stored().into_iter().filter(|(_, sbox)| sbox.outputs() <= 8) {
+        let (largest, cells) = (sbox.largest_cell(), sbox.largest_cells());
+        assert_eq!(cells.clone().next().map(|cell| (cell.a, cell.beta)), Some((largest.a, largest.beta)));
+        for cell in cells {
+            assert_eq!(u32::from(sbox.xor_row(cell.a).unwrap()[cell.beta as usize]), largest.figure);
+        }
+        let (least, pairs) = (sbox.nonlinearity(2).unwrap(), sbox.nearest_pairs(2).unwrap());
+        assert_eq!(pairs.clone().next(), Some(Pair { c: least.c, w: least.w, b: least.b }));
+        for Pair { c, w, b } in pairs {
+            let value = sbox.component_spectrum(c).unwrap()[w as usize];
+            let differing = (sbox.rows().len() / 2) as i32 - if b == 0 { value } else { -value };
+            assert_eq!(differing, least.figure as i32);
+        }
+    }
+}
+
+/// 21 combinations with 256 pairs each: more than the first list has room for.
+#[test]
+fn a_long_list_of_pairs_is_found() {
+    let bent = TruthTable::bent(8, &std::array::from_fn::<u8, 16, _>(|x| x as u8), &[0; 16]).unwrap();
+    let rows: Vec<u32> = bent.values().iter().map(|&value| u32::from(value) * 0x1f_ffff).collect();
+    let sbox = Sbox::new(8, 21, rows).unwrap();
+    let odd = sbox.nearest_pairs(1).unwrap();
+    assert_eq!((odd.len(), sbox.nonlinearity(1).unwrap().figure), (21 * 256, 120));
+    assert!(odd.zip(0..).all(|(pair, k)| (pair.c, pair.w) == (1 << (k / 256), k % 256)));
+}
+
+#[test]
+fn what_is_no_box_is_refused_by_its_number() {
+    assert_eq!(Sbox::new(0, 1, [0]), Err(Refusal::InputWidth));
+    assert_eq!(Sbox::new(9, 1, vec![0; 512]), Err(Refusal::InputWidth));
+    assert_eq!(Sbox::new(1, 33, [0, 1]), Err(Refusal::OutputWidth));
+    assert_eq!(Sbox::new(1, 1, [0, 1, 0]), Err(Refusal::ReadLength));
+    assert_eq!(Sbox::new(1, 1, [0, 2]), Err(Refusal::Value));
+    assert_eq!(Sbox::from_file(&[]), Err(Refusal::FileLength));
+    assert_eq!(Sbox::from_file(&[0, 1]), Err(Refusal::InputWidth));
+    assert_eq!(Sbox::from_file(&[255, 1]), Err(Refusal::InputWidth));
+    assert_eq!(Sbox::from_file(&[8, 33]), Err(Refusal::OutputWidth));
+    assert_eq!(Sbox::from_file(&[1, 1, 0, 0, 0, 0, 2, 0, 0, 0]), Err(Refusal::Value));
+    assert_eq!(Sbox::from_packed(9, 1, &[0]), Err(Refusal::InputWidth));
+    assert_eq!(Sbox::from_packed(2, 1, &[16]), Err(Refusal::UnusedBit));
+    assert_eq!(sheet_of_file(&[3]), "refused 10\n");
+}
+
+#[test]
+fn parameters_out_of_range_are_refused() {
+    let sbox = example();
+    assert_eq!(sbox.nonlinearity(0), Err(Refusal::Parameter));
+    assert_eq!(sbox.autocorrelation(4), Err(Refusal::Parameter));
+    assert_eq!(sbox.degree(4), Err(Refusal::Parameter));
+    assert_eq!(sbox.dynamic_distance(1, 4), Err(Refusal::Parameter));
+    assert_eq!(sbox.nearest_pairs(4).err(), Some(Refusal::Parameter));
+    assert_eq!(sbox.component_spectrum(8), Err(Refusal::Parameter));
+    assert_eq!(sbox.xor_row(8), Err(Refusal::Parameter));
+    assert_eq!(sbox.add_to_column(1, 8, 0), Err(Refusal::Parameter));
+    assert_eq!(sbox.enlarged(&TruthTable::new(2, [0; 4]).unwrap(), 1), Err(Refusal::ReadLength));
+    let wide = Sbox::new(1, 17, [0, 1 << 16]).unwrap();
+    assert_eq!(wide.xor_row(1), Err(Refusal::OutputWidth));
+    assert_eq!(wide.raising_swap(), Err(Refusal::OutputWidth));
+    assert_eq!(Sbox::new(8, 8, vec![0; 256]).unwrap().enlarged(&TruthTable::new(8, [0; 256]).unwrap(), 1), Err(Refusal::InputWidth));
+}
+
+#[test]
+fn truth_tables_are_checked() {
+    assert_eq!(TruthTable::new(0, [0]), Err(Refusal::InputWidth));
+    assert_eq!(TruthTable::new(1, [0]), Err(Refusal::ReadLength));
+    assert_eq!(TruthTable::new(1, [0, 2]), Err(Refusal::Value));
+    assert_eq!(TruthTable::from_spectrum(2, &[1; 3]), Err(Refusal::ReadLength));
+    assert_eq!(TruthTable::bent(3, &[0, 1], &[0, 0]), Err(Refusal::InputWidth));
+    assert_eq!(TruthTable::bent(2, &[0, 0], &[0, 0]), Err(Refusal::Permutation));
+    let table = TruthTable::new(3, [1, 1, 0, 0, 0, 1, 0, 1]).unwrap();
+    assert_eq!(table.enlarged(4, 0), Err(Refusal::Parameter));
+    assert_eq!(table.normal_form().normal_form(), table);
+    assert_eq!(TruthTable::from_spectrum(3, &table.spectrum()), Ok(table));
+}
+
+#[test]
+fn sums_take_one_to_four_boxes() {
+    let sbox = example();
+    assert_eq!(sum_nonlinearity(&[], 1), Err(Refusal::BoxCount));
+    assert_eq!(sum_nonlinearity(&[&sbox; 5], 1), Err(Refusal::BoxCount));
+    assert_eq!(sum_nonlinearity(&[&sbox; 70], 1), Err(Refusal::BoxCount));
+    assert_eq!(sum_nonlinearity(&[&sbox, &Sbox::new(1, 2, [0, 3]).unwrap()], 1), Err(Refusal::OutputWidths));
+    let (alone, plain) = (sum_nonlinearity(&[&sbox], 2).unwrap(), sbox.nonlinearity(2).unwrap());
+    assert_eq!((alone.figure, alone.c, alone.masks, alone.b), (plain.figure, plain.c, vec![plain.w], plain.b));
+    assert_eq!(sum_nonlinearity(&[&sbox; 4], 3).unwrap().masks, [7; 4]);
+}
+
+#[test]
+fn a_catalogue_keeps_all_boxes() {
+    assert_eq!(Catalogue::empty(257), Err(Refusal::Catalogue));
+    assert_eq!(Catalogue::from_bytes(vec![1; 300]), Err(Refusal::Catalogue));
+    let boxes = stored();
+    let mut catalogue = Catalogue::empty(65_535).unwrap();
+    for (k, (_, sbox)) in boxes.iter().enumerate() {
+        assert_eq!(catalogue.add_box(sbox), Ok(k as u32));
+    }
+    assert_eq!(catalogue.len() as usize, boxes.len());
+    let kept = |catalogue: &Catalogue| catalogue.records().map(|file| Sbox::from_file(file).unwrap()).collect::<Vec<Sbox>>();
+    assert!(kept(&catalogue).iter().eq(boxes.iter().map(|(_, sbox)| sbox)));
+    catalogue.remove(0).unwrap();
+    catalogue.compact();
+    assert!(kept(&catalogue).iter().eq(boxes[1..].iter().map(|(_, sbox)| sbox)));
+    assert_eq!(Catalogue::from_bytes(catalogue.bytes()), Ok(catalogue.clone()));
+    assert_eq!(catalogue.remove(boxes.len() as u32 - 1), Err(Refusal::NoRecord));
+    assert_eq!(catalogue.add(b"no box"), Err(Refusal::InputWidth));
+}
+
+/// Refused operations leave a design, and a refused call a server, as they were.
+#[test]
+fn designs_and_servers_own_their_value() {
+    let mut design = Design::begin(&example());
+    design.mark(16).unwrap();
+    let before = design.clone();
+    assert_eq!(design.swap(0, 8), Err(Refusal::Parameter));
+    assert_eq!(design.add_to_column(4, 0, 0), Err(Refusal::Parameter));
+    assert_eq!(design.mark(17), Err(Refusal::Parameter));
+    assert_eq!(design.return_to(1), Err(Refusal::UnsetMark));
+    assert_eq!(design, before);
+    design.add_to_column(1, 0, 1).unwrap();
+    assert_eq!(design.sbox(), example().add_to_column(1, 0, 1).unwrap());
+    assert!(format!("{design:?}").ends_with("marks: [16] }"));
+    design.return_to(16).unwrap();
+    assert_eq!(design, before);
+
+    let mut server = Server::begin();
+    assert_eq!(server.last_served(), None);
+    server.step();
+    assert_eq!(server, Server::begin());
+    assert_eq!(server.put(9, &example()), Err(Refusal::NoPlace));
+    assert_eq!(server.put(1, &Sbox::new(1, 17, [0, 1]).unwrap()), Err(Refusal::OutputWidth));
+    assert_eq!(server.ask(1), Err(Refusal::PlaceState));
+    assert_eq!(server, Server::begin());
+    let stored = stored();
+    let boxes: Vec<&Sbox> = stored.iter().map(|(_, sbox)| sbox).filter(|sbox| sbox.outputs() <= 8).take(8).collect();
+    for (place, sbox) in (1..).zip(&boxes) {
+        server.put(place, sbox).unwrap();
+    }
+    server.run(u32::MAX);
+    for (place, sbox) in (1..).zip(&boxes) {
+        assert_eq!(server.ask(place), sbox.nonlinearity(sbox.outputs()).map(Some));
+    }
+}
+
+/// Calls share nothing: the same from many threads at once.
+#[test]
+fn calls_run_side_by_side() {
+    let boxes = stored();
+    std::thread::scope(|scope| {
+        for _ in 0..4 {
+            scope.spawn(|| {
+                boxes.iter().for_each(|(path, sbox)| assert_eq!(sbox.sheet(), fs::read_to_string(path.with_extension("sheet")).unwrap()))
+            });
+        }
+    });
+}
