@@ -1,0 +1,430 @@
+"""A box and its figures. Every figure, list and made box comes from the proved library."""
+from __future__ import annotations
+
+import pathlib
+from typing import TYPE_CHECKING, Any, Iterable, NamedTuple, Optional, SupportsIndex, Union
+
+from . import functions, reading
+from .library import (
+    BYTES,
+    CELLS,
+    COUNTS,
+    MOST_BOXES,
+    MOST_CELLS,
+    SHEET_BYTES,
+    SIGNED,
+    WORD,
+    WORDS,
+    call,
+    lent,
+    number,
+    room,
+)
+from .refusals import Refusal
+
+if TYPE_CHECKING:
+    from .explaining import Explanation
+
+
+FIRST_ROOM = 2**16  # of a list of pairs, which is made longer as long as it is too short
+
+
+class Pair(NamedTuple):
+    """Combination c and the affine function w·x XOR b."""
+
+    c: int
+    w: int
+    b: int
+
+
+class Cell(NamedTuple):
+    """The input difference a and the output difference beta."""
+
+    a: int
+    beta: int
+
+
+class Shift(NamedTuple):
+    """Combination c and the input change s of an autocorrelation."""
+
+    c: int
+    s: int
+
+
+class Change(NamedTuple):
+    """Combination c and the flipped input bits d of a dynamic distance."""
+
+    c: int
+    d: int
+
+
+class Combination(NamedTuple):
+    """Combination c."""
+
+    c: int
+
+
+class Nonlinearity(NamedTuple):
+    """The least number of inputs in which a combination within the limit differs from an affine function, and the first such pair."""
+
+    figure: int
+    witness: Pair
+    limit: int
+
+
+class LargestCell(NamedTuple):
+    """The largest cell of the XOR table, and the first that reaches it."""
+
+    figure: int
+    witness: Cell
+
+
+class Autocorrelation(NamedTuple):
+    """The largest |r(s)| of a combination within the limit, and the first that reaches it."""
+
+    figure: int
+    witness: Shift
+    limit: int
+
+
+class Distance(NamedTuple):
+    """The dynamic distance, doubled, of combinations within the limit under at most so many flips, and the first that reaches it."""
+
+    figure: int
+    witness: Change
+    limit: int
+    flips: int
+
+
+class Degree(NamedTuple):
+    """The least degree of a combination within the limit, and the first that has it."""
+
+    figure: int
+    witness: Combination
+    limit: int
+
+
+class Swap(NamedTuple):
+    """The two inputs whose rows are swapped, and the nonlinearity that this leads to."""
+
+    lower: int
+    higher: int
+    figure: int
+
+
+class SumPair(NamedTuple):
+    """Combination c of a sum of boxes, the mask of each box from box 1 on, and b."""
+
+    c: int
+    masks: tuple[int, ...]
+    b: int
+
+
+class SumNonlinearity(NamedTuple):
+    """The nonlinearity of a sum of boxes, over all their inputs together, and the first pair that reaches it."""
+
+    figure: int
+    witness: SumPair
+    limit: int
+
+
+def sheet_limit(m: int) -> int:
+    """The limit of document 02: all m outputs up to 16, and 4 above."""
+    return m if m <= 16 else 4
+
+
+def _detail(number_: int, n: int, m: int, rows: list[int]) -> str:
+    """What met the condition of a refused box."""
+    if number_ == 1:
+        return f"n is {n}"
+    if number_ == 2:
+        return f"m is {m}"
+    if number_ == 3:
+        return f"{len(rows)} rows are given, and {n} inputs need {2**n}"
+    place = next(place for place, row in enumerate(rows) if not 0 <= row < 2**m)
+    return f"the row for input {place} is {rows[place]}, and {m} outputs end at {2**m - 1}"
+
+
+def _accepted(n: int, m: int, rows: list[int]) -> Any:
+    """The rows as an array of the library, or the refusal 1, 2, 3 or 4 that is met first."""
+    fits = all(0 <= row < WORD for row in rows)
+    # With 32 outputs every row that fits is accepted; so one that does not is refused here, once the library has found nothing else.
+    words = lent(WORDS, [row if 0 <= row < WORD else (WORD - 1 if m < 32 else 0) for row in rows])
+    try:
+        call("check_box", number(n), number(m), words)
+        if not fits:
+            raise Refusal(4)
+    except Refusal as refusal:
+        raise Refusal(refusal.number, _detail(refusal.number, n, m, rows)) from None
+    return words
+
+
+class Box:
+    """A substitution box of n inputs and m outputs, whose rows[x] is the output for input x. It never changes.
+
+    m is always stated: an output that is 0 everywhere is a weak output, and would be lost where m is taken from the largest row. n follows
+    from the number of rows where it is not stated.
+    """
+
+    def __init__(self, rows: Iterable[SupportsIndex], m: int, n: Optional[int] = None, name: str = "") -> None:
+        whole = functions.wholes(rows, "the row for input")
+        self._n = functions.width(len(whole)) if n is None else n
+        self._m = m
+        self._words = _accepted(self._n, m, whole)
+        self._rows = tuple(whole)
+        self.name = name
+
+    @classmethod
+    def from_bytes(cls, data: bytes, name: str = "") -> Box:
+        """The box of a box file's bytes."""
+        inputs = data[0] if data and data[0] <= 8 else 0
+        rows, widths = room(WORDS, 2**inputs), room(WORDS, 2)
+        try:
+            call("read_box", lent(BYTES, data), rows, widths)
+        except Refusal as refusal:
+            detail = "the bytes are a text and no box file" if reading.looks_like_text(data) else ""
+            raise Refusal(refusal.number, detail) from None
+        return cls(rows, widths[1], widths[0], name)
+
+    @classmethod
+    def from_text(cls, text: str, n: int, m: int, name: str = "", **how: Any) -> Box:
+        """The box of a table of numbers, read as `reading.rows_of_text` says."""
+        return cls(reading.rows_of_text(text, **how), m, n, name)
+
+    @classmethod
+    def from_file(
+        cls, path: Union[str, pathlib.Path], n: Optional[int] = None, m: Optional[int] = None, **how: Any
+    ) -> Box:
+        """The box of a box file, which states its widths, or of a table of numbers, whose n and m must be stated."""
+        return cls.from_data(reading.bytes_of_file(path), n, m, pathlib.Path(path).name, **how)
+
+    @classmethod
+    def from_data(
+        cls, data: bytes, n: Optional[int] = None, m: Optional[int] = None, name: str = "", **how: Any
+    ) -> Box:
+        """As `from_file`, of what a file holds. It is a box file where it is named so, or cannot be a text."""
+        if not data and not name.endswith(".box"):
+            raise reading.Unreadable("there is nothing in it")
+        if name.endswith(".box") or not reading.looks_like_text(data):
+            box = cls.from_bytes(data, name)
+            for letter, stated, found in (("n", n, box.n), ("m", m, box.m)):
+                if stated not in (None, found):
+                    raise reading.Unreadable(f"{letter} is stated as {stated}, and the box file says {found}")
+            return box
+        if n is None or m is None:
+            letter, word = ("n", "inputs") if n is None else ("m", "outputs")
+            raise reading.Unreadable(f"a table of numbers does not say how many {word} the box has: state {letter}")
+        return cls.from_text(reading.text_of_bytes(data), n, m, name, **how)
+
+    @classmethod
+    def from_packed(cls, packed: bytes, n: int, m: int, name: str = "") -> Box:
+        """The box of columns that are packed for the mask."""
+        rows = room(WORDS, 2**n if 0 <= n <= 8 else 0)
+        call("unpack_columns", number(n), number(m), lent(BYTES, packed), rows)
+        return cls(rows, m, n, name)
+
+    @property
+    def n(self) -> int:
+        """The number of inputs."""
+        return self._n
+
+    @property
+    def m(self) -> int:
+        """The number of outputs."""
+        return self._m
+
+    @property
+    def rows(self) -> tuple[int, ...]:
+        """The output for each input."""
+        return self._rows
+
+    @property
+    def limit(self) -> int:
+        """The limit on combinations with which the sheet asks: all outputs up to 16, and 4 above."""
+        return sheet_limit(self._m)
+
+    def __call__(self, x: int) -> int:
+        if not 0 <= x < 2**self._n:
+            raise IndexError(f"input {x} is not 0 to {2**self._n - 1}")
+        return self._rows[x]
+
+    def __eq__(self, other: object) -> bool:
+        return isinstance(other, Box) and (self._n, self._m, self._rows) == (other._n, other._m, other._rows)
+
+    def __hash__(self) -> int:
+        return hash((self._n, self._m, self._rows))
+
+    def __repr__(self) -> str:
+        return f"Box([{', '.join(map(str, self._rows))}], m={self._m})"
+
+    def arguments(self) -> tuple[int, int, Any]:
+        """The box as the arguments of a call."""
+        return self._n, self._m, self._words
+
+    def _write(self, name: str, out: Any, *parameters: int) -> Any:
+        call(name, *self.arguments(), *parameters, out)
+        return out
+
+    def _limit(self, i: Optional[SupportsIndex]) -> int:
+        return number(self.limit if i is None else i)
+
+    # ---- other forms
+
+    def to_bytes(self) -> bytes:
+        """The box file."""
+        return bytes(self._write("write_box", room(BYTES, 2 + 4 * 2**self._n)))
+
+    def packed(self) -> bytes:
+        """The columns, packed for the mask."""
+        return bytes(self._write("pack_columns", room(BYTES, self._m * max(1, 2**self._n // 8))))
+
+    def sheet(self) -> str:
+        """The nine lines of the sheet, the proved text."""
+        return sheet(self.to_bytes())
+
+    # ---- nonlinearity
+
+    def combination(self, c: SupportsIndex) -> list[int]:
+        """The truth table of combination c: the parity of the ones in (row AND c)."""
+        return functions.inverse_spectrum(self.spectrum(c), self._n)
+
+    def spectrum(self, c: SupportsIndex) -> list[int]:
+        """The linear approximation values of combination c, for w from 0: the inputs where it equals w·x, less 2^(n-1)."""
+        return list(self._write("component_spectrum", room(SIGNED, 2**self._n), number(c)))
+
+    def nonlinearity(self, i: Optional[SupportsIndex] = None) -> Nonlinearity:
+        """The nonlinearity over the combinations of at most i outputs; without i with the sheet's limit."""
+        limit = self._limit(i)
+        figure, *witness = self._write("nonlinearity", room(WORDS, 4), limit)
+        return Nonlinearity(figure, Pair(*witness), limit)
+
+    def nearest_pairs(self, i: Optional[SupportsIndex] = None, most: Optional[int] = None) -> list[Pair]:
+        """All pairs that reach the nonlinearity within the limit, in their order: fewest outputs, c, w, b.
+
+        With `most` the call is refused by 9 where there are more pairs than that; without it the list grows as far as it must.
+        """
+        limit = self._limit(i)
+        length = FIRST_ROOM if most is None else most
+        while True:
+            pairs, count = room(CELLS, length), room(CELLS, 1)
+            try:
+                call("nearest_pairs", *self.arguments(), limit, pairs, count)
+                return [Pair(coded // 512, coded % 512 // 2, coded % 2) for coded in pairs[: count[0]]]
+            except Refusal as refusal:
+                if refusal.number != 9 or most is not None:
+                    raise
+                length *= 16
+
+    def add_to_column(self, j: SupportsIndex, w: SupportsIndex, b: SupportsIndex) -> Box:
+        """The box with w·x XOR b added to column j. Its nonlinearity is the same."""
+        out = self._write(
+            "add_to_column", room(WORDS, 2**self._n), number(j), number(w, WORD - 1), number(b, WORD - 1)
+        )
+        return Box(out, self._m, self._n, self.name)
+
+    def raising_swap(self) -> Optional[Swap]:
+        """The smallest swap of two unlike rows that raises the nonlinearity over all combinations, or None; up to eight outputs."""
+        found, *swap = self._write("raising_swap", room(WORDS, 4))
+        return Swap(*swap) if found else None
+
+    # ---- XOR table
+
+    def xor_row(self, a: SupportsIndex) -> list[int]:
+        """One row of the XOR table (difference distribution table) of a box of at most 16 outputs."""
+        return list(self._write("xor_row", room(COUNTS, 2**self._m if self._m <= 16 else 0), number(a)))
+
+    def largest_cell(self) -> LargestCell:
+        """The largest cell of the XOR table."""
+        figure, *witness = self._write("largest_cell", room(WORDS, 3))
+        return LargestCell(figure, Cell(*witness))
+
+    def largest_cells(self) -> list[Cell]:
+        """All cells that reach the largest count, by ascending a, then beta."""
+        cells, count = room(CELLS, MOST_CELLS), room(WORDS, 1)
+        call("largest_cells", *self.arguments(), cells, count)
+        return [Cell(*divmod(coded, WORD)) for coded in cells[: count[0]]]
+
+    # ---- autocorrelation and dynamic distance
+
+    def autocorrelation(self, i: Optional[SupportsIndex] = None) -> Autocorrelation:
+        """The autocorrelation over the combinations of at most i outputs; without i with the sheet's limit."""
+        limit = self._limit(i)
+        figure, *witness = self._write("autocorrelation", room(WORDS, 3), limit)
+        return Autocorrelation(figure, Shift(*witness), limit)
+
+    def dynamic_distance(self, i: SupportsIndex, j: SupportsIndex) -> Distance:
+        """The dynamic distance of order (i, j), doubled: at most i outputs, at most j flipped inputs."""
+        limit, flips = number(i), number(j)
+        figure, *witness = self._write("dynamic_distance", room(WORDS, 3), limit, flips)
+        return Distance(figure, Change(*witness), limit, flips)
+
+    def sac(self) -> Distance:
+        """The dynamic distance of order (1, 1): 0 exactly where the strict avalanche criterion holds."""
+        return self.dynamic_distance(1, 1)
+
+    def bic(self) -> Distance:
+        """The dynamic distance of order (2, 1): 0 exactly where the bit independence criterion holds. Refused by 6 with one output."""
+        return self.dynamic_distance(2, 1)
+
+    # ---- degree, completeness, bijectivity
+
+    def normal_form(self, c: SupportsIndex) -> list[int]:
+        """The coefficients of combination c, for u from 0."""
+        return functions.normal_form(self.combination(c), self._n)
+
+    def degree(self, i: Optional[SupportsIndex] = None) -> Degree:
+        """The least degree over the combinations of at most i outputs; without i with the sheet's limit."""
+        limit = self._limit(i)
+        figure, c = self._write("degree", room(WORDS, 2), limit)
+        return Degree(figure, Combination(c), limit)
+
+    def complete(self) -> bool:
+        """Whether every input changes every output somewhere."""
+        return bool(self._write("complete", room(WORDS, 1))[0])
+
+    def bijective(self) -> bool:
+        """Whether there are as many inputs as outputs, and no two rows are equal."""
+        return bool(self._write("bijective", room(WORDS, 1))[0])
+
+    # ---- made from it
+
+    def enlarge(self, table: Iterable[SupportsIndex], k: SupportsIndex) -> Box:
+        """A box of one more input and output (document 000) from one with as many inputs as outputs, a truth table and an input k."""
+        if self._m != self._n:
+            raise ValueError(
+                f"only a box with as many inputs as outputs is enlarged, and this one is {self._n} by {self._m}"
+            )
+        out = room(WORDS, 2 ** (self._n + 1))
+        call("enlarge_box", self._n, self._words, lent(BYTES, functions.truth_values(table)), number(k), out)
+        return Box(out, self._m + 1, self._n + 1, self.name)
+
+    def swapped(self, x: SupportsIndex, y: SupportsIndex) -> Box:
+        """The box with the rows of the inputs x and y exchanged."""
+        from .keeping import Design
+
+        return Design(self).swap(x, y).box
+
+    def explain(self, figure: str = "nonlinearity", **how: Any) -> Explanation:
+        """The count behind a figure's witness: see `explaining`."""
+        from . import explaining
+
+        return explaining.explain(self, figure, **how)
+
+
+def sheet(data: bytes) -> str:
+    """The sheet of a box file's bytes: nine lines, or the line 'refused' with a number."""
+    text, length = room(BYTES, SHEET_BYTES), room(WORDS, 1)
+    call("sheet", lent(BYTES, data), text, length)
+    return bytes(text[: length[0]]).decode("ascii")
+
+
+def sum_nonlinearity(boxes: Iterable[Box], i: Optional[SupportsIndex] = None) -> SumNonlinearity:
+    """The nonlinearity of one to four boxes added by XOR, each fed by its own input bits, box 1 by the lowest."""
+    boxes = list(boxes)
+    limit = number(boxes[0].limit if boxes and i is None else i or 0)
+    arguments = [argument for box in boxes[:MOST_BOXES] for argument in box.arguments()]
+    arguments += (MOST_BOXES - len(boxes[:MOST_BOXES])) * [0, 0, room(WORDS, 0)]
+    figures = room(WORDS, 3 + len(boxes))
+    call("sum_nonlinearity", len(boxes), *arguments, limit, figures)
+    figure, c, *masks, b = figures
+    return SumNonlinearity(figure, SumPair(c, tuple(masks), b), limit)

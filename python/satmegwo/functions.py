@@ -1,0 +1,87 @@
+"""Truth tables: the spectrum and the way back, the normal form, the enlargement of a column, the bent form."""
+from __future__ import annotations
+
+import operator
+from typing import Iterable, Optional, SupportsIndex
+
+from .library import BYTES, MOST_INPUTS, SIGNED, call, lent, number, room
+
+
+def width(count: int) -> int:
+    """The number of inputs that so many values belong to. Where it is no power of two, the number with which the call refuses it by 3."""
+    return (count - 1).bit_length() if count else 1
+
+
+def wholes(values: Iterable[SupportsIndex], what: str) -> list[int]:
+    """Values that are whole numbers: a float or a text is none, whatever it looks like."""
+    found = []
+    for place, value in enumerate(values):
+        try:
+            found.append(operator.index(value))
+        except TypeError:
+            raise TypeError(f"{what} {place} is no whole number: {value!r}") from None
+    return found
+
+
+def truth_values(values: Iterable[SupportsIndex]) -> list[int]:
+    """A truth table for the library. A value that no byte holds is handed over as 255, which is refused as any other above 1."""
+    return [value if 0 <= value < 256 else 255 for value in wholes(values, "the value for input")]
+
+
+def _size(n: int) -> int:
+    return 1 << n if 1 <= n <= MOST_INPUTS else 0
+
+
+def _inputs(n: Optional[SupportsIndex], count: int) -> int:
+    return number(width(count) if n is None else n)
+
+
+def spectrum(table: Iterable[SupportsIndex], n: Optional[int] = None) -> list[int]:
+    """The linear approximation values of a truth table, for w from 0: the inputs where it equals w·x, less 2^(n-1)."""
+    values = truth_values(table)
+    inputs = _inputs(n, len(values))
+    out = room(SIGNED, _size(inputs))
+    call("spectrum", inputs, lent(BYTES, values), out)
+    return list(out)
+
+
+def inverse_spectrum(values: Iterable[SupportsIndex], n: Optional[int] = None) -> list[int]:
+    """The truth table that has these linear approximation values; refused by 8 where no function has them."""
+    # No function has a value above 128, so one that does not fit 32 bits is handed over as another that no function has.
+    fitting = [value if -(2**31) <= value < 2**31 else 2**31 - 1 for value in wholes(values, "the value at w")]
+    inputs = _inputs(n, len(fitting))
+    table = room(BYTES, _size(inputs))
+    call("inverse_spectrum", inputs, lent(SIGNED, fitting), table)
+    return list(table)
+
+
+def normal_form(table: Iterable[SupportsIndex], n: Optional[int] = None) -> list[int]:
+    """The coefficients of a truth table's algebraic normal form, for u from 0; of coefficients, the truth table."""
+    values = truth_values(table)
+    inputs = _inputs(n, len(values))
+    out = room(BYTES, _size(inputs))
+    call("normal_form", inputs, lent(BYTES, values), out)
+    return list(out)
+
+
+def enlarge_column(
+    table: Iterable[SupportsIndex], k: SupportsIndex, a: SupportsIndex, n: Optional[int] = None
+) -> list[int]:
+    """A column with one more input (document 000): the table, and behind it the table with input k flipped, XOR a."""
+    values = truth_values(table)
+    inputs = _inputs(n, len(values))
+    out = room(BYTES, 2 * _size(inputs))
+    call("enlarge_column", inputs, lent(BYTES, values), number(k), number(a, 2), out)
+    return list(out)
+
+
+def bent_function(
+    permutation: Iterable[SupportsIndex], table: Iterable[SupportsIndex], n: Optional[int] = None
+) -> list[int]:
+    """The bent function of Maiorana and McFarland: input x * 2^h + y gives permutation[x]·y XOR table[x], h being half of n."""
+    # No entry may be above 15, so one that no byte holds is handed over as 255, which is no part of a permutation either.
+    entries = [value if 0 <= value < 256 else 255 for value in wholes(permutation, "the entry of the permutation at")]
+    inputs = number(2 * width(len(entries)) if n is None else n)
+    out = room(BYTES, _size(inputs))
+    call("bent_function", inputs, lent(BYTES, entries), lent(BYTES, truth_values(table)), out)
+    return list(out)

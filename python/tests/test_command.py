@@ -1,0 +1,150 @@
+"""The command: what it prints, what it writes, and its exit status."""
+import contextlib
+import io
+import os
+import pathlib
+import subprocess
+import sys
+import tempfile
+import types
+import unittest
+import unittest.mock
+
+from satmegwo import Box, command, library
+
+from .places import EXAMPLES, PACKAGE, ROOT
+
+ROWS = b"3 1 4 0 2 5 6 7"
+
+
+def run(*words, given=b""):
+    """The command in this process: its exit status, and what it wrote to both outputs."""
+    given, out, error = io.TextIOWrapper(io.BytesIO(given)), io.TextIOWrapper(io.BytesIO()), io.StringIO()
+    with unittest.mock.patch("sys.stdin", given), contextlib.redirect_stdout(out), contextlib.redirect_stderr(error):
+        try:
+            status = command.main([str(word) for word in words])
+        except SystemExit as end:
+            status = end.code
+        out.flush()
+    return types.SimpleNamespace(returncode=status, stdout=out.buffer.getvalue(), stderr=error.getvalue().encode())
+
+
+def run_alone(*words, given=b"", **how):
+    """The command as a process of its own."""
+    asked = [sys.executable, "-B", "-m", "satmegwo", *map(str, words)]
+    return subprocess.run(
+        asked, input=given, stdout=how.pop("stdout", subprocess.PIPE), stderr=subprocess.PIPE, cwd=PACKAGE, **how
+    )
+
+
+class Command(unittest.TestCase):
+    def test_sheet(self):
+        done = run("sheet", ROOT / "examples" / "aes.box")
+        self.assertEqual(
+            (done.returncode, done.stdout, done.stderr), (0, (ROOT / "examples" / "aes.sheet").read_bytes(), b"")
+        )
+        done = run("sheet", "-", "-n", "3", "-m", "3", given=ROWS)
+        self.assertEqual((done.returncode, done.stdout), (0, (ROOT / "examples" / "example.sheet").read_bytes()))
+        done = run("sheet", "-", given=EXAMPLES[0].read_bytes())
+        self.assertEqual(done.stdout, EXAMPLES[0].with_suffix(".sheet").read_bytes())
+
+    def test_as_a_program(self):
+        done = run_alone("sheet", "-", "-n", "3", "-m", "3", given=ROWS)
+        self.assertEqual((done.returncode, done.stdout), (0, (ROOT / "examples" / "example.sheet").read_bytes()))
+        self.failed(1, run_alone("sheet", "-", given=b"\3\3"), "refused 10")
+
+    def test_explain(self):
+        box = Box([3, 1, 4, 0, 2, 5, 6, 7], m=3)
+        done = run("explain", "-", "-n", "3", "-m", "3", given=ROWS)
+        self.assertEqual((done.returncode, done.stdout.decode()), (0, str(box.explain())))
+        done = run(
+            "explain",
+            "-",
+            "-n",
+            "3",
+            "-m",
+            "3",
+            "--figure",
+            "distance",
+            "--limit",
+            "3",
+            "--flips",
+            "2",
+            "--html",
+            given=ROWS,
+        )
+        self.assertEqual(
+            (done.returncode, done.stdout.decode()), (0, box.explain("distance", i=3, j=2).html(whole=True) + "\n")
+        )
+
+    def test_boxfile(self):
+        with tempfile.TemporaryDirectory() as folder:
+            kept = pathlib.Path(folder, "kept.box")
+            done = run("boxfile", "-", "-n", "1", "-m", "1", "-o", kept, given=b"0 1")
+            self.assertEqual(
+                (done.returncode, done.stdout, kept.read_bytes()), (0, b"", bytes([1, 1, 0, 0, 0, 0, 1, 0, 0, 0]))
+            )
+            self.assertEqual(run("boxfile", kept).stdout, kept.read_bytes())
+
+    def test_words_that_settle(self):
+        for words, given in (
+            (("--base", "16"), b"3 1 4 0 2 5 6 7"),
+            (("--pairs",), b"0,3\n1,1\n2,4\n3,0\n4,2\n5,5\n6,6\n7,7\n"),
+            (("--no-pairs",), ROWS),
+            (("--lines",), ROWS),
+        ):
+            self.assertEqual(run("sheet", "-", "-n", "3", "-m", "3", *words, given=given).returncode, 0, words)
+
+    def failed(self, status, done, words):
+        self.assertEqual((done.returncode, done.stdout or b""), (status, b""))
+        self.assertIn(words, done.stderr.decode())
+        self.assertNotIn("Traceback", done.stderr.decode())
+
+    def test_refused(self):
+        self.failed(
+            1,
+            run("sheet", "-", "-n", "3", "-m", "2", given=ROWS),
+            "refused 4: a row is not below 2^m, or a truth value is above 1; the row for input 2 is 4",
+        )
+        self.failed(1, run("sheet", "-", "-n", "4", "-m", "3", given=ROWS), "refused 3")
+        self.failed(1, run("sheet", "-", "-n", "9", "-m", "3", given=ROWS), "refused 1")
+        self.failed(1, run("sheet", "-", given=b"\3\3"), "refused 10")
+        self.failed(1, run("explain", "-", "-n", "3", "-m", "3", "--limit", "4", given=ROWS), "refused 6")
+        self.failed(
+            1, run("explain", "-", "-n", "3", "-m", "1", "--figure", "bic", given=b"0 1 0 1 1 1 0 0"), "refused 6"
+        )
+
+    def test_unreadable(self):
+        self.failed(2, run("sheet", "-", given=ROWS), "state n")
+        self.failed(2, run("sheet", "-", "-n", "3", given=ROWS), "state m")
+        self.failed(2, run("sheet", "-", "-n", "1", "-m", "1", given=b"#NUM! 1"), "line 1, number 1: #NUM!")
+        self.failed(2, run("sheet", "-", "-n", "1", "-m", "1", given=b"1 " * 600_000), "longer than")
+        self.failed(2, run("sheet", "-", "-n", "1", "-m", "1"), "nothing in it")
+        self.failed(2, run("sheet", "/nowhere.txt", "-n", "1", "-m", "1"), "No such file")
+        self.failed(2, run("sheet", "/", "-n", "1", "-m", "1"), "directory")
+        self.failed(2, run("explain", "-", "-n", "3", "-m", "3", "--figure", "distance", given=ROWS), "--flips")
+        self.failed(2, run("explain", "-", "-n", "3", "-m", "3", "--figure", "xor", "--limit", "2", given=ROWS), "xor")
+        library.functions.cache_clear()
+        self.addCleanup(library.functions.cache_clear)
+        with unittest.mock.patch.dict("os.environ", SATMEGWO_LIBRARY="/nowhere.so"):
+            self.failed(2, run("sheet", "-", "-n", "3", "-m", "3", given=ROWS), "make shared")
+        self.failed(2, run("score", "-"), "invalid choice")
+
+    def test_what_cannot_be_written(self):
+        with open("/dev/full", "wb") as full:
+            self.failed(2, run_alone("sheet", EXAMPLES[0], stdout=full), "No space")
+        self.failed(2, run("sheet", EXAMPLES[0], "-o", "/nowhere/out"), "No such file")
+        reading, writing = os.pipe()
+        os.close(reading)
+        self.failed(2, run_alone("sheet", EXAMPLES[0], stdout=writing), "Broken pipe")
+        os.close(writing)
+        closed = subprocess.run(
+            ["bash", "-c", f"{sys.executable} -B -m satmegwo sheet - <&-; echo $?"], cwd=PACKAGE, capture_output=True
+        )
+        self.assertEqual((closed.stdout, closed.stderr), (b"2\n", b"-: standard input is closed\n"))
+
+    def test_help_names_every_command(self):
+        told = run("--help").stdout.decode()
+        for name in command.COMMANDS:
+            self.assertIn(name, told)
+            self.assertIn("--base", run(name, "--help").stdout.decode())

@@ -1,0 +1,163 @@
+"""Refusals from both sides of their bounds, and values that ctypes would cut to fit."""
+import pickle
+import unittest
+
+import satmegwo
+from satmegwo import Box, Refusal
+
+from .places import example
+
+EIGHT = list(range(8))
+WORD = 2**32
+# What 32 bits would make of each of these is inside every range; so none may be cut.
+CUT = (WORD, WORD + 1, WORD + 2, 2**64 + 1, -1, -WORD + 1)
+
+
+class Refusals(unittest.TestCase):
+    def refused(self, number, call, *arguments, **named):
+        with self.assertRaises(Refusal, msg=(arguments, named)) as caught:
+            call(*arguments, **named)
+        self.assertEqual(caught.exception.number, number, (arguments, named))
+        return str(caught.exception)
+
+    def test_a_refusal_says_what_met_its_condition(self):
+        self.assertEqual(
+            self.refused(4, Box, EIGHT[:7] + [8], m=3),
+            "refused 4: a row is not below 2^m, or a truth value is above 1; the row for input 7 is 8, and 3 outputs end at 7",
+        )
+        self.assertIn("7 rows are given, and 3 inputs need 8", self.refused(3, Box, EIGHT[:7], m=3))
+        self.assertIn("n is 9", self.refused(1, Box, EIGHT, m=3, n=9))
+        self.assertIn("m is 33", self.refused(2, Box, EIGHT, m=33))
+        self.assertIn("a text and no box file", self.refused(1, Box.from_bytes, b"3 1 4 0 2 5 6 7"))
+        kept = pickle.loads(pickle.dumps(Refusal(4, "here")))
+        self.assertEqual((kept.number, kept.detail), (4, "here"))
+
+    def test_boxes(self):
+        self.refused(1, Box, EIGHT, m=3, n=0)
+        self.refused(1, Box, [0], m=1)
+        self.refused(1, Box, range(512), m=9)
+        self.refused(2, Box, EIGHT, m=0)
+        self.refused(3, Box, [], m=3)
+        self.refused(3, Box, EIGHT, m=3, n=2)
+        self.assertEqual(Box([0] * 7 + [7], m=3).rows[7], 7)
+        self.assertEqual(Box([0] * 7 + [WORD - 1], m=32).rows[7], WORD - 1)
+        for row in (8, WORD, WORD + 1, 2**64, -1):
+            self.refused(4, Box, EIGHT[:7] + [row], m=3)
+        for row in (WORD, WORD + 1, 2**64, -1):
+            self.refused(4, Box, EIGHT[:7] + [row], m=32)
+            self.refused(3, Box, EIGHT[:6] + [row], m=32)
+            self.refused(2, Box, EIGHT[:6] + [row], m=33)
+            self.refused(1, Box, EIGHT[:6] + [row], m=33, n=9)
+
+    def test_numbers_that_do_not_fit(self):
+        box = example("des-s1")
+        for value in CUT:
+            with self.subTest(value):
+                self.refused(1, Box, EIGHT, m=3, n=value)
+                self.refused(2, Box, EIGHT, m=value)
+                for call in (
+                    box.nonlinearity,
+                    box.nearest_pairs,
+                    box.autocorrelation,
+                    box.degree,
+                    box.spectrum,
+                    box.combination,
+                    box.normal_form,
+                    box.xor_row,
+                ):
+                    self.refused(6, call, value)
+                self.refused(6, box.dynamic_distance, value, 1)
+                self.refused(6, box.dynamic_distance, 1, value)
+                self.refused(6, box.add_to_column, value, 0, 0)
+                self.refused(6, box.add_to_column, 1, value, 0)
+                self.refused(6, box.add_to_column, 1, 0, value)
+                self.refused(6, box.swapped, value, 0)
+                self.refused(6, box.swapped, 0, value)
+                self.refused(6, satmegwo.sum_nonlinearity, [box], value)
+                self.refused(6, satmegwo.enlarge_column, [0, 1], value, 0)
+                self.refused(6, satmegwo.enlarge_column, [0, 1], 1, value)
+                self.refused(6, Box(EIGHT, m=3).enlarge, [0] * 8, value)
+                self.refused(1, Box.from_packed, b"\1", value, 1)
+                self.refused(2, Box.from_packed, b"\1", 1, value)
+                self.refused(4, satmegwo.spectrum, [0, value])
+                self.refused(4, satmegwo.normal_form, [0, value])
+                self.refused(5, satmegwo.bent_function, [0, value], [0, 0])
+                self.refused(4, satmegwo.bent_function, [0, 1], [0, value])
+                for call in (satmegwo.spectrum, satmegwo.normal_form, satmegwo.inverse_spectrum):
+                    self.refused(1, call, [0, 1], n=value)
+                design, server, kept = (
+                    satmegwo.Design(box).mark(1),
+                    satmegwo.Server().put(1, box),
+                    satmegwo.Catalogue(258),
+                )
+                self.refused(6, design.swap, value, 0)
+                self.refused(6, design.add, 1, 1, value)
+                self.refused(6, design.mark, value)
+                self.refused(6, design.return_to, value)
+                self.refused(18, server.put, value, box)
+                self.refused(18, server.withdraw, value)
+                self.refused(18, server.ask, value)
+                self.refused(15, kept.place, value)
+                self.refused(15, kept.remove, value)
+                self.refused(15, kept.__getitem__, value)
+                self.refused(13, satmegwo.Catalogue, value)
+        for value in (WORD + 1, 2**31, -WORD + 1):
+            self.refused(8, satmegwo.inverse_spectrum, [value, 0])
+
+    def test_bounds_of_parameters(self):
+        box = Box(EIGHT, m=3)
+        for outside in (0, 4):
+            self.refused(6, box.nonlinearity, outside)
+            self.refused(6, box.dynamic_distance, 1, outside)
+        self.refused(6, box.spectrum, 8)
+        self.refused(6, box.xor_row, 0)
+        self.refused(6, box.add_to_column, 1, 8, 0)
+        self.refused(6, box.add_to_column, 1, 0, 2)
+        self.refused(6, Box([0, 1], m=1).bic)
+        self.refused(2, Box(EIGHT, m=17).xor_row, 1)
+        self.refused(2, Box(EIGHT, m=9).raising_swap)
+        self.refused(9, box.nearest_pairs, most=0)
+
+    def test_tables_and_sums(self):
+        self.refused(8, satmegwo.inverse_spectrum, [1, 1, 1, 1])
+        self.refused(3, satmegwo.spectrum, [0, 1, 1])
+        self.refused(4, satmegwo.spectrum, [0, 2])
+        self.refused(5, satmegwo.bent_function, [0, 0, 1, 2], [0] * 4)
+        self.refused(3, satmegwo.bent_function, [0, 1], [0] * 4)
+        self.refused(1, satmegwo.enlarge_column, [0] * 256, 1, 0)
+        self.refused(11, satmegwo.sum_nonlinearity, [])
+        self.refused(11, satmegwo.sum_nonlinearity, 5 * [Box([0, 1], m=1)])
+        self.refused(12, satmegwo.sum_nonlinearity, [Box(EIGHT, m=3), Box([0, 1], m=1)])
+
+    def test_files_and_holders(self):
+        self.refused(10, Box.from_bytes, b"")
+        self.refused(10, Box.from_bytes, b"\3\3\0")
+        self.refused(16, Box.from_packed, b"\x10", 2, 1)
+        self.refused(3, Box.from_packed, b"", 2, 1)
+        for length in (0, 257, 65536, 10**15):
+            self.refused(13, satmegwo.Catalogue, length)
+        self.refused(13, satmegwo.Catalogue, b"\1" + bytes(300))
+        self.refused(14, satmegwo.Catalogue(258).add, Box([0, 1], m=1))
+        self.refused(10, satmegwo.Catalogue().add, b"\1")
+        self.refused(17, satmegwo.Design(Box(EIGHT, m=3)).return_to, 2)
+        self.refused(6, satmegwo.Design(Box(EIGHT, m=3)).return_to, 17)
+        server = satmegwo.Server().put(1, Box(EIGHT, m=3))
+        self.refused(19, server.put, 1, Box(EIGHT, m=3))
+        self.refused(19, server.ask, 2)
+        self.refused(2, server.put, 2, Box(EIGHT, m=17))
+
+    def test_a_refused_operation_changes_nothing(self):
+        design, kept = satmegwo.Design(Box(EIGHT, m=3)).mark(2), satmegwo.Catalogue(258)
+        self.refused(17, design.return_to, 1)
+        self.assertEqual((design.box, design.marks), (Box(EIGHT, m=3), [2]))
+        self.refused(14, kept.add, Box([0, 1], m=1))
+        self.assertEqual(bytes(kept), bytes(258))
+
+    def test_what_is_no_whole_number(self):
+        for row in (3.0, "3", None, float("nan"), [1]):
+            with self.assertRaises(TypeError):
+                Box([row, 1], m=2)
+            with self.assertRaises(TypeError):
+                satmegwo.spectrum([row, 1])
+            with self.assertRaises(TypeError):
+                Box(EIGHT, m=3).spectrum(row)
