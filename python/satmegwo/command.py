@@ -11,41 +11,91 @@ import signal
 import sys
 from typing import Callable, Optional, Sequence, Union
 
-from . import explaining, reading
+from . import explaining, page, pictures, reading
 from .box import Box
 from .explaining import Contradiction
 from .library import MissingLibrary
+from .pictures import Undrawable
 from .reading import Unreadable
+from .progress import Progress
 from .refusals import Refusal
 
 REFUSED, UNREADABLE = 1, 2
+Making = Callable[[Box, argparse.Namespace, Progress], Union[str, bytes]]
 
 
-def _sheet(box: Box, args: argparse.Namespace) -> str:
+def _sheet(box: Box, args: argparse.Namespace, progress: Progress) -> str:
     return box.sheet()
 
 
-def _explain(box: Box, args: argparse.Namespace) -> str:
+def _explain(box: Box, args: argparse.Namespace, progress: Progress) -> str:
     how = {name: value for name, value in (("i", args.limit), ("j", args.flips)) if value is not None}
     try:
         explanation = explaining.explain(box, args.figure, **how)
     except TypeError:
-        raise Unreadable(
-            f"{args.figure} takes other words than these: distance needs --limit and --flips, and xor, sac and bic have neither"
-        ) from None
+        words = "distance needs --limit and --flips, and xor, sac and bic have neither"
+        raise Unreadable(f"{args.figure} takes other words than these: {words}") from None
     return explanation.html(whole=True) + "\n" if args.html else str(explanation)
 
 
-def _boxfile(box: Box, args: argparse.Namespace) -> bytes:
+def _report(box: Box, args: argparse.Namespace, progress: Progress) -> str:
+    return page.page(box, progress.say)
+
+
+def _spectrum(box: Box, args: argparse.Namespace, progress: Progress) -> str:
+    return pictures.spectrum_bars(box, args.combination)
+
+
+def _drawn(draw: Callable[[Box], str]) -> Making:
+    return lambda box, args, progress: draw(box)
+
+
+def _boxfile(box: Box, args: argparse.Namespace, progress: Progress) -> bytes:
     return box.to_bytes()
 
 
-Making = Callable[[Box, argparse.Namespace], Union[str, bytes]]
 COMMANDS: dict[str, tuple[str, Making]] = {
     "sheet": ("prints the sheet: each figure with its witness, as boxsheet does", _sheet),
     "explain": ("shows the count behind the witness of a figure", _explain),
+    "report": ("writes a page of HTML: the sheet in sentences, pictures, and the counts", _report),
+    "lat": ("draws the linear approximation table, as SVG", _drawn(pictures.lat_map)),
+    "xor": ("draws the XOR table, as SVG", _drawn(pictures.xor_map)),
+    "spectrum": ("draws the spectrum of a combination, as SVG", _spectrum),
+    "counts": (
+        "draws the distance of each combination from the affine functions, as SVG",
+        _drawn(pictures.distance_bars),
+    ),
     "boxfile": ("writes the box file", _boxfile),
 }
+
+
+def _words_of_reading(command: argparse.ArgumentParser) -> None:
+    """The words on what is read and where the result goes, which all commands have."""
+    add = command.add_argument
+    tables = "a box file, or a table of numbers: a column, a CSV, a list of C or Python; - for standard input"
+    add("file", metavar="FILE", help=tables)
+    add("-n", dest="n", type=int, metavar="N", help="the number of inputs, 1 to 8; a box file says it itself")
+    add("-m", dest="m", type=int, metavar="M", help="the number of outputs, 1 to 32; a box file says it itself")
+    bases = "the base of all numbers; without it 0x means base sixteen, and all else is in base ten"
+    add("--base", type=int, choices=[10, 16], help=bases)
+    pairs = "each line of the table is an input and its row, or every number is a row"
+    add("--pairs", action=argparse.BooleanOptionalAction, help=pairs)
+    lines = "four lines of sixteen numbers, as DES prints its boxes, stand in the order of the inputs"
+    add("--lines", action="store_true", help=lines)
+    add("-o", dest="output", metavar="OUT", help="the file to write; without it standard output")
+
+
+def _words_of_explain(command: argparse.ArgumentParser) -> None:
+    add, figures = command.add_argument, list(explaining.FIGURES)
+    add("--figure", default="nonlinearity", choices=figures, help="which figure; without it the nonlinearity")
+    add("--limit", type=int, metavar="I", help="combinations of at most I outputs; without it as on the sheet")
+    add("--flips", type=int, metavar="J", help="for a distance: at most J flipped inputs")
+    add("--html", action="store_true", help="as a part of a page of HTML")
+
+
+def _words_of_spectrum(command: argparse.ArgumentParser) -> None:
+    which = "which combination; without it that of the nonlinearity's witness"
+    command.add_argument("--combination", type=int, metavar="C", help=which)
 
 
 def _parser() -> argparse.ArgumentParser:
@@ -57,46 +107,11 @@ def _parser() -> argparse.ArgumentParser:
     commands = parser.add_subparsers(dest="command", required=True, metavar="COMMAND")
     for name, (words, _) in COMMANDS.items():
         command = commands.add_parser(name, help=words, description=words + ".")
-        command.add_argument(
-            "file",
-            metavar="FILE",
-            help="a box file, or a table of numbers: a column, a CSV, a list of C or Python; - for standard input",
-        )
-        command.add_argument(
-            "-n", dest="n", type=int, metavar="N", help="the number of inputs, 1 to 8; a box file says it itself"
-        )
-        command.add_argument(
-            "-m", dest="m", type=int, metavar="M", help="the number of outputs, 1 to 32; a box file says it itself"
-        )
-        command.add_argument(
-            "--base",
-            type=int,
-            choices=[10, 16],
-            help="the base of all numbers; without it 0x means base sixteen, and all else is in base ten",
-        )
-        command.add_argument(
-            "--pairs",
-            action=argparse.BooleanOptionalAction,
-            help="each line of the table is an input and its row, or every number is a row",
-        )
-        command.add_argument(
-            "--lines",
-            action="store_true",
-            help="four lines of sixteen numbers, as DES prints its boxes, stand in the order of the inputs",
-        )
-        command.add_argument("-o", dest="output", metavar="OUT", help="the file to write; without it standard output")
+        _words_of_reading(command)
         if name == "explain":
-            command.add_argument(
-                "--figure",
-                default="nonlinearity",
-                choices=list(explaining.FIGURES),
-                help="which figure; without it the nonlinearity",
-            )
-            command.add_argument(
-                "--limit", type=int, metavar="I", help="combinations of at most I outputs; without it as on the sheet"
-            )
-            command.add_argument("--flips", type=int, metavar="J", help="for a distance: at most J flipped inputs")
-            command.add_argument("--html", action="store_true", help="as a part of a page of HTML")
+            _words_of_explain(command)
+        if name == "spectrum":
+            _words_of_spectrum(command)
     return parser
 
 
@@ -127,11 +142,14 @@ def main(words: Optional[Sequence[str]] = None) -> int:
     args = _parser().parse_args(words)
     try:
         box = _read(args)
-        _write(COMMANDS[args.command][1](box, args), args.output)
+        with Progress() as progress:
+            progress.say(f"{args.command} of {box.n} by {box.m}")
+            made = COMMANDS[args.command][1](box, args, progress)
+        _write(made, args.output)
     except Refusal as refusal:
         print(f"{args.file}: {refusal}", file=sys.stderr)
         return REFUSED
-    except (Unreadable, Contradiction, MissingLibrary, OSError) as error:
+    except (Unreadable, Undrawable, Contradiction, MissingLibrary, OSError) as error:
         print(f"{args.file}: {error}", file=sys.stderr)
         return UNREADABLE
     return 0

@@ -10,7 +10,7 @@ import types
 import unittest
 import unittest.mock
 
-from satmegwo import Box, command, library
+from satmegwo import Box, command, library, pictures
 
 from .places import EXAMPLES, PACKAGE, ROOT
 
@@ -85,6 +85,22 @@ class Command(unittest.TestCase):
                 (done.returncode, done.stdout, kept.read_bytes()), (0, b"", bytes([1, 1, 0, 0, 0, 0, 1, 0, 0, 0]))
             )
             self.assertEqual(run("boxfile", kept).stdout, kept.read_bytes())
+
+    def test_pictures(self):
+        box = Box([3, 1, 4, 0, 2, 5, 6, 7], m=3)
+        drawn = {
+            "lat": pictures.lat_map,
+            "xor": pictures.xor_map,
+            "spectrum": pictures.spectrum_bars,
+            "counts": pictures.distance_bars,
+        }
+        for name, draw in drawn.items():
+            done = run(name, "-", "-n", "3", "-m", "3", given=ROWS)
+            self.assertEqual((done.returncode, done.stdout.decode(), done.stderr), (0, draw(box), b""))
+        done = run("spectrum", "-", "-n", "3", "-m", "3", "--combination", "2", given=ROWS)
+        self.assertEqual((done.returncode, done.stdout.decode()), (0, pictures.spectrum_bars(box, 2)))
+        self.failed(1, run("spectrum", "-", "-n", "3", "-m", "3", "--combination", "8", given=ROWS), "refused 6")
+        self.failed(2, run("lat", "-", "-n", "3", "-m", "9", given=ROWS), "up to 8 outputs, and this box has 9")
 
     def test_words_that_settle(self):
         for words, given in (

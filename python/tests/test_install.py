@@ -9,22 +9,27 @@ import tempfile
 import unittest
 
 import satmegwo
-from satmegwo import command, definitions, explaining, functions, library, reading, refusals, theorems
-
-from .places import PACKAGE, ROOT
-
-MODULES = (
-    satmegwo.box,
+from satmegwo import (
     command,
     definitions,
     explaining,
     functions,
-    satmegwo.keeping,
     library,
+    page,
+    pictures,
+    progress,
     reading,
     refusals,
+    svg,
     theorems,
 )
+
+from .places import PACKAGE, ROOT
+
+MODULES = (
+    satmegwo.box, command, definitions, explaining, functions, satmegwo.keeping, library, page, pictures, progress, reading,
+    refusals, svg, theorems,
+)  # fmt: skip
 
 
 @unittest.skipUnless(importlib.util.find_spec("pip"), "this Python has no pip")

@@ -1,0 +1,238 @@
+"""One page about a box: its rows, its sheet in sentences, pictures, the counts behind the witnesses, and what is proved of all this.
+
+The page is one file of HTML that needs no other, and prints on A4. The same box gives the same bytes.
+"""
+from __future__ import annotations
+
+import html
+from typing import Callable, NamedTuple
+
+from . import explaining, pictures, theorems
+from .box import Box, Distance
+from .explaining import inputs, over_all, within
+from .library import version
+
+STYLE = """
+@page { size: A4; margin: 10mm }
+body { font: 14px/1.45 "DejaVu Sans", Verdana, Arial, sans-serif; color: #1a1a1a; background: #fff }
+body { max-width: 62em; margin: 0 auto; padding: 1em }
+h1 { font-size: 1.5em; margin: 0 0 .4em }
+h2 { font-size: 1.15em; margin: 1.6em 0 .5em; padding-bottom: .15em; border-bottom: 2px solid #1a1a1a; break-after: avoid }
+h3 { font-size: 1em; margin: 1.2em 0 .2em; break-after: avoid }
+p { margin: .25em 0; max-width: 52em }
+pre, .count { font-family: "DejaVu Sans Mono", Consolas, monospace }
+pre { margin: .3em 0; font-size: .93em; line-height: 1.35 }
+.wide { overflow-x: auto; margin: .3em 0 }
+table { border-collapse: collapse }
+.sheet th, .sheet td { text-align: left; vertical-align: top; padding: .3em 1em .3em 0; border-bottom: 1px solid #c8c8c8 }
+.sheet .figure { text-align: right; font-weight: bold }
+.sheet tr { break-inside: avoid }
+.witness { white-space: nowrap }
+figure { display: inline-block; vertical-align: top; margin: 0 0 6px; overflow-x: auto; max-width: 100%; break-inside: avoid }
+section { break-inside: avoid }
+.pictures { orphans: 1; widows: 1 }
+figure svg { display: block }
+.count { font-size: 12px; line-height: 1.3 }
+.count th, .count td { text-align: right; padding: 0 .4em; font-weight: normal; white-space: nowrap }
+.count th[scope=row] { text-align: left; padding: 0 1em 0 0 }
+.count .first th, .count .first td { border-top: 1px solid #c8c8c8; padding-top: .25em; color: #595959 }
+.count .counted { background: #f0d9b5; color: #000; font-weight: bold; text-decoration: underline }
+.count .sum { padding-left: 1em; font-weight: bold }
+footer { margin-top: 1.6em; border-top: 1px solid #c8c8c8; padding-top: .5em; color: #595959 }
+@media screen and (max-width: 44em) {
+  .sheet tr { display: block; padding: .4em 0; border-bottom: 1px solid #c8c8c8 }
+  .sheet th, .sheet td { border: 0; padding: 0 .8em 0 0; display: inline-block }
+  .sheet td:last-child { display: block }
+}
+@media print {
+  body { font-size: 10px; max-width: none; padding: 0 }
+  p { max-width: none }
+  h2 { margin-top: 1em }
+  .sheet th, .sheet td { padding-top: .12em; padding-bottom: .12em }
+  .wide { overflow: visible }
+  figure { overflow: visible }
+  .count { font-size: 8px }
+  * { -webkit-print-color-adjust: exact; print-color-adjust: exact }
+}
+"""
+# The conditions of docs/CERTIFICATE.md, in its words.
+CONDITIONS = (
+    "Input width: one to eight.",
+    "Output width: one to thirty-two.",
+    "Every nonzero combination of outputs, not single outputs or pairs.",
+    "Every affine function.",
+    "No sampling.",
+)
+
+
+class Sentence(NamedTuple):
+    """A line of the sheet: its word, its figure, its witness, and what it says."""
+
+    word: str
+    figure: object
+    witness: str
+    says: str
+
+
+def _criterion(box: Box, word: str, distance: Callable[[], Distance], what: str, name: str) -> Sentence:
+    """The line of an avalanche criterion."""
+    if word == "bic" and box.m == 1:
+        return Sentence(word, "none", "", "A box of one output has no pairs of outputs.")
+    figure, (c, d), _, _ = distance()
+    half = 2 ** (box.n - 1)
+    changes = f"When one input is flipped, {what} changes at "
+    if figure == 0:
+        says = changes + f"exactly half of all inputs, {half}, whichever they are: {name} holds."
+    else:
+        says = (
+            changes
+            + f"{half - figure} to {half + figure} inputs, half of all being {half}; this is the first that is {figure} off:"
+            f" {name} does not hold."
+        )
+    return Sentence(word, figure, f"c = {c}, d = {d}", says)
+
+
+def _nonlinearity(box: Box) -> Sentence:
+    figure, (c, w, b), limit = box.nonlinearity()
+    says = (
+        f"Every {within(limit, box.m)} differs from every affine function at {inputs(figure)} or more; this pair is the first that"
+        f" differs at exactly {figure}."
+    )
+    return _bounded("nonlinearity", figure, f"c = {c}, w = {w}, b = {b}", says, limit, box.m)
+
+
+def _xor(box: Box) -> Sentence:
+    figure, (a, beta) = box.largest_cell()
+    says = (
+        f"No nonzero input difference gives any output difference at more than {inputs(figure)}; this is the first that does at"
+        f" {figure}."
+    )
+    return Sentence("xor", figure, f"a = {a}, β = {beta}", says)
+
+
+def _autocorrelation(box: Box) -> Sentence:
+    figure, (c, s), limit = box.autocorrelation()
+    says = (
+        f"For no {within(limit, box.m)} and no nonzero change of the inputs do the inputs at which it changes and those at which it does"
+        f" not differ in number by more than {figure}; this is the first where they do by {figure}."
+    )
+    return _bounded("autocorrelation", figure, f"c = {c}, s = {s}", says, limit, box.m)
+
+
+def _degree(box: Box) -> Sentence:
+    figure, (c,), limit = box.degree()
+    says = f"Every {within(limit, box.m)} has degree {figure} or more; this is the first of exactly {figure}."
+    return _bounded("degree", figure, f"c = {c}", says, limit, box.m)
+
+
+def _bounded(word: str, figure: int, witness: str, says: str, limit: int, m: int) -> Sentence:
+    """A sentence, and with a limit below m on which side the figure over all combinations lies."""
+    return Sentence(word, figure, witness, " ".join([says, *over_all(word, figure, limit, m, word)]))
+
+
+def sentences(box: Box) -> list[Sentence]:
+    """The sheet in sentences."""
+    everywhere = "Whether every input changes every output somewhere."
+    unlike = "Whether there are as many inputs as outputs, and no two rows are equal."
+    return [
+        _nonlinearity(box),
+        _xor(box),
+        _autocorrelation(box),
+        _criterion(box, "sac", box.sac, "a single output", "the strict avalanche criterion"),
+        _criterion(box, "bic", box.bic, "an output or a sum of two", "the bit independence criterion"),
+        _degree(box),
+        Sentence("complete", "yes" if box.complete() else "no", "", everywhere),
+        Sentence("bijective", "yes" if box.bijective() else "no", "", unlike),
+    ]
+
+
+def _rows(box: Box) -> str:
+    """The rows in base sixteen, in lines that fit the page, each with its first input."""
+    digits = (box.m + 3) // 4
+    step = min(2**box.n, 16 if digits <= 4 else 8)
+    words = [f"{row:0{digits}x}" for row in box.rows]
+    left = len(str(2**box.n - 1))
+    return "\n".join(
+        f"{start:>{left}}: " + " ".join(words[start : start + step]) for start in range(0, len(words), step)
+    )
+
+
+def _sheet_in_sentences(box: Box) -> list[str]:
+    parts = ['<div class="wide"><table class="sheet">']
+    for word, figure, witness, says in sentences(box):
+        parts.append(
+            f'<tr><th scope="row">{word}</th><td class="figure">{figure}</td><td class="witness">{html.escape(witness)}</td>'
+        )
+        parts.append(f"<td>{html.escape(says)}</td></tr>")
+    return parts + ["</table></div>"]
+
+
+def _pictures(box: Box, say: Callable[[str], None]) -> list[str]:
+    drawn: dict[str, Callable[[Box], str]] = {"spectrum": pictures.spectrum_bars}
+    parts = []
+    if box.m <= pictures.MOST_OUTPUTS:
+        drawn = {
+            "linear approximation table": pictures.lat_map,
+            "distances": pictures.distance_bars,
+            "spectrum": pictures.spectrum_bars,
+            "XOR table": pictures.xor_map,
+        }
+    else:
+        parts.append(
+            f"<p>The two tables and the distance of each combination are drawn up to {pictures.MOST_OUTPUTS} outputs; this box has"
+            f" {box.m}, so that only the spectrum of the nonlinearity's witness is shown.</p>"
+        )
+    parts.append('<div class="pictures">')
+    for name, draw in drawn.items():
+        say(f"picture of the {name}")
+        parts.append(f"<figure>{draw(box)}</figure>")
+    return parts + ["</div>"]
+
+
+def _counts(box: Box, say: Callable[[str], None]) -> list[str]:
+    parts = []
+    for figure in ("nonlinearity", "xor", "autocorrelation", "sac", "bic", "degree"):
+        if (figure, box.m) != ("bic", 1):
+            say(f"count of {figure}")
+            parts.append(f"<section>\n{explaining.explain(box, figure).html()}\n</section>")
+    return parts
+
+
+def _certified(box: Box) -> list[str]:
+    """The certificate's conditions, what is proved, and what is not."""
+    limit = box.limit
+    covered = "all of them" if limit == box.m else f"those of at most {limit} outputs"
+    return [
+        f"<p>{html.escape(' '.join(CONDITIONS))}</p>",
+        f"<p>Here: {box.n} inputs, {box.m} outputs; of the nonzero combinations {covered}.</p>",
+        "<p>Proved, by a machine and for every box: the figures, their witnesses, the values of the tables and the text of the sheet,"
+        " which come from the library, are those of their definitions. The theorems named on this page, as"
+        f" {theorems.BOUNDS['nonlinearity'].name}, stand in crates/*/proofs.</p>",
+        "<p>Not proved: the program that read the box and made this page. It counted each figure again from its definition at the"
+        " witness, and compared the tables with the figures; where one had differed there would be no page. Nor are the compiler's"
+        " last step, the operating system or the machine part of the proof.</p>",
+        "<p>There is no blended score. A figure says what it counts, and nothing more.</p>",
+    ]
+
+
+def page(box: Box, say: Callable[[str], None] = lambda step: None) -> str:
+    """The page; `say` is told each step that may take long."""
+    title = html.escape(f"{box.name or 'A box'}: {inputs(box.n)}, {box.m} output{'' if box.m == 1 else 's'}")
+    say("sheet")
+    parts = [
+        '<!DOCTYPE html>\n<html lang="en">\n<head>\n<meta charset="utf-8">'
+        '\n<meta name="viewport" content="width=device-width, initial-scale=1">'
+        f"\n<title>{title}</title>\n<style>{STYLE}</style>\n</head>\n<body>\n<h1>{title}</h1>",
+        f'<p>The rows in base sixteen, for the inputs 0 to {2**box.n - 1}:</p>\n<div class="wide"><pre>{_rows(box)}</pre></div>',
+        "<h2>The sheet in sentences</h2>",
+        *_sheet_in_sentences(box),
+        "<h2>Pictures</h2>",
+        *_pictures(box, say),
+        "<h2>The counts behind the witnesses</h2>",
+        *_counts(box, say),
+        "<h2>What is certified</h2>",
+        *_certified(box),
+        f"<h2>The sheet</h2>\n<pre>{html.escape(box.sheet())}</pre>",
+        f"<footer>Satmegwo {version()}</footer>\n</body>\n</html>",
+    ]
+    return "\n".join(parts) + "\n"
