@@ -18,10 +18,11 @@
  * THE LIMIT. A combination within the limit i, from 1 to m, is one of at most i outputs:
  * c has 1 to i ones. With i = m these are all. A call over combinations visits each of
  * those within its limit: 41,448 at 32 outputs with i = 4, and 4,294,967,295 with i = 32.
- * It takes about 0.5 microseconds for each at 8 inputs, half an hour for the last
- * (autocorrelation and dynamic distance twice that), and cannot be stopped. With i below
- * m a combination of more outputs may be nearer: the nonlinearity and the degree over all
- * are at most those within i, autocorrelation and dynamic distance at least.
+ * It takes 0.3 to 0.5 microseconds for each at 8 inputs, so 20 to 30 minutes for the last
+ * (autocorrelation and dynamic distance twice that, the degree far less), and cannot be
+ * stopped. With i below m a combination of more outputs may be nearer: the nonlinearity
+ * and the degree over all are at most those within i, autocorrelation and dynamic
+ * distance at least.
  *
  * FIRST. Among equal figures the combination of fewer outputs comes first, and of those
  * with equally many the smaller c: 1, 2, 4, 3, 5, 6, 7 with three outputs. "The first
@@ -33,7 +34,8 @@
  * returned.
  *
  * THREADS. Calls share nothing: they keep no state and ask the system for nothing, so
- * that several may run at once, in any threads.
+ * that several may run at once, in any threads, as long as no array that one of them
+ * writes is used by another.
  *
  * ANSWERS. Every function but satmegwo_version returns 0, or the number of a refusal
  * (enum satmegwo_refusal). A refused call has written to no array. Figures are written to
@@ -364,7 +366,7 @@ uint32_t satmegwo_bent_function(
 
 /* ---- Box files ----------------------------------------------------------- */
 
-/* Whether n, m and rows are a box: the checks that every call on a box makes first.
+/* Whether n, m and rows are a box: the checks 1 to 4 of a box with 1 to 32 outputs.
  *   rows  read, 2^n elements below 2^m
  * Refusals: 1, 2, 3, 4. */
 uint32_t satmegwo_check_box(
