@@ -1,7 +1,7 @@
 """Satmegwo from Python: the figures of substitution boxes, each proved to be the figure of its definition, and the counts behind them.
 
     >>> from satmegwo import Box
-    >>> box = Box([3, 1, 4, 0, 2, 5, 6, 7], m=3)
+    >>> box = Box([3, 1, 4, 0, 2, 5, 6, 7], n=3, m=3)
     >>> box.nonlinearity()
     Nonlinearity(figure=0, witness=Pair(c=7, w=7, b=0), limit=3)
     >>> print(box.explain("nonlinearity"))

@@ -1,6 +1,7 @@
 """A box and its figures. Every figure, list and made box comes from the proved library."""
 from __future__ import annotations
 
+import operator
 import pathlib
 from typing import TYPE_CHECKING, Any, Iterable, NamedTuple, Optional, SupportsIndex, Union
 
@@ -162,15 +163,15 @@ def _accepted(n: int, m: int, rows: list[int]) -> Any:
 class Box:
     """A substitution box of n inputs and m outputs, whose rows[x] is the output for input x. It never changes.
 
-    m is always stated: an output that is 0 everywhere is a weak output, and would be lost where m is taken from the largest row. n follows
-    from the number of rows where it is not stated.
+    n and m are always stated. Half of a table would be a box of one input less where n is taken from the number of rows; and an output
+    that is 0 everywhere is a weak output, and would be lost where m is taken from the largest row.
     """
 
-    def __init__(self, rows: Iterable[SupportsIndex], m: int, n: Optional[int] = None, name: str = "") -> None:
+    def __init__(self, rows: Iterable[SupportsIndex], n: SupportsIndex, m: SupportsIndex, name: str = "") -> None:
+        """The rows are in the order of the inputs. Refused by 1, 2, 3 or 4; TypeError where they have no order or are no whole numbers."""
         whole = functions.wholes(rows, "the row for input")
-        self._n = functions.width(len(whole)) if n is None else n
-        self._m = m
-        self._words = _accepted(self._n, m, whole)
+        self._n, self._m = operator.index(n), operator.index(m)
+        self._words = _accepted(self._n, self._m, whole)
         self._rows = tuple(whole)
         self.name = name
 
@@ -184,12 +185,12 @@ class Box:
         except Refusal as refusal:
             detail = "the bytes are a text and no box file" if reading.looks_like_text(data) else ""
             raise Refusal(refusal.number, detail) from None
-        return cls(rows, widths[1], widths[0], name)
+        return cls(rows, widths[0], widths[1], name)
 
     @classmethod
     def from_text(cls, text: str, n: int, m: int, name: str = "", **how: Any) -> Box:
         """The box of a table of numbers, read as `reading.rows_of_text` says."""
-        return cls(reading.rows_of_text(text, **how), m, n, name)
+        return cls(reading.rows_of_text(text, **how), n, m, name)
 
     @classmethod
     def from_file(
@@ -221,7 +222,7 @@ class Box:
         """The box of columns that are packed for the mask."""
         rows = room(WORDS, 2**n if 0 <= n <= 8 else 0)
         call("unpack_columns", number(n), number(m), lent(BYTES, packed), rows)
-        return cls(rows, m, n, name)
+        return cls(rows, n, m, name)
 
     @property
     def n(self) -> int:
@@ -255,7 +256,7 @@ class Box:
         return hash((self._n, self._m, self._rows))
 
     def __repr__(self) -> str:
-        return f"Box([{', '.join(map(str, self._rows))}], m={self._m})"
+        return f"Box([{', '.join(map(str, self._rows))}], n={self._n}, m={self._m})"
 
     def arguments(self) -> tuple[int, int, Any]:
         """The box as the arguments of a call."""
@@ -320,7 +321,7 @@ class Box:
         out = self._write(
             "add_to_column", room(WORDS, 2**self._n), number(j), number(w, WORD - 1), number(b, WORD - 1)
         )
-        return Box(out, self._m, self._n, self.name)
+        return Box(out, self._n, self._m, self.name)
 
     def raising_swap(self) -> Optional[Swap]:
         """The smallest swap of two unlike rows that raises the nonlinearity over all combinations, or None; up to eight outputs."""
@@ -396,7 +397,7 @@ class Box:
             )
         out = room(WORDS, 2 ** (self._n + 1))
         call("enlarge_box", self._n, self._words, lent(BYTES, functions.truth_values(table)), number(k), out)
-        return Box(out, self._m + 1, self._n + 1, self.name)
+        return Box(out, self._n + 1, self._m + 1, self.name)
 
     def swapped(self, x: SupportsIndex, y: SupportsIndex) -> Box:
         """The box with the rows of the inputs x and y exchanged."""

@@ -7,7 +7,9 @@ from __future__ import annotations
 import argparse
 import os
 import pathlib
+import shutil
 import signal
+import stat
 import sys
 from typing import Callable, Optional, Sequence, Union
 
@@ -82,7 +84,7 @@ def _words_of_reading(command: argparse.ArgumentParser) -> None:
     add("--pairs", action=argparse.BooleanOptionalAction, help=pairs)
     lines = "four lines of sixteen numbers, as DES prints its boxes, stand in the order of the inputs"
     add("--lines", action="store_true", help=lines)
-    add("-o", dest="output", metavar="OUT", help="the file to write; without it standard output")
+    add("-o", dest="output", metavar="OUT", help="the file to write, another than FILE; - for standard output, as without it")
 
 
 def _words_of_explain(command: argparse.ArgumentParser) -> None:
@@ -126,31 +128,73 @@ def _read(args: argparse.Namespace) -> Box:
     return Box.from_data(data, args.n, args.m, name, base=args.base, pairs=args.pairs, lines=args.lines)
 
 
-def _write(made: Union[str, bytes], output: Optional[str]) -> None:
-    data = made if isinstance(made, bytes) else made.encode("utf-8")
-    if output is not None:
-        pathlib.Path(output).write_bytes(data)
+def _names_what_is_read(args: argparse.Namespace) -> bool:
+    """Whether -o names the file that is read, by this name or another, or as standard input: the table would be lost."""
+    if args.output in (None, "-") or (args.file == "-" and sys.stdin is None):
+        return False
+    try:
+        read = os.stat(sys.stdin.fileno() if args.file == "-" else args.file)
+        return stat.S_ISREG(read.st_mode) and os.path.samestat(read, os.stat(args.output))
+    except OSError:  # one of them is not there, or standard input is no file
+        return False
+
+
+def _replace(path: str, data: bytes) -> None:
+    """Writes a file in full, or leaves what stands there as it is: the data go to a new file beside it, which then takes its place."""
+    new = os.path.join(os.path.dirname(path), f".satmegwo-{os.urandom(8).hex()}")
+    there = os.path.exists(path)
+    if there:
+        open(path, "r+b").close()  # a file that must not be written is not replaced either
+    try:
+        with open(new, "xb") as file:
+            file.write(data)
+            file.flush()
+            os.fsync(file.fileno())
+        if there:
+            shutil.copymode(path, new)
+        os.replace(new, path)
+    except BaseException:
+        if os.path.exists(new):
+            os.remove(new)
+        raise
+
+
+def _write(data: bytes, output: Optional[str]) -> None:
+    """Writes to a file, or to standard output."""
+    if output is None or output == "-":
+        if sys.stdout is None:
+            raise OSError("it is closed")
+        sys.stdout.buffer.write(data)
+        sys.stdout.buffer.flush()
         return
-    if sys.stdout is None:
-        raise OSError("standard output is closed")
-    sys.stdout.buffer.write(data)
-    sys.stdout.buffer.flush()
+    path = os.path.realpath(output)  # a link stays one
+    if os.path.exists(output) and not os.path.isfile(path):
+        pathlib.Path(output).write_bytes(data)  # a device or a pipe cannot be replaced
+    else:
+        _replace(path, data)
 
 
 def main(words: Optional[Sequence[str]] = None) -> int:
     """Runs the command; gives its exit status."""
     args = _parser().parse_args(words)
     try:
+        if _names_what_is_read(args):
+            raise Unreadable(f"-o {args.output} names the file that is read, which would be lost: name another")
         box = _read(args)
         with Progress() as progress:
             progress.say(f"{args.command} of {box.n} by {box.m}")
             made = COMMANDS[args.command][1](box, args, progress)
-        _write(made, args.output)
     except Refusal as refusal:
         print(f"{args.file}: {refusal}", file=sys.stderr)
         return REFUSED
     except (Unreadable, Undrawable, Contradiction, MissingLibrary, OSError) as error:
         print(f"{args.file}: {error}", file=sys.stderr)
+        return UNREADABLE
+    try:
+        _write(made if isinstance(made, bytes) else made.encode("utf-8"), args.output)
+    except OSError as error:
+        where = "standard output" if args.output in (None, "-") else args.output
+        print(f"{where}: it could not be written: {error.strerror or error}", file=sys.stderr)
         return UNREADABLE
     return 0
 

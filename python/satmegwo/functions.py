@@ -1,6 +1,7 @@
 """Truth tables: the spectrum and the way back, the normal form, the enlargement of a column, the bent form."""
 from __future__ import annotations
 
+import collections.abc
 import operator
 from typing import Iterable, Optional, SupportsIndex
 
@@ -12,8 +13,24 @@ def width(count: int) -> int:
     return (count - 1).bit_length() if count else 1
 
 
+def _must_have_an_order(values: Iterable[SupportsIndex]) -> None:
+    """Turns down what does not give one value after the other in the order of the inputs: a mapping gives its keys or has an order of its
+    own, and so has a set; a table of several dimensions gives its lines, or, in pandas, the names of its columns.
+    """
+    kind = type(values).__name__
+    if isinstance(values, (collections.abc.Mapping, collections.abc.MappingView)):
+        raise TypeError(
+            f"a {kind} does not say the order of the inputs: give a list in that order, such as [d[x] for x in range(2 ** n)]"
+        )
+    if isinstance(values, collections.abc.Set):
+        raise TypeError(f"a {kind} has no order, and has equal values once: give a list in the order of the inputs")
+    if getattr(values, "ndim", 1) != 1:
+        raise TypeError(f"a {kind} of {getattr(values, 'ndim')} dimensions is no list: give one list in the order of the inputs")
+
+
 def wholes(values: Iterable[SupportsIndex], what: str) -> list[int]:
-    """Values that are whole numbers: a float or a text is none, whatever it looks like."""
+    """Values that are whole numbers, in order: a float or a text is none, whatever it looks like."""
+    _must_have_an_order(values)
     found = []
     for place, value in enumerate(values):
         try:

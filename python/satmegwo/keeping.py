@@ -81,7 +81,7 @@ class Design:
         """The box of this moment."""
         rows, widths = room(WORDS, 2**self._state.n), room(WORDS, 2)
         call("design_read", self._state, rows, widths)
-        return Box(rows, widths[1], widths[0], self._name)
+        return Box(rows, widths[0], widths[1], self._name)
 
     @property
     def marks(self) -> list[int]:

@@ -6,6 +6,7 @@ text that can be read in two ways, are turned down with their place and with the
 """
 from __future__ import annotations
 
+import itertools
 import pathlib
 import re
 from typing import NamedTuple, NoReturn, Optional, Union
@@ -80,7 +81,7 @@ def _turn_down(word: Word, base: Optional[int]) -> NoReturn:
         raise Unreadable(f"{where}: {text} is an error of a spreadsheet and no number")
     if re.fullmatch(r"-[0-9]+", text):
         raise Unreadable(f"{where}: {text} is negative")
-    if re.fullmatch(r"[0-9]*\.[0-9]*|[0-9]+e[0-9+-]+", text, re.IGNORECASE):
+    if re.fullmatch(r"[0-9]*\.[0-9]*(e[0-9+-]+)?|[0-9]+e[0-9+-]+", text, re.IGNORECASE):
         raise Unreadable(f"{where}: {text} is not written as a whole number")
     if base is not None:
         raise Unreadable(f"{where}: {text} is no number in base {base}")
@@ -127,18 +128,28 @@ def _cells_of_list(inside: str) -> list[tuple[int, str]]:
     return cells if cells[-1][1] else cells[:-1]
 
 
-def _words_of_list(text: str) -> list[Word]:
-    """The words of the one list that a text is."""
+def _turn_down_brackets(text: str) -> NoReturn:
+    """Says why a text with brackets is no list. Where they open and close in the first line alone, it is a heading such as x,S(x)."""
+    first, *below = text.split("\n")
+    closed = sum(first.count(letter) for letter in BRACKETS) == sum(first.count(letter) for letter in BRACKETS.values())
+    if closed and any(below) and not re.search(r"[][{}()]", "".join(below)) and not LIST.fullmatch(first):
+        heading = first.strip()[:LONGEST]
+        raise Unreadable(f"line 1: {heading} is no number; what is no row, such as a heading, has to be taken out")
+    raise Unreadable(
+        "the brackets do not hold one list of numbers alone; a list of lists can be read in two ways:"
+        " write one list, in the order of the inputs"
+    )
+
+
+def _words_of_list(text: str) -> list[list[Word]]:
+    """The words of the one list that a text is, by lines; a line without a number does not count."""
     for number, words_of_line in enumerate(text.splitlines(), 1):
         comment = re.search(r"(?:/\*|//|^\s*#).*", words_of_line)
         if comment:
             raise Unreadable(f"line {number}: comments are not read; take this one out: {comment[0].strip()[:LONGEST]}")
     found = LIST.fullmatch(text)
     if found is None or BRACKETS[found["opening"]] != found["closing"]:
-        raise Unreadable(
-            "the brackets do not hold one list of numbers alone; a list of lists can be read in two ways:"
-            " write one list, in the order of the inputs"
-        )
+        _turn_down_brackets(text)
     words: list[Word] = []
     for offset, cell in _cells_of_list(found["inside"]):
         line = text.count("\n", 0, found.start("inside") + offset) + 1
@@ -148,9 +159,11 @@ def _words_of_list(text: str) -> list[Word]:
             raise Unreadable(f"line {line}, number {at}: {what}")
         suffixed = SUFFIX.fullmatch(cell) if found["opening"] == "{" else None
         words.append(Word(suffixed[1] if suffixed else cell, line, at))
+    lines = [list(line) for _, line in itertools.groupby(words, key=lambda word: word.line)]
     if found["length"] and int(found["length"][:LONGEST]) != len(words):
+        _must_be_even(lines)  # which names the line at fault, where one is seen
         raise Unreadable(f"the list is declared with {found['length'][:LONGEST]} numbers and has {len(words)}")
-    return words
+    return lines
 
 
 # ---- lines
@@ -182,15 +195,31 @@ def _words_of_lines(text: str) -> list[list[Word]]:
     return table
 
 
+def _must_be_even(table: list[list[Word]]) -> None:
+    """Turns a table down unless every line has as many numbers as the first; only the last may have fewer.
+
+    Where one row is cut in two, as by a decimal comma, and another is missing, the number of rows is right, and the rows between them
+    are those of other inputs.
+    """
+    for line in table:
+        first = table[0]
+        if len(line) > len(first) or (len(line) < len(first) and line is not table[-1]):
+            count = "1 number" if len(line) == 1 else f"{len(line)} numbers"
+            raise Unreadable(
+                f"line {line[0].line}: it has {count}, and line {first[0].line} has {len(first)}; a number may be cut in two or missing:"
+                " if none is, write as many in every line (only the last may have fewer), or all in one line"
+            )
+
+
 def _counting_column(table: list[list[int]]) -> Optional[int]:
-    """The first column, from 0, that only counts the lines, where a table has several columns and lines."""
-    across = {len(line) for line in table}
-    if len(table) < 2 or len(across) != 1 or across == {1}:
+    """The first column, from 0, that only counts the lines, where a table has several columns and lines; the last line may be short."""
+    across = len(table[0])
+    if across == 1:
         return None
-    for column in range(across.pop()):
-        values = [line[column] for line in table]
-        for first, step in ((0, 1), (1, 1), (0, len(table[0]) - 1)):
-            if values == [first + step * place for place in range(len(table))]:
+    for column in range(across):
+        values = [line[column] for line in table if column < len(line)]
+        for first, step in ((0, 1), (1, 1), (0, across - 1)):
+            if len(values) > 1 and values == [first + step * place for place in range(len(values))]:
                 return column
     return None
 
@@ -199,7 +228,7 @@ def _rows_of_lines(table: list[list[int]], pairs: Optional[bool]) -> list[int]:
     """The rows of numbers in lines: all of them, or the second of each line where the lines are pairs."""
     counting = _counting_column(table)
     if pairs:
-        if counting != 0 or table[0][0] != 0 or len(table[0]) != 2:
+        if counting != 0 or table[0][0] != 0 or any(len(line) != 2 for line in table):
             raise Unreadable("the lines are no pairs of an input, from 0 on, and its row")
         return [line[1] for line in table]
     if counting is not None and pairs is None:
@@ -216,21 +245,23 @@ def rows_of_text(text: str, base: Optional[int] = None, pairs: Optional[bool] = 
     base   10 or 16, for numbers that do not say it; without it 0x means base sixteen, and all else must be in base ten without a leading 0
     pairs  True: each line is an input and its row; False: every number is a row, even where a column counts
     lines  True: four lines of sixteen numbers, as DES prints its boxes, do stand in the order of the inputs
+
+    Every line that has numbers has as many as the first of them, and only the last may have fewer.
     """
     if base not in (None, 10, 16):
         raise ValueError(f"the base is 10 or 16, and not {base}")
-    text = text[1:] if text[:1] == "\ufeff" else text
+    text = "\n".join((text[1:] if text[:1] == "\ufeff" else text).splitlines())
     is_list = re.search(r"[][{}()]", text) is not None
-    words = [_words_of_list(text)] if is_list else _words_of_lines(text)
-    if not any(words):
+    words = _words_of_list(text) if is_list else _words_of_lines(text)
+    if not words:
         raise Unreadable("the text has no number")
     if is_list and pairs:
         raise Unreadable("a list has no lines that could be pairs of an input and its row")
     table = [[_number(word, base) for word in line] for line in words]
-    layout = [word.line for line in words for word in line]
-    if not lines and [layout.count(line) for line in sorted(set(layout))] == [16] * 4:
+    _must_be_even(words)
+    if not lines and [len(line) for line in words] == [16] * 4:
         raise Unreadable(
             "four lines of sixteen numbers may stand as DES prints its boxes, where the outer input bits choose the line:"
             " state --lines if they stand in the order of the inputs, or write them in that order"
         )
-    return table[0] if is_list else _rows_of_lines(table, pairs)
+    return [row for line in table for row in line] if is_list else _rows_of_lines(table, pairs)

@@ -8,7 +8,7 @@ from satmegwo import Box, Cell, Pair, definitions
 
 from .places import EXAMPLES, example
 
-EXAMPLE = Box([3, 1, 4, 0, 2, 5, 6, 7], m=3)
+EXAMPLE = Box([3, 1, 4, 0, 2, 5, 6, 7], n=3, m=3)
 
 
 def nearest(box: Box, limit: int) -> list:
@@ -63,28 +63,28 @@ class Figures(unittest.TestCase):
         self.assertEqual(nine.rows, (11, 1, 4, 0, 10, 13, 6, 15, 9, 3, 8, 12, 5, 2, 7, 14))
         self.assertEqual(nine.nonlinearity(), (0, (12, 1, 1), 4))
         self.assertEqual("".join(map(str, satmegwo.bent_function(range(4), [0] * 4))), "0000010100110110")
-        self.assertEqual(Box([0, 1], m=1).dynamic_distance(1, 1).figure, 1)
-        self.assertEqual(Box([0, 0], m=1).degree(), (0, (1,), 1))
+        self.assertEqual(Box([0, 1], n=1, m=1).dynamic_distance(1, 1).figure, 1)
+        self.assertEqual(Box([0, 0], n=1, m=1).degree(), (0, (1,), 1))
 
     def test_limits(self):
         self.assertEqual(EXAMPLE.nonlinearity(2).figure, 2)
         self.assertEqual(EXAMPLE.nonlinearity(), (0, (7, 7, 0), 3))
-        self.assertEqual(Box([0] * 4, m=17).nonlinearity().limit, 4)
-        self.assertEqual(Box([0] * 4, m=16).nonlinearity().limit, 16)
+        self.assertEqual(Box([0] * 4, n=2, m=17).nonlinearity().limit, 4)
+        self.assertEqual(Box([0] * 4, n=2, m=16).nonlinearity().limit, 16)
 
     def test_sum_of_boxes(self):
         box = example("des-s1")
         self.assertEqual(satmegwo.sum_nonlinearity([box]).figure, box.nonlinearity().figure)
         self.assertEqual(satmegwo.sum_nonlinearity([box]).witness, (15, (16,), 1))
-        two = [Box([0, 1, 3, 2], m=2), Box([3, 1, 0, 2], m=2)]
-        whole = Box([two[0](x & 3) ^ two[1](x >> 2) for x in range(16)], m=2)
+        two = [Box([0, 1, 3, 2], n=2, m=2), Box([3, 1, 0, 2], n=2, m=2)]
+        whole = Box([two[0](x & 3) ^ two[1](x >> 2) for x in range(16)], n=4, m=2)
         figure, (c, masks, b), limit = satmegwo.sum_nonlinearity(two, 2)
         self.assertEqual((figure, (c, masks[0] | masks[1] << 2, b), limit), whole.nonlinearity())
 
 
 class Tables(unittest.TestCase):
     def test_tables_show_the_figures(self):
-        box = Box(random.Random(1).sample(range(64), 64), m=6)
+        box = Box(random.Random(1).sample(range(64), 64), n=6, m=6)
         largest = box.largest_cell()
         rows = {a: box.xor_row(a) for a in range(1, 64)}
         self.assertEqual(max(map(max, rows.values())), largest.figure)
@@ -98,16 +98,16 @@ class Tables(unittest.TestCase):
     def test_nearest_pairs(self):
         chance = random.Random(3)
         for n, m in ((1, 1), (1, 4), (2, 3), (3, 3), (3, 5), (4, 4), (5, 2)):
-            box = Box([chance.randrange(2**m) for _ in range(2**n)], m=m)
+            box = Box([chance.randrange(2**m) for _ in range(2**n)], n, m)
             for limit in range(1, m + 1):
                 self.assertEqual(box.nearest_pairs(limit), nearest(box, limit))
                 self.assertEqual(box.nearest_pairs(limit)[0], box.nonlinearity(limit).witness)
 
     def test_long_lists_of_pairs(self):
-        box = Box([0] * 256, m=9)
+        box = Box([0] * 256, n=8, m=9)
         pairs = box.nearest_pairs()
         self.assertEqual(len(pairs), 511)
-        bent = Box([value * 1023 for value in satmegwo.bent_function(range(16), [0] * 16)], m=10)
+        bent = Box([value * 1023 for value in satmegwo.bent_function(range(16), [0] * 16)], n=8, m=10)
         pairs = (
             bent.nearest_pairs()
         )  # the odd combinations of the ten outputs, which are all the bent function, and the others, which are 0
@@ -119,7 +119,7 @@ class Tables(unittest.TestCase):
                 if definitions.ones(c) % 2 == 0
             ],
         )
-        flat = Box(satmegwo.bent_function(range(16), [0] * 16), m=1)
+        flat = Box(satmegwo.bent_function(range(16), [0] * 16), n=8, m=1)
         self.assertEqual(len(flat.nearest_pairs()), 256)
         self.assertEqual(flat.nearest_pairs(), nearest(flat, 1))
         self.assertEqual(len(flat.nearest_pairs(most=256)), 256)
@@ -147,7 +147,7 @@ class WaysBack(unittest.TestCase):
             self.assertEqual(satmegwo.inverse_spectrum(satmegwo.spectrum(table)), table)
             self.assertEqual(satmegwo.normal_form(satmegwo.normal_form(table)), table)
             for m in (1, 9, 32):
-                box = Box([chance.randrange(2**m) for _ in range(2**n)], m=m)
+                box = Box([chance.randrange(2**m) for _ in range(2**n)], n, m)
                 self.assertEqual(Box.from_packed(box.packed(), n, m), box)
                 self.assertEqual(Box.from_bytes(box.to_bytes()), box)
                 self.assertEqual(box.add_to_column(m, 1, 1).add_to_column(m, 1, 1), box)
@@ -162,7 +162,7 @@ class WaysBack(unittest.TestCase):
 
     def test_a_box_is_a_value(self):
         self.assertEqual(eval(repr(EXAMPLE)), EXAMPLE)
-        self.assertEqual(len({EXAMPLE, Box(EXAMPLE.rows, m=3), Box(EXAMPLE.rows, m=4)}), 2)
+        self.assertEqual(len({EXAMPLE, Box(EXAMPLE.rows, n=3, m=3), Box(EXAMPLE.rows, n=3, m=4)}), 2)
         self.assertEqual([EXAMPLE(x) for x in range(8)], list(EXAMPLE.rows))
         for outside in (-1, 8):
             with self.assertRaises(IndexError):
@@ -185,11 +185,11 @@ class Holding(unittest.TestCase):
         self.assertEqual(kept.add(boxes[1].to_bytes()), 4)
 
     def test_design(self):
-        design = satmegwo.Design(Box(range(8), m=3)).mark(1).swap(0, 3)
-        self.assertEqual(design.box, Box([3, 1, 2, 0, 4, 5, 6, 7], m=3))
-        self.assertEqual(design.add(1, 7, 1).box, Box([3, 1, 2, 0, 4, 5, 6, 7], m=3).add_to_column(1, 7, 1))
+        design = satmegwo.Design(Box(range(8), n=3, m=3)).mark(1).swap(0, 3)
+        self.assertEqual(design.box, Box([3, 1, 2, 0, 4, 5, 6, 7], n=3, m=3))
+        self.assertEqual(design.add(1, 7, 1).box, Box([3, 1, 2, 0, 4, 5, 6, 7], n=3, m=3).add_to_column(1, 7, 1))
         self.assertEqual(design.mark(16).marks, [1, 16])
-        self.assertEqual(design.return_to(1).box, Box(range(8), m=3))
+        self.assertEqual(design.return_to(1).box, Box(range(8), n=3, m=3))
 
     def test_server(self):
         server = satmegwo.Server().put(1, EXAMPLE).put(8, example("present"))

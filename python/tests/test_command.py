@@ -54,7 +54,7 @@ class Command(unittest.TestCase):
         self.failed(1, run_alone("sheet", "-", given=b"\3\3"), "refused 10")
 
     def test_explain(self):
-        box = Box([3, 1, 4, 0, 2, 5, 6, 7], m=3)
+        box = Box([3, 1, 4, 0, 2, 5, 6, 7], n=3, m=3)
         done = run("explain", "-", "-n", "3", "-m", "3", given=ROWS)
         self.assertEqual((done.returncode, done.stdout.decode()), (0, str(box.explain())))
         done = run(
@@ -87,7 +87,7 @@ class Command(unittest.TestCase):
             self.assertEqual(run("boxfile", kept).stdout, kept.read_bytes())
 
     def test_pictures(self):
-        box = Box([3, 1, 4, 0, 2, 5, 6, 7], m=3)
+        box = Box([3, 1, 4, 0, 2, 5, 6, 7], n=3, m=3)
         drawn = {
             "lat": pictures.lat_map,
             "xor": pictures.xor_map,
@@ -145,6 +145,78 @@ class Command(unittest.TestCase):
         with unittest.mock.patch.dict("os.environ", SATMEGWO_LIBRARY="/nowhere.so"):
             self.failed(2, run("sheet", "-", "-n", "3", "-m", "3", given=ROWS), "make shared")
         self.failed(2, run("score", "-"), "invalid choice")
+
+    def test_what_is_read_is_not_written(self):
+        with tempfile.TemporaryDirectory() as folder:
+            table, link, twin = (pathlib.Path(folder, name) for name in ("in.csv", "link.csv", "twin.csv"))
+            table.write_bytes(ROWS)
+            link.symlink_to(table)
+            os.link(table, twin)
+            os.mkdir(os.path.join(folder, "sub"))
+            for output in (table, f"{folder}/sub/../in.csv", link, twin):
+                with self.subTest(output):
+                    done = run("lat", table, "-n", "3", "-m", "3", "-o", output)
+                    self.failed(2, done, f"{table}: -o {output} names the file that is read")
+                    self.assertEqual((table.read_bytes(), link.is_symlink()), (ROWS, True))
+            with open(table, "rb") as given:
+                words = [sys.executable, "-B", "-m", "satmegwo", "boxfile", "-", "-n", "3", "-m", "3", "-o", table]
+                done = subprocess.run(words, stdin=given, capture_output=True, cwd=PACKAGE)
+            self.failed(2, done, f"-: -o {table} names the file that is read")
+            self.assertEqual(table.read_bytes(), ROWS)
+            self.assertEqual(sorted(os.listdir(folder)), ["in.csv", "link.csv", "sub", "twin.csv"])
+
+    def test_standard_output_by_name(self):
+        told = (ROOT / "examples" / "aes.sheet").read_bytes()
+        with tempfile.TemporaryDirectory() as folder, contextlib.ExitStack() as back:
+            back.callback(os.chdir, os.getcwd())
+            os.chdir(folder)
+            done = run("sheet", ROOT / "examples" / "aes.box", "-o", "-")
+            self.assertEqual((done.returncode, done.stdout, os.listdir(folder)), (0, told, []))
+            done = run("sheet", ROOT / "examples" / "aes.box", "-o", "./-")
+            self.assertEqual((done.returncode, done.stdout, pathlib.Path("-").read_bytes()), (0, b"", told))
+        done = run_alone("sheet", ROOT / "examples" / "aes.box", "-o", "/dev/stdout")
+        self.assertEqual((done.returncode, done.stdout), (0, told))
+
+    def test_a_failed_write_names_what_could_not_be_written(self):
+        for output, words in (("/dev/full", "No space"), ("/nowhere/out", "No such file"), ("/", "directory")):
+            done = run("sheet", EXAMPLES[0], "-o", output)
+            self.failed(2, done, f"{output}: it could not be written: ")
+            self.assertIn(words, done.stderr.decode())
+            self.assertNotIn(str(EXAMPLES[0]), done.stderr.decode())
+        with open("/dev/full", "wb") as full:
+            self.failed(
+                2, run_alone("sheet", EXAMPLES[0], stdout=full), "standard output: it could not be written: No space"
+            )
+
+    def test_a_failed_write_leaves_the_old_file(self):
+        with tempfile.TemporaryDirectory() as folder:
+            kept = pathlib.Path(folder, "kept.svg")
+            kept.write_bytes(b"old")
+            for output in (kept, kept.with_name("new.svg")):
+                # No file may become longer than 1,024 bytes, so the write fails in the middle of the picture.
+                limited = f"ulimit -f 1; exec {sys.executable} -B -m satmegwo lat {ROOT}/examples/aes.box -o {output}"
+                done = subprocess.run(["bash", "-c", limited], cwd=PACKAGE, capture_output=True)
+                self.failed(2, done, f"{output}: it could not be written: File too large")
+                self.assertEqual((kept.read_bytes(), os.listdir(folder)), (b"old", ["kept.svg"]))
+
+    def test_what_is_written_takes_the_place_of_the_old(self):
+        told = (ROOT / "examples" / "aes.sheet").read_bytes()
+        with tempfile.TemporaryDirectory() as folder:
+            kept, link, far = (pathlib.Path(folder, name) for name in ("kept", "link", "far"))
+            kept.write_bytes(b"old" * 1000)
+            kept.chmod(0o640)
+            link.symlink_to("kept")
+            far.symlink_to("new")
+            for output, written in ((kept, kept), (link, kept), (far, pathlib.Path(folder, "new"))):
+                self.assertEqual(run("sheet", ROOT / "examples" / "aes.box", "-o", output).returncode, 0)
+                self.assertEqual(written.read_bytes(), told)
+            self.assertEqual((kept.stat().st_mode & 0o777, link.is_symlink(), far.is_symlink()), (0o640, True, True))
+            self.assertEqual(sorted(os.listdir(folder)), ["far", "kept", "link", "new"])
+            if os.geteuid() != 0:  # who may write everything is not kept from it by the file's mode
+                kept.chmod(0o440)
+                done = run("sheet", EXAMPLES[0], "-o", kept)
+                self.failed(2, done, f"{kept}: it could not be written: Permission denied")
+                self.assertEqual(kept.read_bytes(), told)
 
     def test_what_cannot_be_written(self):
         with open("/dev/full", "wb") as full:

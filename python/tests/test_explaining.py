@@ -11,7 +11,7 @@ from satmegwo import Box, Contradiction, Pair, Refusal, definitions, explaining,
 
 from .places import EXAMPLES, ROOT, example
 
-EXAMPLE = Box([3, 1, 4, 0, 2, 5, 6, 7], m=3)
+EXAMPLE = Box([3, 1, 4, 0, 2, 5, 6, 7], n=3, m=3)
 SHEET = ("nonlinearity", "xor", "autocorrelation", "sac", "bic", "degree")
 
 
@@ -43,7 +43,7 @@ class Explained(unittest.TestCase):
         chance = random.Random(5)
         for n in range(1, 8):
             for m in (1, 2, 5, 8, 17):
-                box = Box([chance.randrange(2**m) for _ in range(2**n)], m=m)
+                box = Box([chance.randrange(2**m) for _ in range(2**n)], n, m)
                 for figure in SHEET:
                     if (figure, m) != ("bic", 1):
                         str(box.explain(figure))
@@ -70,7 +70,7 @@ class Explained(unittest.TestCase):
         self.assertEqual(len(counts.split(" + ")), 16)
 
     def test_a_limit_below_m(self):
-        wide = Box([random.Random(7).randrange(2**20) for _ in range(256)], m=20)
+        wide = Box([random.Random(7).randrange(2**20) for _ in range(256)], n=8, m=20)
         for figure, side, theorem in (
             ("nonlinearity", "at most", "nonlinearity-falls"),
             ("degree", "at most", "degree-falls"),
@@ -88,7 +88,7 @@ class Explained(unittest.TestCase):
 
     def test_refused_and_unknown(self):
         with self.assertRaises(Refusal):
-            Box([0, 1], m=1).explain("bic")
+            Box([0, 1], n=1, m=1).explain("bic")
         with self.assertRaises(ValueError):
             EXAMPLE.explain("score")
         with self.assertRaises(Refusal):

@@ -52,7 +52,7 @@ class Installed(unittest.TestCase):
             self.assertEqual(done.returncode, 0, done.stderr.decode())
             place = pathlib.Path(folder, "satmegwo", "libsatmegwo.so")
             self.assertEqual(place.read_bytes(), (ROOT / "target" / "lib" / "libsatmegwo.so").read_bytes())
-            told = "import satmegwo; print(satmegwo.library.place(), satmegwo.Box([3, 1, 4, 0, 2, 5, 6, 7], m=3).nonlinearity().figure)"
+            told = "import satmegwo; print(satmegwo.library.place(), satmegwo.Box([3, 1, 4, 0, 2, 5, 6, 7], 3, 3).nonlinearity().figure)"
             done = subprocess.run([sys.executable, "-B", "-c", told], capture_output=True, cwd=folder, text=True)
             self.assertEqual(done.stdout, f"{place.resolve()} 0\n", done.stderr)
         self.assertEqual(

@@ -58,7 +58,7 @@ class Reader(html.parser.HTMLParser):
 
 def wide(m):
     chance = random.Random(m)
-    return Box([chance.randrange(2**m) for _ in range(16)], m=m, name=f"wide-{m}.csv")
+    return Box([chance.randrange(2**m) for _ in range(16)], n=4, m=m, name=f"wide-{m}.csv")
 
 
 class Page(unittest.TestCase):
@@ -139,7 +139,7 @@ class Page(unittest.TestCase):
         self.assertNotRegex(words, r"(?i)\b(good|bad|better|worse|strong|weak|score|grade|secure)\b")
 
     def test_names_are_escaped(self):
-        text = page.page(Box([0, 1, 1, 0], m=1, name="<script>alert(1)</script>&"))
+        text = page.page(Box([0, 1, 1, 0], n=2, m=1, name="<script>alert(1)</script>&"))
         self.assertNotIn("<script", text)
         Reader(text)
 

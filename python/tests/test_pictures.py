@@ -165,7 +165,7 @@ def contrast(one, other):
 
 def made(n, m, seed=1):
     chance = random.Random(100 * n + m + seed)
-    return Box([chance.randrange(2**m) for _ in range(2**n)], m=m, name=f"made-{n}-{m}.box")
+    return Box([chance.randrange(2**m) for _ in range(2**n)], n, m, name=f"made-{n}-{m}.box")
 
 
 def across(table):
@@ -343,6 +343,7 @@ class Texts(unittest.TestCase):
     def test_long_names_are_wrapped(self):
         box = Box(
             range(8),
+            n=3,
             m=3,
             name="a box with a name that is much longer than the picture of so few cells could ever be wide.csv",
         )
@@ -353,8 +354,8 @@ class Texts(unittest.TestCase):
 
     def test_names_are_escaped(self):
         for draw in DRAWN:
-            self.assertNotIn("<b>", draw(Box([0, 1, 1, 0], m=1, name="<b>&")))
-            Drawn(draw(Box([0, 1, 1, 0], m=1, name="<b>&")))
+            self.assertNotIn("<b>", draw(Box([0, 1, 1, 0], n=2, m=1, name="<b>&")))
+            Drawn(draw(Box([0, 1, 1, 0], n=2, m=1, name="<b>&")))
 
 
 class SameAgain(unittest.TestCase):

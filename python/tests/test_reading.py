@@ -6,6 +6,8 @@ import unittest
 from satmegwo import Box, Refusal, Unreadable
 from satmegwo.reading import rows_of_text, text_of_bytes
 
+from .places import example
+
 ROWS = [3, 1, 4, 0, 2, 5, 6, 7]
 
 
@@ -30,6 +32,10 @@ class Readable(unittest.TestCase):
             "static const uint8_t s[8] = {\n  0x3, 0x1u, 4UL, 0,\n  2, 5, 6, 7,\n};\n",
             "uint32_t s[] = { 3, 1, 4, 0, 2, 5, 6, 7 };",
             "\ufeff3 1 4 0 2 5 6 7",
+            "3,1,4\n0,2,5\n6,7",
+            "uint8_t s[8] = {\n\n 3, 1, 4,\n\n 0, 2, 5,\n 6, 7\n};",
+            "[ 3\n, 1\n, 4\n, 0\n, 2\n, 5\n, 6\n, 7\n]",
+            "[3 1 4\n 0 2 5\n 6 7]",
         ):
             with self.subTest(text):
                 self.assertEqual(rows_of_text(text), ROWS)
@@ -48,7 +54,7 @@ class Readable(unittest.TestCase):
         self.assertEqual(rows_of_text(counted, pairs=True), ROWS)
         self.assertEqual(rows_of_text("0 1\n1 0\n", pairs=False), [0, 1, 1, 0])
         self.assertEqual(rows_of_text("0 63\n1 7c\n", pairs=True, base=16), [0x63, 0x7C])
-        for text in ("1 3\n2 1\n", "3 0\n1 1\n", "0 3 3\n1 1 1\n", "0 3\n2 1\n", "3\n1\n", "[0, 3]"):
+        for text in ("1 3\n2 1\n", "3 0\n1 1\n", "0 3 3\n1 1 1\n", "0 3\n2 1\n", "0 3\n1", "3\n1\n", "[0, 3]"):
             with self.subTest(text), self.assertRaisesRegex(Unreadable, "pairs"):
                 rows_of_text(text, pairs=True)
 
@@ -74,6 +80,7 @@ TURNED_DOWN = (
     ("3 inf", "inf is no number"),
     ("3.0 1", "3.0 is not written as a whole number"),
     ("3e0 1", "3e0 is not written as a whole number"),
+    ("1.39085E+09 1", "1.39085E+09 is not written as a whole number"),
     ("3 -1", "line 1, number 2: -1 is negative"),
     ("63 7c", "--base 16, or write 0x7c"),
     ("c 5 6 b", "--base 16, or write 0xc"),
@@ -91,12 +98,17 @@ TURNED_DOWN = (
     ("9" * 5000, "longer than any row"),
     ("3 1 4 0 2 5 6 7 end", "line 1, number 9: end is no number"),
     ("@0000\n3", "@0000 is no number"),
-    ("x,S(x)\n0,3\n1,1", "brackets"),
+    ("x,S(x)\n0,3\n1,1", "line 1: x,S(x) is no number; what is no row, such as a heading"),
+    ("S(x)\r3\r1", "line 1: S(x) is no number"),
+    ("[3, 1]\n4, 0", "brackets"),
+    ("S(x) = {3,\n1", "brackets"),
     ("x,y\n0,3\n1,1", "line 1, number 1: x is no number; what is no row, as a heading"),
     ("0 3\n1 1\n", "column 1 counts the lines: state --pairs"),
     ("1,3\n2,1\n", "column 1 counts the lines"),
     ("3,0\n1,1\n4,2", "column 2 counts the lines"),
     ("0 3 1 4\n3 0 2 5\n", "column 1 counts the lines"),
+    ("0 3 1\n1 4 2\n2 5", "column 1 counts the lines"),
+    ("3 1 0\n4 2 1\n5 6", "column 3 counts the lines"),
     ("3,,4", "line 1, number 2: a cell is empty"),
     ("3,1,\n4,0", "line 1, number 3: a cell is empty"),
     (",3", "line 1, number 1: a cell is empty"),
@@ -120,6 +132,7 @@ TURNED_DOWN = (
     ("a[2] = {1, 2}; b[2] = {3, 4};", "one list"),
     ("{3, 1} + 1", "one list"),
     ("s[3] = {3, 1}", "declared with 3 numbers and has 2"),
+    ("s[3] = {}", "declared with 3 numbers and has 0"),
     ("/* S */ {3, 1}", "line 1: comments are not read"),
     ("{3, // the first\n 1}", "line 1: comments are not read"),
     ("{3,\n# 7,\n1}", "line 2: comments are not read"),
@@ -142,9 +155,76 @@ class TurnedDown(unittest.TestCase):
                 text_of_bytes(data)
 
 
+class UnevenLines(unittest.TestCase):
+    """A row that is cut in two and one that is missing leave the number of rows right."""
+
+    def setUp(self):
+        self.rows = list(map(str, example("aes").rows))
+
+    def lines(self, across, separator=","):
+        return [separator.join(self.rows[at : at + across]) for at in range(0, 256, across)]
+
+    def turned_down(self, lines, words, opening="", closing=""):
+        with self.assertRaises(Unreadable) as caught:
+            rows_of_text("\n".join([opening, *lines, closing] if opening else lines))
+        self.assertTrue(str(caught.exception).startswith(words), str(caught.exception))
+
+    def test_a_column(self):
+        for cut in ("3,0", "3;0", "1 12", "1\t12"):
+            for place in (0, 100, 254):
+                with self.subTest(cut, place=place):
+                    lines = self.lines(1)
+                    lines[place] = cut
+                    fault = f"line {place + 1}: it has 2 numbers, and line 1 has 1;"
+                    words = fault if place else "line 2: it has 1 number, and line 1 has 2;"
+                    self.turned_down(lines, words)
+                    del lines[200]
+                    words = words.replace("line 255", "line 254")
+                    self.assertEqual(sum(len(line.replace(",", " ").replace(";", " ").split()) for line in lines), 256)
+                    self.turned_down(lines, words)
+
+    def test_a_grid(self):
+        for separator in (",", " "):
+            lines = self.lines(16, separator)
+            lines[2] = lines[2].rpartition(separator)[0]
+            self.turned_down(lines, "line 3: it has 15 numbers, and line 1 has 16;")
+            lines[9] += separator + "0"
+            self.turned_down(lines, "line 3: it has 15 numbers, and line 1 has 16;")
+            lines = self.lines(16, separator)
+            lines[-1] += separator + "0"
+            self.turned_down(lines, "line 16: it has 17 numbers, and line 1 has 16;")
+            lines = self.lines(16, separator)
+            lines[0] = lines[0].rpartition(separator)[0]
+            self.turned_down(lines, "line 2: it has 16 numbers, and line 1 has 15;")
+
+    def test_lists(self):
+        for opening, closing in (("uint8_t s[256] = {", "};"), ("uint8_t s[] = {", "}"), ("S = [", "]"), ("(", ")")):
+            with self.subTest(opening):
+                lines = [line + "," for line in self.lines(16)]
+                whole = rows_of_text("\n".join([opening, *lines, closing]))
+                self.assertEqual(whole, list(example("aes").rows))
+                lines[5] += " 0,"
+                self.turned_down(lines, "line 7: it has 17 numbers, and line 2 has 16;", opening, closing)
+                lines[8] = lines[8].partition(",")[2]
+                self.turned_down(lines, "line 7: it has 17 numbers, and line 2 has 16;", opening, closing)
+        # A list that is wrapped by its width may be right, and is told what to do.
+        with self.assertRaisesRegex(Unreadable, "line 2: it has 4 numbers, and line 1 has 3; .* or all in one line"):
+            rows_of_text("[10, 11, 12,\n 1, 2, 3, 4,\n 5]")
+
+    def test_the_last_line_may_have_fewer(self):
+        for across in (3, 12, 100, 255):
+            self.assertEqual(rows_of_text("\n".join(self.lines(across))), list(example("aes").rows))
+            text = "{" + ",\n".join(self.lines(across)) + "\n}"
+            self.assertEqual(rows_of_text(text), list(example("aes").rows))
+
+    def test_what_is_no_number_is_told_first(self):
+        self.turned_down(["AES S box", "99", "124"], "line 1, number 1: AES is no number")
+        self.turned_down(["3", "1 #NUM!"], "line 2, number 2: #NUM! is an error")
+
+
 class Files(unittest.TestCase):
     def test_which_of_the_two(self):
-        box = Box(ROWS, m=3)
+        box = Box(ROWS, n=3, m=3)
         self.assertEqual(Box.from_data(b"3 1 4 0 2 5 6 7", 3, 3), box)
         self.assertEqual(Box.from_data(box.to_bytes()), box)
         self.assertEqual(Box.from_data(box.to_bytes(), 3, 3, "a.box"), box)
@@ -172,7 +252,7 @@ class Files(unittest.TestCase):
             path = pathlib.Path(folder, "rows.csv")
             path.write_text("3;1;4;0\n2;5;6;7\n")
             self.assertEqual(
-                (Box.from_file(path, 3, 3), Box.from_file(str(path), 3, 3).name), (Box(ROWS, m=3), "rows.csv")
+                (Box.from_file(path, 3, 3), Box.from_file(str(path), 3, 3).name), (Box(ROWS, n=3, m=3), "rows.csv")
             )
             path.write_bytes(b"1 " * 500_001)
             with self.assertRaisesRegex(Unreadable, "longer than"):
