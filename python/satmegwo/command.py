@@ -191,7 +191,7 @@ def main(words: Optional[Sequence[str]] = None) -> int:
         print(f"{args.file}: {error}", file=sys.stderr)
         return UNREADABLE
     try:
-        _write(made if isinstance(made, bytes) else made.encode("utf-8"), args.output)
+        _write(made if isinstance(made, bytes) else made.encode("utf-8", "backslashreplace"), args.output)
     except OSError as error:
         where = "standard output" if args.output in (None, "-") else args.output
         print(f"{where}: it could not be written: {error.strerror or error}", file=sys.stderr)

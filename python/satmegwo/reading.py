@@ -198,7 +198,7 @@ def _words_of_lines(text: str) -> list[list[Word]]:
 def _must_be_even(table: list[list[Word]]) -> None:
     """Turns a table down unless every line has as many numbers as the first; only the last may have fewer.
 
-    Where one row is cut in two, as by a decimal comma, and another is missing, the number of rows is right, and the rows between them
+    Where one row is cut in two (3,0, a decimal comma) and another is missing, the number of rows is right, and the rows between them
     are those of other inputs.
     """
     for line in table:

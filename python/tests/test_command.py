@@ -218,6 +218,14 @@ class Command(unittest.TestCase):
                 self.failed(2, done, f"{kept}: it could not be written: Permission denied")
                 self.assertEqual(kept.read_bytes(), told)
 
+    def test_a_file_name_that_is_no_text(self):
+        with tempfile.TemporaryDirectory() as folder:
+            table = os.path.join(os.fsencode(folder), b"in\xff.csv")
+            pathlib.Path(os.fsdecode(table)).write_bytes(ROWS)
+            done = run("lat", os.fsdecode(table), "-n", "3", "-m", "3")
+            self.assertEqual((done.returncode, done.stderr), (0, b""))
+            self.assertIn("in\\udcff.csv", done.stdout.decode())
+
     def test_what_cannot_be_written(self):
         with open("/dev/full", "wb") as full:
             self.failed(2, run_alone("sheet", EXAMPLES[0], stdout=full), "No space")
