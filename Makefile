@@ -1,10 +1,12 @@
 # What is made of the proved crates, and where it is put for others.
 #
-#   make                        the three archives and the program boxsheet, proved by `rt` where they are missing, and the shared library
+#   make                        the three archives and the program boxsheet, proved by `rt` where they are missing or a source of theirs was
+#                               changed, and the shared library
 #   make shared                 the shared library alone, target/lib/libsatmegwo.so: the calls of all three archives
 #   make install PREFIX=/usr    headers, archives, shared library, boxsheet and the file satmegwo.pc for pkg-config (/usr/local if nothing is said)
+#   make stale                  says which of the archives and boxsheet are older than a source of theirs, and makes nothing
 #
-# To prove and build anew what was changed: rt staticlib NAME, rt check boxsheet. All of it is for Linux on x86-64.
+# All of it is for Linux on x86-64.
 SHELL = bash
 .SHELLFLAGS = -o pipefail -ec
 CC = gcc
@@ -26,11 +28,35 @@ all: $(ARCHIVES) $(SHARED) $(PROGRAM)
 
 shared: $(SHARED)
 
+# The crates that a crate is made of: itself and all that it stands on. In crates.txt a crate comes after those that it stands on.
+crates_of = $(sort $(shell awk -F: '/^[a-z]/ { all = $$1; n = split($$2, on, " "); for (k = 1; k <= n; k++) all = all " " of[on[k]]; of[$$1] = all } \
+    END { print of["$(1)"] }' crates.txt))
+# Where their sources lie, by the names of folders and files that `rt` knows.
+folders_of = crates.txt $(foreach crate,$(call crates_of,$(1)),$(wildcard $(addprefix crates/$(crate)/,src specs proofs stdin stdout args data)))
+sources_of = $(shell find $(call folders_of,$(1)) -type f)
+$(foreach library,$(LIBRARIES),$(eval target/staticlib/lib$(library).a: $(call sources_of,$(library))))
+$(PROGRAM): $(call sources_of,boxsheet)
+
+# Makes $@ of the crate $(1) by the command $(2). `rt staticlib` proves its crate whenever it is run, so it is run only where the sums of the
+# sources and of $@ are not those that were kept when it was last made: a source that was only touched costs no proof. Where a source is changed
+# while the proof runs, $@ is dated back, so that the next run makes it again.
+define make_of
+@sums() { find $(call folders_of,$(1)) -type f | LC_ALL=C sort | xargs sha256sum; }; before=$$(sums); \
+if { echo "$$before"; sha256sum $@; } 2> /dev/null | cmp -s - $@.sums; then touch $@; exit; fi; \
+echo '$(2)'; $(2); touch $@; \
+[ "$$(sums)" = "$$before" ] || { touch -d 2001-01-01 $@; echo 'a source of $@ was changed meanwhile: run make again'; exit 1; }; \
+{ echo "$$before"; sha256sum $@; } > $@.sums
+endef
 $(ARCHIVES): target/staticlib/lib%.a:
-	rt staticlib $*
+	$(call make_of,$*,rt staticlib $*)
 
 $(PROGRAM):
-	rt check boxsheet
+	$(call make_of,boxsheet,rt check boxsheet)
+
+# Of what is not there nothing is said.
+older = if [ -e $(1) ]; then find $(call folders_of,$(2)) -type f -newer $(1) -print -quit | sed 's|.*|$(1) is older than &: run make|'; fi
+stale:
+	@$(foreach library,$(LIBRARIES),$(call older,target/staticlib/lib$(library).a,$(library)); )$(call older,$(PROGRAM),boxsheet)
 
 # Whole archives, of which the calls alone are exported.
 $(SHARED): $(ARCHIVES) Makefile
@@ -66,4 +92,4 @@ install: all
 
 # Two runs of `rt` would prove the same crates twice.
 .NOTPARALLEL:
-.PHONY: all shared install
+.PHONY: all shared install stale

@@ -1,5 +1,5 @@
 /* The nonlinearity of the box 3 1 4 0 2 5 6 7 within two limits, its largest XOR cell, its
- * degree, the nonlinearity of two boxes added together, and a refusal.
+ * degree, the nonlinearity of two boxes added together, and refusals.
  *
  * With the library built, from this directory:
  *
@@ -57,6 +57,19 @@ static int print_sum(const uint32_t *rows)
     return 0;
 }
 
+/* Five boxes are too many, and none is read: the array has one, and then there is no array. */
+static int print_too_many(const uint32_t *rows)
+{
+    const satmegwo_box one[1] = {{3, 3, rows, 8}};
+    uint32_t f[8];
+    if (satmegwo_sum_of_boxes(one, 5, 1, f, 8) != SATMEGWO_REFUSED_BOX_COUNT)
+        return 1;
+    if (satmegwo_sum_of_boxes(NULL, 5, 1, f, 8) != SATMEGWO_REFUSED_BOX_COUNT)
+        return 1;
+    printf("sum of five boxes: refused %u, the number of boxes is not 1 to 4\n", (unsigned)SATMEGWO_REFUSED_BOX_COUNT);
+    return 0;
+}
+
 int main(void)
 {
     const uint32_t rows[8] = {3, 1, 4, 0, 2, 5, 6, 7};
@@ -65,7 +78,7 @@ int main(void)
     /* All three outputs together are affine; no two of them are. */
     if (print_nonlinearity(rows, 3) != 0 || print_nonlinearity(rows, 2) != 0)
         return 1;
-    if (print_largest_cell(rows) != 0 || print_degree(rows) != 0 || print_sum(rows) != 0)
+    if (print_largest_cell(rows) != 0 || print_degree(rows) != 0 || print_sum(rows) != 0 || print_too_many(rows) != 0)
         return 1;
 
     /* With two outputs the first row that is not below 4 stops the call. */

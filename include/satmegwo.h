@@ -135,6 +135,19 @@ enum satmegwo_refusal {
 #define SATMEGWO_ASSERT(condition, text) struct satmegwo_not_looked_at
 #endif
 
+/* What a call returns must be used: a compiler that can, warns where it is not. A refused
+ * call leaves its arrays as they were, so that whoever does not look at the status may
+ * take the figures of the box before for those of this one. */
+#if defined(__cplusplus) && __cplusplus >= 201703L
+#define SATMEGWO_MUST_USE [[nodiscard]]
+#elif defined(__STDC_VERSION__) && __STDC_VERSION__ >= 202311L
+#define SATMEGWO_MUST_USE [[nodiscard]]
+#elif defined(__GNUC__)
+#define SATMEGWO_MUST_USE __attribute__((warn_unused_result))
+#else
+#define SATMEGWO_MUST_USE
+#endif
+
 /* ---- Version ----------------------------------------------------------- */
 
 /* The version of the library: 10000 * major + 100 * minor + patch. */
@@ -149,6 +162,7 @@ uint32_t satmegwo_version(void);
  *   table  read, 2^n values of 0 or 1
  *   out    written, 2^n elements
  * Refusals: 1, 3, 4, 7. */
+SATMEGWO_MUST_USE
 uint32_t satmegwo_spectrum(
     uint32_t n, const uint8_t *table, size_t table_len, int32_t *out, size_t out_len);
 
@@ -156,6 +170,7 @@ uint32_t satmegwo_spectrum(
  *   values  read, 2^n elements, any numbers
  *   table   written, 2^n values of 0 or 1
  * Refusals: 1, 3, 7, 8 (no function has these values). */
+SATMEGWO_MUST_USE
 uint32_t satmegwo_inverse_spectrum(
     uint32_t n, const int32_t *values, size_t values_len,
     uint8_t *table, size_t table_len);
@@ -165,6 +180,7 @@ uint32_t satmegwo_inverse_spectrum(
  *   c     1 to 2^m - 1
  *   out   written, 2^n elements
  * Refusals: 1, 2, 3, 4, 6, 7. */
+SATMEGWO_MUST_USE
 uint32_t satmegwo_component_spectrum(
     uint32_t n, uint32_t m, const uint32_t *rows, size_t rows_len, uint32_t c,
     int32_t *out, size_t out_len);
@@ -181,6 +197,7 @@ uint32_t satmegwo_component_spectrum(
  *              figures[2]  w, the first for this c
  *              figures[3]  b, the first for this c and w
  * Refusals: 1, 2, 3, 4, 6, 7. */
+SATMEGWO_MUST_USE
 uint32_t satmegwo_nonlinearity(
     uint32_t n, uint32_t m, const uint32_t *rows, size_t rows_len, uint32_t i,
     uint32_t *figures, size_t figures_len);
@@ -200,6 +217,7 @@ uint32_t satmegwo_nonlinearity(
  *   figures  written, 1 element of 64 bits: the number of pairs
  * Refusals: 1, 2, 3, 4, 6, 7 (figures), 9 (the list is too short; the number of pairs is
  * not told). */
+SATMEGWO_MUST_USE
 uint32_t satmegwo_nearest_pairs(
     uint32_t n, uint32_t m, const uint32_t *rows, size_t rows_len, uint32_t i,
     uint64_t *list, size_t list_len, uint64_t *figures, size_t figures_len);
@@ -213,6 +231,7 @@ uint32_t satmegwo_nearest_pairs(
  *   b     0 or 1
  *   out   written, 2^n elements
  * Refusals: 1, 2, 3, 4, 6, 7. */
+SATMEGWO_MUST_USE
 uint32_t satmegwo_add_to_column(
     uint32_t n, uint32_t m, const uint32_t *rows, size_t rows_len, uint32_t j, uint32_t w,
     uint32_t b, uint32_t *out, size_t out_len);
@@ -226,6 +245,7 @@ uint32_t satmegwo_add_to_column(
  *   a       1 to 2^n - 1
  *   counts  written, 2^m elements
  * Refusals: 1, 2, 3, 4, 6, 7. */
+SATMEGWO_MUST_USE
 uint32_t satmegwo_xor_row(
     uint32_t n, uint32_t m, const uint32_t *rows, size_t rows_len, uint32_t a,
     uint16_t *counts, size_t counts_len);
@@ -237,6 +257,7 @@ uint32_t satmegwo_xor_row(
  *              figures[1]  a, the first that reaches it
  *              figures[2]  beta, the first for this a
  * Refusals: 1, 2, 3, 4, 7. */
+SATMEGWO_MUST_USE
 uint32_t satmegwo_largest_cell(
     uint32_t n, uint32_t m, const uint32_t *rows, size_t rows_len,
     uint32_t *figures, size_t figures_len);
@@ -249,6 +270,7 @@ uint32_t satmegwo_largest_cell(
  *   figures  written, 1 element: the number of cells
  * Refusals: 1, 2, 3, 4, 7 (figures), 9 (the list is too short; the number of cells is
  * not told). */
+SATMEGWO_MUST_USE
 uint32_t satmegwo_largest_cells(
     uint32_t n, uint32_t m, const uint32_t *rows, size_t rows_len,
     uint64_t *list, size_t list_len, uint32_t *figures, size_t figures_len);
@@ -265,6 +287,7 @@ uint32_t satmegwo_largest_cells(
  *              figures[1]  c, the first combination that reaches it
  *              figures[2]  s, the first for this c
  * Refusals: 1, 2, 3, 4, 6, 7. */
+SATMEGWO_MUST_USE
 uint32_t satmegwo_autocorrelation(
     uint32_t n, uint32_t m, const uint32_t *rows, size_t rows_len, uint32_t i,
     uint32_t *figures, size_t figures_len);
@@ -282,6 +305,7 @@ uint32_t satmegwo_autocorrelation(
  *              figures[1]  c, the first combination that reaches it
  *              figures[2]  d, the first for this c
  * Refusals: 1, 2, 3, 4, 6, 7. */
+SATMEGWO_MUST_USE
 uint32_t satmegwo_dynamic_distance(
     uint32_t n, uint32_t m, const uint32_t *rows, size_t rows_len, uint32_t i, uint32_t j,
     uint32_t *figures, size_t figures_len);
@@ -293,6 +317,7 @@ uint32_t satmegwo_dynamic_distance(
  *   table  read, 2^n values of 0 or 1
  *   out    written, 2^n elements
  * Refusals: 1, 3, 4, 7. */
+SATMEGWO_MUST_USE
 uint32_t satmegwo_normal_form(
     uint32_t n, const uint8_t *table, size_t table_len, uint8_t *out, size_t out_len);
 
@@ -305,6 +330,7 @@ uint32_t satmegwo_normal_form(
  *              figures[0]  the degree
  *              figures[1]  c, the first combination that has it
  * Refusals: 1, 2, 3, 4, 6, 7. */
+SATMEGWO_MUST_USE
 uint32_t satmegwo_degree(
     uint32_t n, uint32_t m, const uint32_t *rows, size_t rows_len, uint32_t i,
     uint32_t *figures, size_t figures_len);
@@ -313,6 +339,7 @@ uint32_t satmegwo_degree(
  *   rows     read, 2^n elements below 2^m
  *   figures  written, 1 element: 1 for yes, 0 for no
  * Refusals: 1, 2, 3, 4, 7. */
+SATMEGWO_MUST_USE
 uint32_t satmegwo_complete(
     uint32_t n, uint32_t m, const uint32_t *rows, size_t rows_len,
     uint32_t *figures, size_t figures_len);
@@ -321,6 +348,7 @@ uint32_t satmegwo_complete(
  *   rows     read, 2^n elements below 2^m
  *   figures  written, 1 element: 1 for yes, 0 for no
  * Refusals: 1, 2, 3, 4, 7. */
+SATMEGWO_MUST_USE
 uint32_t satmegwo_bijective(
     uint32_t n, uint32_t m, const uint32_t *rows, size_t rows_len,
     uint32_t *figures, size_t figures_len);
@@ -335,6 +363,7 @@ uint32_t satmegwo_bijective(
  *   a      0 or 1
  *   out    written, 2^(n+1) elements
  * Refusals: 1, 3, 4, 6, 7. */
+SATMEGWO_MUST_USE
 uint32_t satmegwo_enlarge_column(
     uint32_t n, const uint8_t *table, size_t table_len, uint32_t k, uint32_t a,
     uint8_t *out, size_t out_len);
@@ -348,6 +377,7 @@ uint32_t satmegwo_enlarge_column(
  *   k      1 to n
  *   out    written, 2^(n+1) elements
  * Refusals: 1, 3 (either), 4 (either), 6, 7. */
+SATMEGWO_MUST_USE
 uint32_t satmegwo_enlarge_box(
     uint32_t n, const uint32_t *rows, size_t rows_len,
     const uint8_t *table, size_t table_len, uint32_t k, uint32_t *out, size_t out_len);
@@ -360,6 +390,7 @@ uint32_t satmegwo_enlarge_box(
  *   table        read, 2^h values of 0 or 1
  *   out          written, 2^n elements
  * Refusals: 1, 3 (either), 4 (table), 5 (also for an entry that is too large), 7. */
+SATMEGWO_MUST_USE
 uint32_t satmegwo_bent_function(
     uint32_t n, const uint8_t *permutation, size_t permutation_len,
     const uint8_t *table, size_t table_len, uint8_t *out, size_t out_len);
@@ -369,6 +400,7 @@ uint32_t satmegwo_bent_function(
 /* Whether n, m and rows are a box: the checks 1 to 4 of a box with 1 to 32 outputs.
  *   rows  read, 2^n elements below 2^m
  * Refusals: 1, 2, 3, 4. */
+SATMEGWO_MUST_USE
 uint32_t satmegwo_check_box(
     uint32_t n, uint32_t m, const uint32_t *rows, size_t rows_len);
 
@@ -378,6 +410,7 @@ uint32_t satmegwo_check_box(
  *   rows     written, 2^n elements; a caller takes n from file[0]
  *   figures  written, 2 elements: n, m
  * Refusals: 10 (under 2 bytes), 1, 2, 10 (another length), 4, 7 (rows), 7 (figures). */
+SATMEGWO_MUST_USE
 uint32_t satmegwo_read_box(
     const uint8_t *file, size_t file_len, uint32_t *rows, size_t rows_len,
     uint32_t *figures, size_t figures_len);
@@ -387,6 +420,7 @@ uint32_t satmegwo_read_box(
  *   rows  read, 2^n elements below 2^m
  *   file  written, 2 + 4 * 2^n bytes
  * Refusals: 1, 2, 3, 4, 7. */
+SATMEGWO_MUST_USE
 uint32_t satmegwo_write_box(
     uint32_t n, uint32_t m, const uint32_t *rows, size_t rows_len,
     uint8_t *file, size_t file_len);
@@ -398,6 +432,7 @@ uint32_t satmegwo_write_box(
  *   text     written, 332 bytes
  *   figures  written, 1 element: how many bytes of the text are the sheet
  * Refusals: 7 (text), 7 (figures). */
+SATMEGWO_MUST_USE
 uint32_t satmegwo_sheet(
     const uint8_t *file, size_t file_len, uint8_t *text, size_t text_len,
     uint32_t *figures, size_t figures_len);
@@ -424,6 +459,7 @@ uint32_t satmegwo_sheet(
  *            The mask of the affine function is put together of theirs, box 1's lowest.
  * Refusals: 11, then 1, 2, 3, 4 of box 1, then of box 2, 3, 4 up to the number given,
  * then 12, 6, 7. */
+SATMEGWO_MUST_USE
 uint32_t satmegwo_sum_nonlinearity(
     uint32_t count,
     uint32_t n1, uint32_t m1, const uint32_t *rows1, size_t rows1_len,
@@ -440,7 +476,9 @@ typedef struct satmegwo_box {
     size_t rows_len;
 } satmegwo_box;
 
-/* The same of the first `count` boxes of an array; none past them is read. */
+/* The same of the first `count` boxes of an array; none past them is read, and none at all
+ * where the count is not 1 to 4: that is refused by 11, whatever the pointer. */
+SATMEGWO_MUST_USE
 static inline uint32_t satmegwo_sum_of_boxes(
     const satmegwo_box *boxes, uint32_t count, uint32_t i,
     uint32_t *figures, size_t figures_len)
@@ -449,7 +487,7 @@ static inline uint32_t satmegwo_sum_of_boxes(
     satmegwo_box four[SATMEGWO_MOST_BOXES];
     uint32_t number, k;
     for (k = 0; k < SATMEGWO_MOST_BOXES; k++)
-        four[k] = k < count ? boxes[k] : none;
+        four[k] = count <= SATMEGWO_MOST_BOXES && k < count ? boxes[k] : none;
     number = satmegwo_sum_nonlinearity(count,
         four[0].n, four[0].m, four[0].rows, four[0].rows_len,
         four[1].n, four[1].m, four[1].rows, four[1].rows_len,
@@ -475,6 +513,7 @@ static inline uint32_t satmegwo_sum_of_boxes(
  *   catalogue  read
  *   figures    written, 1 element: the number of records
  * Refusals: 13, 7. */
+SATMEGWO_MUST_USE
 uint32_t satmegwo_check_catalogue(
     const uint8_t *catalogue, size_t catalogue_len,
     uint32_t *figures, size_t figures_len);
@@ -484,6 +523,7 @@ uint32_t satmegwo_check_catalogue(
  *   file       read, a box file
  *   figures    written, 1 element: the index of the new record
  * Refusals: 13, then those of the file (10, 1, 2, 10, 4), 7 (figures), 14. */
+SATMEGWO_MUST_USE
 uint32_t satmegwo_add_record(
     uint8_t *catalogue, size_t catalogue_len, const uint8_t *file, size_t file_len,
     uint32_t *figures, size_t figures_len);
@@ -492,6 +532,7 @@ uint32_t satmegwo_add_record(
  * is one lower. What was added under this index just before is as if it had not been.
  *   catalogue  read and written
  * Refusals: 13, 15. */
+SATMEGWO_MUST_USE
 uint32_t satmegwo_remove_record(uint8_t *catalogue, size_t catalogue_len, uint32_t index);
 
 /* Where a record lies: its bytes are catalogue[offset] to catalogue[offset + length - 1],
@@ -499,6 +540,7 @@ uint32_t satmegwo_remove_record(uint8_t *catalogue, size_t catalogue_len, uint32
  *   catalogue  read
  *   figures    written, 2 elements: offset, length
  * Refusals: 13, 15, 7. */
+SATMEGWO_MUST_USE
 uint32_t satmegwo_fetch_record(
     const uint8_t *catalogue, size_t catalogue_len, uint32_t index,
     uint32_t *figures, size_t figures_len);
@@ -508,6 +550,7 @@ uint32_t satmegwo_fetch_record(
  * records or too few free bytes in all.
  *   catalogue  read and written
  * Refusals: 13. */
+SATMEGWO_MUST_USE
 uint32_t satmegwo_compact_catalogue(uint8_t *catalogue, size_t catalogue_len);
 
 /* ---- Packed columns ------------------------------------------------------ */
@@ -520,6 +563,7 @@ uint32_t satmegwo_compact_catalogue(uint8_t *catalogue, size_t catalogue_len);
  *   rows    read, 2^n elements below 2^m
  *   packed  written, m * s bytes
  * Refusals: 1, 2, 3, 4, 7. */
+SATMEGWO_MUST_USE
 uint32_t satmegwo_pack_columns(
     uint32_t n, uint32_t m, const uint32_t *rows, size_t rows_len,
     uint8_t *packed, size_t packed_len);
@@ -529,6 +573,7 @@ uint32_t satmegwo_pack_columns(
  *   packed  read, m * s bytes; with n below 3 only the lowest 2^n bits of each may be set
  *   rows    written, 2^n elements
  * Refusals: 1, 2, 3 (the packed array has another length), 16, 7. */
+SATMEGWO_MUST_USE
 uint32_t satmegwo_unpack_columns(
     uint32_t n, uint32_t m, const uint8_t *packed, size_t packed_len,
     uint32_t *rows, size_t rows_len);
@@ -545,6 +590,7 @@ uint32_t satmegwo_unpack_columns(
  *   figures  written, 4 elements: 1, the lower input, the higher input, the new figure;
  *            or for "none" 0, 0, 0, 0
  * Refusals: 1, 2, 3, 4, 7. */
+SATMEGWO_MUST_USE
 uint32_t satmegwo_raising_swap(
     uint32_t n, uint32_t m, const uint32_t *rows, size_t rows_len,
     uint32_t *figures, size_t figures_len);

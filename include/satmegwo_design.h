@@ -75,30 +75,36 @@ SATMEGWO_ASSERT(sizeof(satmegwo_design_outcome) == 17484, "an outcome has anothe
 
 /* A design of this box, with no mark set. Refused, it is the design without a box.
  * Refusals: 1, 2, 3, 4. */
+SATMEGWO_MUST_USE
 satmegwo_design_outcome satmegwo_design_begin(
     uint32_t n, uint32_t m, const uint32_t *rows, size_t rows_len);
 
 /* Exchanges the rows of inputs x and y. They may be the same input, and have equal rows.
  * Between two moments with only swaps each output value is given by as many inputs as
  * before; marks may be set between them. Refusals: 6. */
+SATMEGWO_MUST_USE
 satmegwo_design_outcome satmegwo_design_swap(
     satmegwo_design design, uint32_t x, uint32_t y);
 
 /* Adds the affine function (w, b) to column j: bit j of row x is XORed with w.x XOR b.
  * Refusals: 6. */
+SATMEGWO_MUST_USE
 satmegwo_design_outcome satmegwo_design_add(
     satmegwo_design design, uint32_t j, uint32_t w, uint32_t b);
 
 /* Sets mark k: it keeps the box of this moment. Refusals: 6. */
+SATMEGWO_MUST_USE
 satmegwo_design_outcome satmegwo_design_mark(satmegwo_design design, uint32_t k);
 
 /* Returns to mark k: brings back the box of the moment when it was last set.
  * Refusals: 6, 17. */
+SATMEGWO_MUST_USE
 satmegwo_design_outcome satmegwo_design_return(satmegwo_design design, uint32_t k);
 
 /* Reads the box: writes the 2^n rows to one array, and n, m to another; neither is
  * written to unless both can be. Returns 0 or the number of the refusal. Figures: n, m.
  * Refusals: 7. */
+SATMEGWO_MUST_USE
 uint32_t satmegwo_design_read(
     satmegwo_design design, uint32_t *rows, size_t rows_len,
     uint32_t *figures, size_t figures_len);

@@ -76,24 +76,29 @@ SATMEGWO_ASSERT(sizeof(satmegwo_server) == 8452, "a server has another size");
 SATMEGWO_ASSERT(sizeof(satmegwo_server_outcome) == 8456, "an outcome has another size");
 
 /* An empty server. */
+SATMEGWO_MUST_USE
 satmegwo_server satmegwo_server_begin(void);
 
 /* Puts a box on a place. Putting examines no combination.
  *   rows  read, 2^n elements below 2^m
  * Refusals: 18, 19, 1, 2, 3, 4. */
+SATMEGWO_MUST_USE
 satmegwo_server_outcome satmegwo_server_put(
     satmegwo_server server, uint32_t place, uint32_t n, uint32_t m,
     const uint32_t *rows, size_t rows_len);
 
 /* Takes the box off a place, finished or not: the place is empty again, all zeros.
  * Refusals: 18, 19. */
+SATMEGWO_MUST_USE
 satmegwo_server_outcome satmegwo_server_withdraw(satmegwo_server server, uint32_t place);
 
 /* One step. With no box unfinished the server comes back as it was, every field of it. */
+SATMEGWO_MUST_USE
 satmegwo_server satmegwo_server_step(satmegwo_server server);
 
 /* So many steps, one after the other. It returns early where no box is unfinished, after
  * 8 x 65,535 steps at the latest, so that a budget of 4294967295 means "to the end". */
+SATMEGWO_MUST_USE
 satmegwo_server satmegwo_server_run(satmegwo_server server, uint32_t budget);
 
 /* What stands on a place. A finished box keeps its result until it is withdrawn.
@@ -101,6 +106,7 @@ satmegwo_server satmegwo_server_run(satmegwo_server server, uint32_t budget);
  *            of its first witness; or five zeros until all combinations were examined
  * Returns 0 or the number of a refusal.
  * Refusals: 18, 19, 7. */
+SATMEGWO_MUST_USE
 uint32_t satmegwo_server_ask(
     satmegwo_server server, uint32_t place, uint32_t *figures, size_t figures_len);
 

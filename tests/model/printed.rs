@@ -44,6 +44,7 @@ pub fn example() -> String {
     let summand = |n: u32, rows: &[u32]| Summand { n, m: 3, rows: rows.to_vec() };
     let boxes = [summand(3, &EXAMPLE), summand(2, &[0, 5, 3, 6]), summand(0, &[]), summand(0, &[])];
     let sum = told(rounds::sum_nonlinearity(2, &boxes, 1, 5));
+    let too_many = rounds::sum_nonlinearity(5, &boxes, 1, 8).expect_err("there are four at most");
     let refusal = model::nonlinearity(3, 2, &EXAMPLE, 2, 4).expect_err("a row is too large");
     [
         nonlinearity(3),
@@ -54,6 +55,7 @@ pub fn example() -> String {
             "sum of two boxes {} with at most 1 output: combination {} against w = {} and {}, b = {}\n",
             sum[0], sum[1], sum[2], sum[3], sum[4]
         ),
+        format!("sum of five boxes: refused {too_many}, the number of boxes is not 1 to 4\n"),
         format!("with m = 2: refused {refusal}, a row is not below 2^m\n"),
     ]
     .concat()
