@@ -29,7 +29,7 @@ staticlib)
     rm -f "target/staticlib/lib$2.a"
     ar rc "target/staticlib/lib$2.a" "$2.o"
     ;;
-check) [ -e target/bin/boxsheet ] || echo "$sum" > target/bin/boxsheet ;;
+check) echo "$sum" | cmp -s - target/bin/boxsheet || echo "$sum" > target/bin/boxsheet ;;
 esac
 """
 
@@ -108,6 +108,9 @@ class Make(unittest.TestCase):
 
     def test_unchanged_is_not_made_again(self):
         self.assert_done()
+        for sums in self.tree.rglob("*.sums"):  # as where `rt` was run by hand
+            sums.unlink()
+        self.assert_done()
 
     def test_a_changed_crate_is_made_anew_in_what_stands_on_it(self):
         for crate, file in (("design", "src/lib.rt"), ("linear", "proofs/part/Proof.antt"), ("sheet", "specs/Statements.antt")):
@@ -140,7 +143,7 @@ class Make(unittest.TestCase):
         self.edit(file, (self.tree / file).read_text())
         self.assertEqual(self.make("--question").returncode, 1)
         self.assertEqual(self.make().returncode, 0)
-        self.assertEqual([call for call in self.called() if call != "check boxsheet"], [])
+        self.assertEqual(self.called(), [])
         self.assert_done()
 
     def test_a_refused_proof_is_a_failure_each_time(self):
