@@ -14,6 +14,7 @@ pub const PARTS: &[(&str, Work)] = &[
     ("damaged bytes", &damaged_bytes),
     ("forged catalogues", &forged_catalogues),
     ("narrow gaps", &narrow_gaps),
+    ("long catalogues", &long_catalogues),
     ("full catalogues", &full_catalogues),
 ];
 
@@ -375,6 +376,43 @@ fn narrowly_gapped(random: &mut Random) -> Vec<u8> {
     }
     found.size += random.pick(&[0, 1, 2, 9, 10, 11]);
     found.bytes()
+}
+
+/// A long catalogue with one gap of this length, before the record of this index or behind all: the
+/// longest files that fit, one after the other, of which at most 63 leave room for one more. What is left
+/// over then lies before the records, as evenly as it can.
+fn with_gap(random: &mut Random, size: usize, index: usize, gap: usize) -> Vec<u8> {
+    let (mut files, mut left) = (Vec::new(), size - FIRST - gap);
+    for n in (1..=8).rev() {
+        while files.len() < MOST_RECORDS - 1 && 2 + (4 << n) <= left {
+            files.push(model::file_of(n, 32, &boxes::random_rows(n, 32, random)));
+            left -= 2 + (4 << n);
+        }
+    }
+    let (mut found, mut end, number) = (Catalogue { size, records: Vec::new() }, FIRST, files.len());
+    for (k, file) in files.into_iter().enumerate() {
+        let narrow = left * (k + 1) / number - left * k / number;
+        let offset = end + narrow + if k == index { gap } else { 0 };
+        end = offset + file.len();
+        found.records.push(Record { offset, file });
+    }
+    found.bytes()
+}
+
+/// Files of every length, each into a gap of just this length, of one byte more and of one less, at the
+/// end of a long catalogue and before one of its records.
+fn long_catalogues(run: &mut Run) {
+    let other = run.random.between(40_001, 65_533) as usize;
+    for size in [LONGEST, LONGEST - 1, 40_001, other] {
+        for (n, behind_all) in (1..=8).flat_map(|n| [(n, true), (n, false)]) {
+            let index = if behind_all { MOST_RECORDS } else { run.random.below(30) as usize };
+            let file = model::file_of(n, 32, &boxes::random_rows(n, 32, &mut run.random));
+            for gap in [file.len() - 1, file.len(), file.len() + 1] {
+                let mut bytes = with_gap(&mut run.random, size, index, gap);
+                add(run, &mut bytes, &file, 1);
+            }
+        }
+    }
 }
 
 /// Every call on such catalogues, and short histories from them on.

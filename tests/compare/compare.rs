@@ -1,7 +1,7 @@
 //! `second compare`: every call of the library against the model.
 use crate::calls::{Run, AUTOCORRELATION, DEGREE, FIGURE_CALLS, LIMITED_CALLS, NONLINEARITY};
 use crate::parts::Work;
-use crate::{additions, bounds, damage, far, limits, maximal, nearest, nowhere, orders, packing, rounds, swaps, written};
+use crate::{additions, bounds, damage, far, limits, maximal, meeting, nearest, nowhere, orders, packing, rounds, swaps, written};
 use second_model::boxes::{self, KINDS};
 use second_model::combinations::quick_limit;
 use second_model::model::{self, all_outputs};
@@ -10,6 +10,7 @@ use second_model::sheet;
 
 pub const PARTS: &[(&str, Work)] = &[
     ("boxes of all widths", &boxes_of_all_widths),
+    ("deciding outputs", &limits::deciding_outputs),
     ("limits of sums", &limits::of_sums),
     ("bounds", &bounds::all),
     ("order of checks", &orders::all),
@@ -17,6 +18,7 @@ pub const PARTS: &[(&str, Work)] = &[
     ("damaged arguments", &damage::all),
     ("lists of column additions", &lists_of_additions),
     ("sums of boxes", &rounds::all),
+    ("inputs of sums", &rounds::every_number_of_inputs),
     ("packed columns", &packing::all),
     ("nearest pairs", &nearest::all),
     ("raising swaps", &swaps::all),
@@ -24,6 +26,7 @@ pub const PARTS: &[(&str, Work)] = &[
     ("even and bent boxes", &maximal::all),
     ("boxes written, and sheets", &written::all),
     ("lengths above 2^32", &far::all),
+    ("calls that meet", &meeting::all),
     ("arrays without an address", &nowhere::all),
     ("published boxes", &published_boxes),
 ];

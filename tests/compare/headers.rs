@@ -117,6 +117,16 @@ fn every_function_is_declared_as_its_header_has_it() {
     assert_eq!(wanted.len(), 32 + 6 + 6);
 }
 
+/// Each is also made by two threads at once.
+#[test]
+fn every_function_meets_another_call() {
+    let meetings = include_str!("meeting.rs");
+    for name in of_headers().keys() {
+        let short = name.trim_start_matches("satmegwo_");
+        assert!(meetings.contains(&format!("meet(run, \"{short}\", ")), "{short} meets no other call");
+    }
+}
+
 #[test]
 fn another_type_or_order_is_noticed() {
     let all = |header: &str| {

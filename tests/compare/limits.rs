@@ -12,8 +12,9 @@ use crate::rounds;
 use second_model::boxes;
 use second_model::combinations::how_many;
 use second_model::model::{way, Way};
-use second_model::rounds::MOST;
+use second_model::rounds::{Summand, MOST};
 use second_model::{counted, fast};
+use std::ops::RangeInclusive;
 
 pub const PARTS: &[(&str, Work)] = &[
     ("8 inputs, up to 16 outputs", &|run| up_to_16_outputs(run, 8)),
@@ -61,15 +62,21 @@ fn up_to_16_outputs(run: &mut Run, n: u32) {
     for (m, k) in (1..=16).flat_map(|m| (1..=m).map(move |k| (m, k))) {
         let rows = boxes::affine_from(k, n, m, &mut run.random);
         let j = run.random.between(1, n);
-        let (pairs, least) = (counted::nonlinearities(n, m, &rows, k), counted::degrees(n, m, &rows, k));
-        let (largest, distances) = (counted::autocorrelations(n, m, &rows, k), counted::dynamic_distances(n, m, &rows, k, j));
-        for i in [k - 1, k].into_iter().filter(|&i| i > 0) {
-            let at = i as usize - 1;
-            run.limited_figures_known(&NONLINEARITY, n, m, &rows, i, 4, Ok(pairs[at].to_vec()));
-            run.limited_figures_known(&AUTOCORRELATION, n, m, &rows, i, 3, Ok(largest[at].to_vec()));
-            run.limited_figures_known(&DEGREE, n, m, &rows, i, 2, Ok(least[at].to_vec()));
-            run.dynamic_distance_known(n, m, &rows, (i, j), 3, Ok(distances[at].to_vec()));
-        }
+        counted_limits(run, n, m, &rows, j, (k - 1).max(1)..=k);
+    }
+}
+
+/// The calls that take a limit and give figures, at these limits.
+fn counted_limits(run: &mut Run, n: u32, m: u32, rows: &[u32], j: u32, limits: RangeInclusive<u32>) {
+    let most = *limits.end();
+    let (pairs, least) = (counted::nonlinearities(n, m, rows, most), counted::degrees(n, m, rows, most));
+    let (largest, distances) = (counted::autocorrelations(n, m, rows, most), counted::dynamic_distances(n, m, rows, most, j));
+    for i in limits {
+        let at = i as usize - 1;
+        run.limited_figures_known(&NONLINEARITY, n, m, rows, i, 4, Ok(pairs[at].to_vec()));
+        run.limited_figures_known(&AUTOCORRELATION, n, m, rows, i, 3, Ok(largest[at].to_vec()));
+        run.limited_figures_known(&DEGREE, n, m, rows, i, 2, Ok(least[at].to_vec()));
+        run.dynamic_distance_known(n, m, rows, (i, j), 3, Ok(distances[at].to_vec()));
     }
 }
 
@@ -82,10 +89,52 @@ pub fn of_sums(run: &mut Run) {
     }
 }
 
-/// A box of which a combination has as many outputs as the highest limit, or fewer, and is affine.
+/// Boxes above 16 outputs in which a combination of one to three outputs decides, one of which is the
+/// highest; and at 8 by 32, for each output, one that has it. (Of one input every function is affine.)
+pub fn deciding_outputs(run: &mut Run) {
+    for (m, k) in WIDE.into_iter().flat_map(|m| (1..=3).map(move |k| (m, k))) {
+        (1..=8).for_each(|n| decided_by(run, n, m, m, k));
+        (1..=MOST).for_each(|number| sum_decided_by(run, number, m, k));
+    }
+    for output in 1..32 {
+        decided_by(run, 8, 32, output, 1 + output % 3);
+    }
+}
+
+/// Some numbers of outputs above 16.
+const WIDE: [u32; 4] = [17, 24, 31, 32];
+
+/// Every call that takes a limit, at the limits 1 to 3, of a box in which a combination of k outputs, the
+/// given one among them, is affine.
+fn decided_by(run: &mut Run, n: u32, m: u32, output: u32, k: u32) {
+    let c = boxes::combination_with(output, k, m, &mut run.random);
+    let (rows, j) = (boxes::decided_by(c, n, m, &mut run.random), run.random.between(1, n));
+    counted_limits(run, n, m, &rows, j, 1..=3);
+    let pairs = counted::nearest_pairs(n, m, &rows, k);
+    run.nearest_pairs_known(n, m, &rows, k, (pairs.len(), 1), Ok(pairs));
+}
+
+/// A sum of boxes in all of which the same combination is affine: of eight inputs each at 32 outputs.
+fn sum_decided_by(run: &mut Run, number: usize, m: u32, k: u32) {
+    let c = boxes::combination_with(m, k, m, &mut run.random);
+    let mut one = || {
+        let n = if m == 32 { 8 } else { run.random.between(2, 8) };
+        Summand { n, m, rows: boxes::decided_by(c, n, m, &mut run.random) }
+    };
+    let read: Vec<Summand> = (0..number).map(|_| one()).collect();
+    rounds::ask(run, &read, k);
+}
+
+/// A box of which a combination has as many outputs as the highest limit, or fewer, and is affine; in
+/// every second box it has the highest output.
 fn box_with_limits(run: &mut Run, n: u32, m: u32, most: u32) -> Vec<u32> {
     let k = if run.random.one_in(2) { most } else { run.random.between(1, most) };
-    boxes::affine_from(k, n, m, &mut run.random)
+    if run.random.one_in(2) {
+        let c = boxes::combination_with(m, k, m, &mut run.random);
+        boxes::decided_by(c, n, m, &mut run.random)
+    } else {
+        boxes::affine_from(k, n, m, &mut run.random)
+    }
 }
 
 /// Boxes of 17 to 32 outputs: the nonlinearity and the degree at every quick limit.

@@ -16,6 +16,7 @@ mod headers;
 mod lent;
 mod limits;
 mod maximal;
+mod meeting;
 mod nearest;
 mod nowhere;
 mod orders;

@@ -40,7 +40,7 @@ fn compare(run: &mut Run, number: u32, four: &[Summand; MOST], i: u32, figures_l
 }
 
 /// The boxes of a sum, with nonsense behind them up to four.
-fn four_of(random: &mut Random, read: &[Summand]) -> [Summand; MOST] {
+pub fn four_of(random: &mut Random, read: &[Summand]) -> [Summand; MOST] {
     let mut four: Vec<Summand> = read.to_vec();
     while four.len() < MOST {
         four.push(nonsense(random));
@@ -112,6 +112,30 @@ fn wide_sums(run: &mut Run) {
         let read: Vec<Summand> = (0..4).map(|_| of_kind(&mut run.random, 0, 8, m)).collect();
         ask(run, &read, i);
     }
+}
+
+/// For each number of boxes, every number of inputs that they can have in all.
+pub fn every_number_of_inputs(run: &mut Run) {
+    for (number, inputs) in (1..=MOST).flat_map(|number| (number as u32..=8 * number as u32).map(move |inputs| (number, inputs))) {
+        let m = run.random.between(1, 32);
+        let i = run.random.between(1, quick_limit(8, m));
+        let mut read = Vec::new();
+        for n in widths_of(&mut run.random, number, inputs) {
+            let kind = run.random.below(KINDS);
+            read.push(of_kind(&mut run.random, kind, n, m));
+        }
+        ask(run, &read, i);
+    }
+}
+
+/// So many widths from 1 to 8 with this sum.
+fn widths_of(random: &mut Random, number: usize, sum: u32) -> Vec<u32> {
+    let mut widths = vec![1; number];
+    for _ in number as u32..sum {
+        let narrow: Vec<usize> = (0..number).filter(|&k| widths[k] < 8).collect();
+        widths[random.pick(&narrow)] += 1;
+    }
+    widths
 }
 
 /// Constant boxes have the product 2^N, up to 2^32; where all are bent it is the least there is.
@@ -278,4 +302,21 @@ fn damaged_box(random: &mut Random, m: u32) -> Summand {
         _ => {}
     }
     one
+}
+
+#[cfg(test)]
+mod tests {
+    use super::*;
+
+    #[test]
+    fn widths_have_their_sum() {
+        let mut random = Random::new(1);
+        for number in 1..=MOST {
+            for sum in number as u32..=8 * number as u32 {
+                let widths = widths_of(&mut random, number, sum);
+                assert_eq!((widths.len(), widths.iter().sum::<u32>()), (number, sum));
+                assert!(widths.iter().all(|n| (1..=8).contains(n)), "{widths:?}");
+            }
+        }
+    }
 }

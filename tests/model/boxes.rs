@@ -156,14 +156,32 @@ pub fn affine_from(k: u32, n: u32, m: u32, random: &mut Random) -> Vec<u32> {
     let mut outputs: Vec<u32> = (0..m).collect();
     random.shuffle(&mut outputs);
     let c = outputs[..k as usize].iter().fold(0, |c, j| c | 1 << j);
-    let (sum, changed) = (affine(n, random), 1 << outputs[0]);
-    let mut rows = random_rows(n, m, random);
-    for (row, &wanted) in rows.iter_mut().zip(&sum) {
-        if model::parity(*row & c) != wanted {
-            *row ^= changed;
-        }
+    let sum = affine(n, random);
+    with_combination(c, outputs[0], &sum, random_rows(n, m, random))
+}
+
+/// The rows with output j + 1 changed so that combination c, which has it, is this function.
+fn with_combination(c: u32, j: u32, function: &[u8], mut rows: Vec<u32>) -> Vec<u32> {
+    for (row, &wanted) in rows.iter_mut().zip(function) {
+        *row ^= u32::from(model::parity(*row & c) ^ wanted) << j;
     }
     rows
+}
+
+/// A combination of k outputs, one of which is given, from 1 to m.
+pub fn combination_with(output: u32, k: u32, m: u32, random: &mut Random) -> u32 {
+    let mut others: Vec<u32> = (0..m).filter(|&j| j != output - 1).collect();
+    random.shuffle(&mut others);
+    others[..k as usize - 1].iter().fold(1 << (output - 1), |c, j| c | 1 << j)
+}
+
+/// Combination c is affine, and the other columns are 1 at an odd number of inputs. From two inputs on
+/// no affine function is so, nor a function that any change of inputs flips everywhere or nowhere.
+pub fn decided_by(c: u32, n: u32, m: u32, random: &mut Random) -> Vec<u32> {
+    let mut rows = random_rows(n, m, random);
+    let odd = rows.iter().fold(0, |sum, row| sum ^ row);
+    rows[random.below(1 << n) as usize] ^= !odd & all_outputs(m);
+    with_combination(c, c.ilog2(), &affine(n, random), rows)
 }
 
 /// All rows but a few are 0, and the last one is as large as can be.
@@ -199,6 +217,34 @@ mod tests {
                 let degrees = counted::degrees(n, m, &rows, m);
                 assert!(degrees[k as usize - 1][0] <= 1 && degrees[k as usize - 2][0] > 1, "{degrees:?}");
             }
+        }
+    }
+
+    #[test]
+    fn a_combination_has_the_output_that_is_given() {
+        let mut random = Random::new(10);
+        for (output, m) in (1..=32).flat_map(|m| (1..=m).map(move |output| (output, m))) {
+            for k in 1..=m.min(4) {
+                let c = combination_with(output, k, m, &mut random);
+                assert!(c.count_ones() == k && c >> (output - 1) & 1 == 1 && c <= all_outputs(m), "{c:b}");
+            }
+        }
+    }
+
+    /// One output alone decides from two inputs on, and a combination of two or three from six inputs on:
+    /// functions of fewer inputs are so few that others among 32 outputs are affine, or have a change that
+    /// flips them everywhere.
+    #[test]
+    fn the_combination_that_is_given_decides() {
+        let mut random = Random::new(11);
+        for (n, m, k) in (2..=8).flat_map(|n| [17, 24, 31, 32].map(|m| (n, m, 1))).chain([(6, 32, 2), (6, 32, 3), (8, 17, 2), (8, 32, 3)]) {
+            let c = combination_with(m, k, m, &mut random);
+            let rows = decided_by(c, n, m, &mut random);
+            let at = k as usize - 1;
+            assert_eq!(counted::nonlinearities(n, m, &rows, k)[at][..2], [0, c], "{n} by {m}, c = {c:b}");
+            assert_eq!(counted::autocorrelations(n, m, &rows, k)[at][..2], [1 << n, c], "{n} by {m}, c = {c:b}");
+            let [degree, witness] = counted::degrees(n, m, &rows, k)[at];
+            assert!(degree <= 1 && witness == c, "{n} by {m}, c = {c:b}: {degree}, {witness:b}");
         }
     }
 

@@ -29,6 +29,19 @@ uint32_t satmegwo_spectrum(uint32_t n, const uint8_t *table, size_t table_len, i
     return number;
 }
 
+/* The rows of a box of 32 outputs without the highest. */
+static const uint32_t *without_output_32(uint32_t *shorter, const uint32_t *rows, size_t rows_len)
+{
+    for (size_t x = 0; x < rows_len; x++)
+        shorter[x] = rows[x] & 0x7FFFFFFF;
+    return shorter;
+}
+
+static uint32_t least(uint32_t a, uint32_t b)
+{
+    return a < b ? a : b;
+}
+
 static uint32_t parity(uint32_t x)
 {
     return (uint32_t)__builtin_parity(x);
@@ -50,10 +63,14 @@ static void last_witness(uint32_t n, const uint32_t *rows, uint32_t *figures)
 }
 
 /* Writes to the rows that it only reads, when it refuses a limit; or gives a wrong witness among
- * equal ones. */
+ * equal ones; or leaves output 32 out at 8 inputs. */
 uint32_t satmegwo_nonlinearity(uint32_t n, uint32_t m, const uint32_t *rows, size_t rows_len, uint32_t i,
                                uint32_t *figures, size_t figures_len)
 {
+    uint32_t shorter[256];
+    if (is_wrong("nonlinearity-without-output-32") && n == 8 && m == 32 && rows_len == 256 && 1 <= i && i <= 32)
+        return right_satmegwo_nonlinearity(n, 31, without_output_32(shorter, rows, rows_len), rows_len, least(i, 31), figures,
+                                           figures_len);
     uint32_t number = right_satmegwo_nonlinearity(n, m, rows, rows_len, i, figures, figures_len);
     if (is_wrong("read-array-written-when-refused") && number == 6)
         ((uint32_t *)rows)[0] ^= 1;
@@ -62,10 +79,15 @@ uint32_t satmegwo_nonlinearity(uint32_t n, uint32_t m, const uint32_t *rows, siz
     return number;
 }
 
-/* Writes to the rows that it only reads, when it accepts them. */
+/* Writes to the rows that it only reads, when it accepts them; or works in one buffer for all who call. */
 uint32_t satmegwo_largest_cell(uint32_t n, uint32_t m, const uint32_t *rows, size_t rows_len, uint32_t *figures,
                                size_t figures_len)
 {
+    static uint32_t buffer[256];
+    if (is_wrong("one-buffer-for-cells") && rows_len <= 256) {
+        memcpy(buffer, rows, rows_len * sizeof rows[0]);
+        return right_satmegwo_largest_cell(n, m, buffer, rows_len, figures, figures_len);
+    }
     uint32_t number = right_satmegwo_largest_cell(n, m, rows, rows_len, figures, figures_len);
     if (is_wrong("read-array-written-when-accepted") && number == 0)
         ((uint32_t *)rows)[rows_len - 1] ^= 1;
@@ -92,10 +114,16 @@ uint32_t satmegwo_bijective(uint32_t n, uint32_t m, const uint32_t *rows, size_t
     return right_satmegwo_bijective(n, m, rows, rows_len, figures, figures_len);
 }
 
-/* Takes a limit one too small, or at one width a far smaller one. */
+/* Takes a limit one too small, or at one width a far smaller one; or leaves output 32 out, of any box or
+ * at 8 inputs. */
 uint32_t satmegwo_autocorrelation(uint32_t n, uint32_t m, const uint32_t *rows, size_t rows_len, uint32_t i,
                                   uint32_t *figures, size_t figures_len)
 {
+    uint32_t shorter[256];
+    int wrong = is_wrong("autocorrelation-without-output-32") || (is_wrong("autocorrelation-of-8-by-32") && n == 8);
+    if (wrong && m == 32 && rows_len <= 256 && 1 <= i && i <= 32)
+        return right_satmegwo_autocorrelation(n, 31, without_output_32(shorter, rows, rows_len), rows_len, least(i, 31), figures,
+                                              figures_len);
     if (is_wrong("limit-one-too-small") && 1 < i && i <= m)
         i--;
     if (is_wrong("limits-of-one-width") && n == 6 && m == 12 && 4 <= i && i <= 11)
@@ -103,10 +131,14 @@ uint32_t satmegwo_autocorrelation(uint32_t n, uint32_t m, const uint32_t *rows, 
     return right_satmegwo_autocorrelation(n, m, rows, rows_len, i, figures, figures_len);
 }
 
-/* Looks at the lowest 32 bits of a length alone. */
+/* Looks at the lowest 32 bits of a length alone; or leaves output 32 out at 8 inputs. */
 uint32_t satmegwo_degree(uint32_t n, uint32_t m, const uint32_t *rows, size_t rows_len, uint32_t i,
                          uint32_t *figures, size_t figures_len)
 {
+    uint32_t shorter[256];
+    if (is_wrong("degree-without-output-32") && n == 8 && m == 32 && rows_len == 256 && 1 <= i && i <= 32)
+        return right_satmegwo_degree(n, 31, without_output_32(shorter, rows, rows_len), rows_len, least(i, 31), figures,
+                                     figures_len);
     if (is_wrong("lengths-cut"))
         rows_len = (uint32_t)rows_len;
     return right_satmegwo_degree(n, m, rows, rows_len, i, figures, figures_len);
@@ -124,7 +156,8 @@ uint32_t satmegwo_add_to_column(uint32_t n, uint32_t m, const uint32_t *rows, si
     return right_satmegwo_add_to_column(n, m, buffer, rows_len, j, w, b, out, out_len);
 }
 
-/* Exchanges the masks of two wide boxes. */
+/* Exchanges the masks of two wide boxes; or leaves output 32 out of two boxes; or has a figure one too
+ * high where four boxes have so many inputs in all. */
 uint32_t satmegwo_sum_nonlinearity(uint32_t count,
                                    uint32_t n1, uint32_t m1, const uint32_t *rows1, size_t rows1_len,
                                    uint32_t n2, uint32_t m2, const uint32_t *rows2, size_t rows2_len,
@@ -132,6 +165,12 @@ uint32_t satmegwo_sum_nonlinearity(uint32_t count,
                                    uint32_t n4, uint32_t m4, const uint32_t *rows4, size_t rows4_len,
                                    uint32_t i, uint32_t *figures, size_t figures_len)
 {
+    uint32_t shorter1[256], shorter2[256];
+    if (is_wrong("sum-without-output-32") && count == 2 && m1 == 32 && m2 == 32 && rows1_len <= 256 && rows2_len <= 256
+        && 1 <= i && i <= 32)
+        return right_satmegwo_sum_nonlinearity(count, n1, 31, without_output_32(shorter1, rows1, rows1_len), rows1_len,
+                                               n2, 31, without_output_32(shorter2, rows2, rows2_len), rows2_len,
+                                               n3, m3, rows3, rows3_len, n4, m4, rows4, rows4_len, least(i, 31), figures, figures_len);
     uint32_t number = right_satmegwo_sum_nonlinearity(count, n1, m1, rows1, rows1_len, n2, m2, rows2, rows2_len,
                                                       n3, m3, rows3, rows3_len, n4, m4, rows4, rows4_len, i, figures, figures_len);
     if (is_wrong("masks-of-wide-sums") && number == 0 && count >= 2 && n1 + n2 > 12) {
@@ -139,6 +178,11 @@ uint32_t satmegwo_sum_nonlinearity(uint32_t count,
         figures[2] = figures[3];
         figures[3] = mask;
     }
+    uint32_t inputs = n1 + n2 + n3 + n4;
+    if (number == 0 && count == 4
+        && ((is_wrong("sums-of-28-inputs") && inputs == 28) || (is_wrong("sums-of-29-inputs") && inputs == 29)
+            || (is_wrong("sums-of-31-inputs") && inputs == 31)))
+        figures[0]++;
     return number;
 }
 
@@ -178,9 +222,14 @@ uint32_t satmegwo_xor_row(uint32_t n, uint32_t m, const uint32_t *rows, size_t r
     return is_wrong("order-of-checks") && number == 4 && (a == 0 || a >= 1u << n) ? 6 : number;
 }
 
-/* Writes the rows with the high byte first. */
+/* Writes the rows with the high byte first; or works in one buffer for all who call. */
 uint32_t satmegwo_write_box(uint32_t n, uint32_t m, const uint32_t *rows, size_t rows_len, uint8_t *file, size_t file_len)
 {
+    static uint32_t buffer[256];
+    if (is_wrong("one-buffer-for-files") && rows_len <= 256) {
+        memcpy(buffer, rows, rows_len * sizeof rows[0]);
+        return right_satmegwo_write_box(n, m, buffer, rows_len, file, file_len);
+    }
     uint32_t number = right_satmegwo_write_box(n, m, rows, rows_len, file, file_len);
     if (is_wrong("high-byte-first") && number == 0)
         for (size_t x = 0; x < rows_len; x++)
@@ -237,17 +286,34 @@ static void use_last_gap(const uint8_t *before, uint8_t *catalogue, size_t catal
     figures[0] = (uint32_t)k;
 }
 
-/* Uses the last gap that is long enough, in place of the lowest. */
+/* Whether the file was added where it fills the last gap of a catalogue of such a length. */
+static int fills_last_gap(const uint8_t *catalogue, size_t catalogue_len, uint32_t index)
+{
+    int of_this_length = (is_wrong("last-gap-of-65535-bytes") && catalogue_len == 65535)
+                         || (is_wrong("last-gap-of-65534-bytes") && catalogue_len == 65534)
+                         || (is_wrong("last-gap-of-a-long-catalogue") && catalogue_len > 40000);
+    return of_this_length && index + 1 == word(catalogue) && gap_start(catalogue, index + 1) == catalogue_len
+           && gap_start(catalogue, index) == word(catalogue + 2 + 4 * index);
+}
+
+/* Uses the last gap that is long enough, in place of the lowest; or refuses a file that is just as long as
+ * the last gap, in a long catalogue. */
 uint32_t satmegwo_add_record(uint8_t *catalogue, size_t catalogue_len, const uint8_t *file, size_t file_len,
                              uint32_t *figures, size_t figures_len)
 {
     uint8_t before[65535];
-    int wrong = is_wrong("last-gap") && catalogue_len <= sizeof before;
-    if (wrong)
+    uint32_t figure = figures_len > 0 ? figures[0] : 0;
+    int kept = catalogue_len <= sizeof before;
+    if (kept)
         memcpy(before, catalogue, catalogue_len);
     uint32_t number = right_satmegwo_add_record(catalogue, catalogue_len, file, file_len, figures, figures_len);
-    if (wrong && number == 0)
+    if (is_wrong("last-gap") && kept && number == 0)
         use_last_gap(before, catalogue, catalogue_len, file, file_len, figures);
+    if (number == 0 && fills_last_gap(catalogue, catalogue_len, figures[0])) {
+        memcpy(catalogue, before, catalogue_len);
+        figures[0] = figure;
+        return 14;
+    }
     return number;
 }
 
