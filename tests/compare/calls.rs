@@ -8,6 +8,7 @@ use second_model::model::{self, Answer};
 use second_model::random::Random;
 use std::collections::BTreeMap;
 use std::fmt::Debug;
+use std::sync::atomic::{AtomicBool, Ordering};
 
 /// How many comparisons of one call there were, by what the model says.
 #[derive(Clone, Copy, Debug, Default, PartialEq)]
@@ -47,6 +48,9 @@ impl Tally {
 
 /// So many differences of a part are printed with all their arguments.
 const SHOWN: u64 = 5;
+
+/// Whether the program ends with the first difference.
+pub static ENDS_WITH_THE_FIRST: AtomicBool = AtomicBool::new(false);
 
 /// One run of a part: its generator and what was counted so far.
 pub struct Run {
@@ -174,6 +178,9 @@ impl Run {
             self.tally.differences += 1;
             if self.tally.differences <= SHOWN {
                 println!("difference in '{}': {}", self.part, describe());
+            }
+            if ENDS_WITH_THE_FIRST.load(Ordering::Relaxed) {
+                std::process::exit(1);
             }
         }
     }

@@ -93,7 +93,7 @@ pub fn of_sums(run: &mut Run) {
 /// highest; and at 8 by 32, for each output, one that has it. (Of one input every function is affine.)
 pub fn deciding_outputs(run: &mut Run) {
     for (m, k) in WIDE.into_iter().flat_map(|m| (1..=3).map(move |k| (m, k))) {
-        (1..=8).for_each(|n| decided_by(run, n, m, m, k));
+        (1..=8).rev().for_each(|n| decided_by(run, n, m, m, k));
         (1..=MOST).for_each(|number| sum_decided_by(run, number, m, k));
     }
     for output in 1..32 {
@@ -102,7 +102,7 @@ pub fn deciding_outputs(run: &mut Run) {
 }
 
 /// Some numbers of outputs above 16.
-const WIDE: [u32; 4] = [17, 24, 31, 32];
+const WIDE: [u32; 4] = [32, 31, 24, 17];
 
 /// Every call that takes a limit, at the limits 1 to 3, of a box in which a combination of k outputs, the
 /// given one among them, is affine.

@@ -31,6 +31,7 @@ mod written;
 
 use std::path::Path;
 use std::process::ExitCode;
+use std::sync::atomic::Ordering;
 
 const USAGE: &str = "usage:
   second PART.. [SEED] [COUNT]
@@ -44,6 +45,8 @@ const USAGE: &str = "usage:
         server      the calls on the evaluation server, in long histories
         sheets      the program boxsheet, on stored files and on files made from SEED
       or a single part of these, as it is called in their output
+  second --first PART.. [SEED] [COUNT]
+      the same, and ends with the first difference
   second files DIR
       writes the published boxes, their sheets and what the example programs print to DIR
   second stored
@@ -56,6 +59,10 @@ fn main() -> ExitCode {
     let outcome = match words[..] {
         ["files", directory] => files::write(Path::new(directory)),
         ["stored"] => files::compare_stored(),
+        ["--first", ref rest @ ..] => {
+            calls::ENDS_WITH_THE_FIRST.store(true, Ordering::Relaxed);
+            run(rest)
+        }
         _ => run(&words),
     };
     match outcome {
