@@ -1,5 +1,8 @@
 //! The second program beside the library. See the usage text below.
 mod additions;
+// Held to stand-ins until the library has these calls.
+#[cfg(test)]
+mod between;
 mod bounds;
 mod by_value;
 mod calls;

@@ -6,6 +6,16 @@ pub fn within(m: u32, i: u32) -> Vec<u32> {
     (1..=i.min(m)).flat_map(|k| choices(m, k)).collect()
 }
 
+/// Those of them from `first` to `last`, in the same order.
+pub fn between(m: u32, i: u32, first: u32, last: u32) -> Vec<u32> {
+    if how_many(m, i) <= u64::from(last - first) {
+        return within(m, i).into_iter().filter(|c| (first..=last).contains(c)).collect();
+    }
+    let mut all: Vec<u32> = (first..=last).filter(|c| c.count_ones() <= i).collect();
+    all.sort_by_key(|&c| (c.count_ones(), c));
+    all
+}
+
 /// All ways to choose k of the outputs 1 to m, ascending: those without output m, then those
 /// with it.
 fn choices(m: u32, k: u32) -> Vec<u32> {
@@ -63,6 +73,28 @@ mod tests {
         assert_eq!(within(3, 3), [1, 2, 4, 3, 5, 6, 7]);
         assert_eq!(within(3, 2), [1, 2, 4, 3, 5, 6]);
         assert_eq!(within(3, 1), [1, 2, 4]);
+    }
+
+    #[test]
+    fn the_combinations_from_3_to_6_of_three_outputs() {
+        assert_eq!(between(3, 3, 3, 6), [4, 3, 5, 6]);
+        assert_eq!(between(3, 1, 3, 6), [4]);
+        assert_eq!(between(3, 1, 5, 7), []);
+        assert_eq!(between(32, 31, u32::MAX, u32::MAX), []);
+        assert_eq!(between(32, 32, u32::MAX - 1, u32::MAX), [u32::MAX - 1, u32::MAX]);
+        assert_eq!(between(32, 1, 1 << 30, u32::MAX), [1 << 30, 1 << 31]);
+    }
+
+    #[test]
+    fn parts_of_the_combinations_are_in_the_order_of_all() {
+        for m in 1..=5 {
+            for (first, last) in (1..1 << m).flat_map(|first| (first..1 << m).map(move |last| (first, last))) {
+                for i in 1..=m {
+                    let wanted: Vec<u32> = within(m, i).into_iter().filter(|&c| first <= c && c <= last).collect();
+                    assert_eq!(between(m, i, first, last), wanted, "m = {m}, i = {i}, {first} to {last}");
+                }
+            }
+        }
     }
 
     #[test]

@@ -95,15 +95,34 @@ fn best_within<const W: usize, F: Copy>(
     within
 }
 
+/// The same over combinations that come in their order; nothing where there are none.
+fn best_over<const W: usize, F>(
+    (n, m, rows): (u32, u32, &[u32]),
+    combinations: &[u32],
+    look: impl Fn(&Words<W>) -> F,
+    is_better: impl Fn(&F, &F) -> bool,
+) -> Option<(u32, F)> {
+    let columns = columns(n, m, rows);
+    let mut best: Option<(u32, F)> = None;
+    for &c in combinations {
+        let outputs = (0..m as usize).filter(|j| c >> j & 1 == 1);
+        let found = look(&outputs.fold([0; W], |sum, j| xor(&sum, &columns[j])));
+        if best.as_ref().is_none_or(|(_, other)| is_better(&found, other)) {
+            best = Some((c, found));
+        }
+    }
+    best
+}
+
 /// All lines w·x.
 fn lines<const W: usize>(n: u32) -> Vec<Words<W>> {
     (0..1 << n).map(|w| packed(n, |x| is_odd(w & x))).collect()
 }
 
-/// Figures: d, c, w, b.
-fn nonlinearities_of<const W: usize>(n: u32, m: u32, rows: &[u32], most: u32) -> Vec<[u32; 4]> {
+/// The nearest affine function: at how few inputs it differs, w, b.
+fn nearest<const W: usize>(n: u32) -> impl Fn(&Words<W>) -> [u32; 3] {
     let (size, lines) = (1 << n, lines::<W>(n));
-    let nearest = |f: &Words<W>| {
+    move |f| {
         let mut least = [u32::MAX, 0, 0];
         for (w, line) in (0..).zip(&lines) {
             // With b = 1 they differ at all the other inputs.
@@ -114,9 +133,18 @@ fn nonlinearities_of<const W: usize>(n: u32, m: u32, rows: &[u32], most: u32) ->
             }
         }
         least
-    };
-    let bests = best_within((n, m, rows), most, nearest, |one, other| one[0] < other[0]);
+    }
+}
+
+/// Figures: d, c, w, b.
+fn nonlinearities_of<const W: usize>(n: u32, m: u32, rows: &[u32], most: u32) -> Vec<[u32; 4]> {
+    let bests = best_within((n, m, rows), most, nearest::<W>(n), |one, other| one[0] < other[0]);
     bests.into_iter().map(|(c, [d, w, b])| [d, c, w, b]).collect()
+}
+
+fn nonlinearity_over_of<const W: usize>(n: u32, m: u32, rows: &[u32], combinations: &[u32]) -> Option<[u32; 4]> {
+    let best = best_over((n, m, rows), combinations, nearest::<W>(n), |one, other| one[0] < other[0]);
+    best.map(|(c, [d, w, b])| [d, c, w, b])
 }
 
 /// All pairs that differ at the fewest inputs, in their order.
@@ -222,14 +250,9 @@ fn changes<const W: usize>(n: u32, f: &Words<W>) -> [u32; CHANGES] {
     counts
 }
 
-/// The largest figure of the changes that are tried, and its first witness: figure, c, s.
-fn largest_of<const W: usize>(
-    (n, m, rows): (u32, u32, &[u32]),
-    most: u32,
-    of_changes: impl Fn(u32) -> u32,
-    tried: &[u32],
-) -> Vec<[u32; 3]> {
-    let largest = |f: &Words<W>| {
+/// The largest figure of the changes that are tried, and the first that has it: figure, s.
+fn largest<'a, const W: usize>(n: u32, of_changes: impl Fn(u32) -> u32 + 'a, tried: &'a [u32]) -> impl Fn(&Words<W>) -> [u32; 2] + 'a {
+    move |f| {
         let counts = changes(n, f);
         let mut best = [0, 0];
         for &s in tried {
@@ -240,9 +263,28 @@ fn largest_of<const W: usize>(
             }
         }
         best
-    };
-    let bests = best_within((n, m, rows), most, largest, |one, other| one[0] > other[0]);
+    }
+}
+
+/// The largest figure of the changes that are tried, and its first witness: figure, c, s.
+fn largest_of<const W: usize>(
+    (n, m, rows): (u32, u32, &[u32]),
+    most: u32,
+    of_changes: impl Fn(u32) -> u32,
+    tried: &[u32],
+) -> Vec<[u32; 3]> {
+    let bests = best_within((n, m, rows), most, largest::<W>(n, of_changes, tried), |one, other| one[0] > other[0]);
     bests.into_iter().map(|(c, [figure, s])| [figure, c, s]).collect()
+}
+
+fn largest_over_of<const W: usize>(
+    (n, m, rows): (u32, u32, &[u32]),
+    combinations: &[u32],
+    of_changes: impl Fn(u32) -> u32,
+    tried: &[u32],
+) -> Option<[u32; 3]> {
+    let best = best_over((n, m, rows), combinations, largest::<W>(n, of_changes, tried), |one, other| one[0] > other[0]);
+    best.map(|(c, [figure, s])| [figure, c, s])
 }
 
 /// Figures: degree, c. The coefficient at u is the parity of the ones of f within u.
@@ -279,19 +321,44 @@ pub fn nearest_pairs(n: u32, m: u32, rows: &[u32], i: u32) -> Vec<u64> {
     with_words!(n, nearest_pairs_of(n, m, rows, i))
 }
 
+/// All changes of at most j inputs.
+fn changes_of(n: u32, j: u32) -> Vec<u32> {
+    (1..1u32 << n).filter(|d| d.count_ones() <= j).collect()
+}
+
+/// Plus one where a function does not change, minus one where it does.
+fn correlation(n: u32, changes: u32) -> u32 {
+    ((1 << n) - changes).abs_diff(changes)
+}
+
+/// The doubled distance of one change.
+fn distance(n: u32, changes: u32) -> u32 {
+    (1u32 << (n - 1)).abs_diff(changes)
+}
+
 /// Figures within each limit: figure, c, s.
 pub fn autocorrelations(n: u32, m: u32, rows: &[u32], most: u32) -> Vec<[u32; 3]> {
-    let (size, tried) = (1u32 << n, (1..1 << n).collect::<Vec<u32>>());
-    // Plus one where f does not change, minus one where it does.
-    let figure = |changes: u32| (size - changes).abs_diff(changes);
-    with_words!(n, largest_of((n, m, rows), most, figure, &tried))
+    with_words!(n, largest_of((n, m, rows), most, |changes| correlation(n, changes), &changes_of(n, n)))
 }
 
 /// Figures of order (i, j) for each i: the doubled figure, c, d.
 pub fn dynamic_distances(n: u32, m: u32, rows: &[u32], most: u32, j: u32) -> Vec<[u32; 3]> {
-    let tried: Vec<u32> = (1..1u32 << n).filter(|d| d.count_ones() <= j).collect();
-    let figure = |changes: u32| (1u32 << (n - 1)).abs_diff(changes);
-    with_words!(n, largest_of((n, m, rows), most, figure, &tried))
+    with_words!(n, largest_of((n, m, rows), most, |changes| distance(n, changes), &changes_of(n, j)))
+}
+
+/// Figures over these combinations, in their order: d, c, w, b.
+pub fn nonlinearity_over(n: u32, m: u32, rows: &[u32], combinations: &[u32]) -> Option<[u32; 4]> {
+    with_words!(n, nonlinearity_over_of(n, m, rows, combinations))
+}
+
+/// Figures over these combinations: figure, c, s.
+pub fn autocorrelation_over(n: u32, m: u32, rows: &[u32], combinations: &[u32]) -> Option<[u32; 3]> {
+    with_words!(n, largest_over_of((n, m, rows), combinations, |changes| correlation(n, changes), &changes_of(n, n)))
+}
+
+/// Figures over these combinations: the doubled figure, c, d.
+pub fn dynamic_distance_over(n: u32, m: u32, rows: &[u32], combinations: &[u32], j: u32) -> Option<[u32; 3]> {
+    with_words!(n, largest_over_of((n, m, rows), combinations, |changes| distance(n, changes), &changes_of(n, j)))
 }
 
 /// Figures within each limit: degree, c.

@@ -324,6 +324,55 @@ pub fn dynamic_distances(n: u32, m: u32, rows: &[u32], most: u32, j: u32) -> Vec
     bests.iter().map(figures).collect()
 }
 
+// ---------------------------------------------------------------------------
+// The same figures over some combinations, and nothing where there are none.
+// ---------------------------------------------------------------------------
+
+fn best_over(rows: &[u32], combinations: &[u32], mut figure: impl FnMut(&[u8]) -> i32) -> Option<Best> {
+    let mut buffer = [0; ROWS];
+    let table = &mut buffer[..rows.len()];
+    let mut best = Best::none();
+    for &c in combinations {
+        combination(rows, c, table);
+        best.offer(figure(table), c);
+    }
+    (!combinations.is_empty()).then_some(best)
+}
+
+/// Figures: d, c, w, b.
+pub fn nonlinearity_over(n: u32, rows: &[u32], combinations: &[u32]) -> Option<[u32; 4]> {
+    let mut buffer = [0i16; ROWS];
+    let values = &mut buffer[..1 << n];
+    let best = best_over(rows, combinations, |table| {
+        signs_16(table, values);
+        walsh(values);
+        i32::from(values.iter().fold(0, |most, value| most.max(value.abs())))
+    });
+    best.map(|best| nonlinearity_witness(n, rows, &best))
+}
+
+/// The largest |r(s)| of the given changes, and the first witness: figure, c, s.
+fn correlation_over(n: u32, rows: &[u32], combinations: &[u32], changes: &[u32]) -> Option<[u32; 3]> {
+    let mut buffer = [0i32; ROWS];
+    let values = &mut buffer[..1 << n];
+    let best = best_over(rows, combinations, |table| {
+        correlations(n, table, values);
+        changes.iter().fold(0, |most, &s| most.max(values[s as usize].abs()))
+    });
+    best.map(|best| [best.figure as u32, best.c, correlation_witness(n, rows, &best, changes.iter().copied())])
+}
+
+/// Figures: figure, c, s.
+pub fn autocorrelation_over(n: u32, rows: &[u32], combinations: &[u32]) -> Option<[u32; 3]> {
+    correlation_over(n, rows, combinations, &(1..1 << n).collect::<Vec<u32>>())
+}
+
+/// Figures: the doubled figure, c, d.
+pub fn dynamic_distance_over(n: u32, rows: &[u32], combinations: &[u32], j: u32) -> Option<[u32; 3]> {
+    let changes: Vec<u32> = (1..1u32 << n).filter(|d| d.count_ones() <= j).collect();
+    correlation_over(n, rows, combinations, &changes).map(|[figure, c, d]| [figure / 2, c, d])
+}
+
 pub fn complete(n: u32, m: u32, rows: &[u32]) -> bool {
     let all_columns = u32::MAX >> (32 - m);
     (0..n).all(|k| {

@@ -19,6 +19,7 @@
 //! `sheet` prints the box sheet, and `printed` what the example programs print; `catalogue` keeps
 //! boxes in one buffer; `design` tunes one box; `server` has several boxes under analysis.
 pub mod additions;
+pub mod between;
 pub mod boxes;
 pub mod catalogue;
 pub mod combinations;

@@ -129,15 +129,20 @@ fn count_of_differing(f: &[u8], line: &[u8], b: u32) -> u32 {
 /// The least count with its first witness: d, c, w, b. Here and below, the combinations come
 /// in the order of `within`: those of fewer outputs first, then the smaller.
 pub fn nonlinearity_by_definition(n: u32, m: u32, rows: &[u32], i: u32) -> [u32; 4] {
+    nonlinearity_over(n, rows, &within(m, i)).expect("c = 1 always exists")
+}
+
+/// The same over these combinations, and nothing where there are none.
+pub fn nonlinearity_over(n: u32, rows: &[u32], combinations: &[u32]) -> Option<[u32; 4]> {
     let lines: Vec<Vec<u8>> = (0..1 << n).map(|w| linear(n, w)).collect();
-    let mut best = [u32::MAX, 0, 0, 0];
-    for c in within(m, i) {
+    let mut best: Option<[u32; 4]> = None;
+    for &c in combinations {
         let f = combination(rows, c);
         for w in 0..1u32 << n {
             for b in 0..2 {
                 let differing = count_of_differing(&f, &lines[w as usize], b);
-                if differing < best[0] {
-                    best = [differing, c, w, b];
+                if best.is_none_or(|best| differing < best[0]) {
+                    best = Some([differing, c, w, b]);
                 }
             }
         }
@@ -218,8 +223,13 @@ fn correlation(f: &[u8], s: u32) -> i32 {
 
 /// The largest |r(s)| with its first witness: figure, c, s.
 pub fn autocorrelation_by_definition(n: u32, m: u32, rows: &[u32], i: u32) -> [u32; 3] {
+    autocorrelation_over(n, rows, &within(m, i)).expect("c = 1 and s = 1 always exist")
+}
+
+/// The same over these combinations.
+pub fn autocorrelation_over(n: u32, rows: &[u32], combinations: &[u32]) -> Option<[u32; 3]> {
     let mut best: Option<[u32; 3]> = None;
-    for c in within(m, i) {
+    for &c in combinations {
         let f = combination(rows, c);
         for s in 1..1u32 << n {
             let figure = correlation(&f, s).unsigned_abs();
@@ -228,7 +238,7 @@ pub fn autocorrelation_by_definition(n: u32, m: u32, rows: &[u32], i: u32) -> [u
             }
         }
     }
-    best.expect("c = 1 and s = 1 always exist")
+    best
 }
 
 /// In how many inputs f changes when the bits of d are flipped.
@@ -238,9 +248,14 @@ fn count_of_changes(f: &[u8], d: u32) -> u32 {
 
 /// The dynamic distance of order (i, j), not halved, with its first witness: figure, c, d.
 pub fn dynamic_distance_by_definition(n: u32, m: u32, rows: &[u32], i: u32, j: u32) -> [u32; 3] {
+    dynamic_distance_over(n, rows, &within(m, i), j).expect("c = 1 and d = 1 always exist")
+}
+
+/// The same over these combinations.
+pub fn dynamic_distance_over(n: u32, rows: &[u32], combinations: &[u32], j: u32) -> Option<[u32; 3]> {
     let mut best: Option<[u32; 3]> = None;
     let half = 1u32 << (n - 1);
-    for c in within(m, i) {
+    for &c in combinations {
         let f = combination(rows, c);
         for d in (1..1u32 << n).filter(|d| d.count_ones() <= j) {
             let figure = half.abs_diff(count_of_changes(&f, d));
@@ -249,7 +264,7 @@ pub fn dynamic_distance_by_definition(n: u32, m: u32, rows: &[u32], i: u32, j: u
             }
         }
     }
-    best.expect("c = 1 and d = 1 always exist")
+    best
 }
 
 /// The coefficient at u is the XOR of f(x) over all x whose ones lie within u.
@@ -303,7 +318,11 @@ pub enum Way {
 }
 
 pub fn way(n: u32, m: u32, i: u32) -> Way {
-    let combinations = how_many(m, i);
+    way_over(n, how_many(m, i))
+}
+
+/// The same where so many combinations are looked at.
+pub fn way_over(n: u32, combinations: u64) -> Way {
     if combinations << (2 * n) <= 1 << 20 {
         Way::ByDefinition
     } else if combinations << n <= 1 << 24 {

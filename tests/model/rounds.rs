@@ -75,10 +75,15 @@ fn count_of_differing(rows: &[u32], c: u32, w: u64, b: u32) -> u64 {
 
 /// The least count over all inputs with its first witness: figure, c, one mask for each box, b.
 pub fn by_definition(boxes: &[Summand], i: u32) -> Vec<u32> {
+    by_definition_over(boxes, &within(boxes[0].m, i)).expect("c = 1 always exists")
+}
+
+/// The same over these combinations, and nothing where there are none.
+pub fn by_definition_over(boxes: &[Summand], combinations: &[u32]) -> Option<Vec<u32>> {
     let rows = rows_of_sum(boxes);
     let lists = lists_of_masks(boxes);
     let (mut least, mut witness) = (u64::MAX, Vec::new());
-    for c in within(boxes[0].m, i) {
+    for &c in combinations {
         for masks in &lists {
             for b in 0..2 {
                 let differing = count_of_differing(&rows, c, put_together(boxes, masks), b);
@@ -88,7 +93,7 @@ pub fn by_definition(boxes: &[Summand], i: u32) -> Vec<u32> {
             }
         }
     }
-    [&[least as u32], &witness[..]].concat()
+    (!combinations.is_empty()).then(|| [&[least as u32], &witness[..]].concat())
 }
 
 /// The words of 64 inputs at which w·x is 1, w and x below 64.
@@ -115,9 +120,14 @@ fn count_of_differing_words(f: &[u64], lines: &[u64; 64], w: u64) -> u64 {
 
 /// As `by_definition`, by packed words, for sums of six inputs or more.
 pub fn by_counting(boxes: &[Summand], i: u32) -> Vec<u32> {
+    by_counting_over(boxes, &within(boxes[0].m, i)).expect("c = 1 always exists")
+}
+
+/// The same over these combinations.
+pub fn by_counting_over(boxes: &[Summand], combinations: &[u32]) -> Option<Vec<u32>> {
     let (rows, lists, lines) = (rows_of_sum(boxes), lists_of_masks(boxes), short_lines());
     let (mut least, mut witness) = (u64::MAX, Vec::new());
-    for c in within(boxes[0].m, i) {
+    for &c in combinations {
         let f = packed_combination(&rows, c);
         for masks in &lists {
             let differing = count_of_differing_words(&f, &lines, put_together(boxes, masks));
@@ -128,7 +138,7 @@ pub fn by_counting(boxes: &[Summand], i: u32) -> Vec<u32> {
             }
         }
     }
-    [&[least as u32], &witness[..]].concat()
+    (!combinations.is_empty()).then(|| [&[least as u32], &witness[..]].concat())
 }
 
 /// The first place of the largest |W(w)| of one box's combination, this magnitude, and whether
@@ -144,8 +154,13 @@ fn top(one: &Summand, c: u32) -> (u32, u64, bool) {
 /// combination with that product, each box's first place, and b = 1 where the product of the
 /// values there is below 0.
 pub fn by_products(boxes: &[Summand], i: u32) -> Vec<u32> {
+    by_products_over(boxes, &within(boxes[0].m, i)).expect("c = 1 always exists")
+}
+
+/// The same over these combinations.
+pub fn by_products_over(boxes: &[Summand], combinations: &[u32]) -> Option<Vec<u32>> {
     let mut best = (0, Vec::new());
-    for c in within(boxes[0].m, i) {
+    for &c in combinations {
         let tops: Vec<(u32, u64, bool)> = boxes.iter().map(|one| top(one, c)).collect();
         let product = tops.iter().map(|top| top.1).product();
         if product > best.0 {
@@ -155,18 +170,13 @@ pub fn by_products(boxes: &[Summand], i: u32) -> Vec<u32> {
         }
     }
     let figure = ((1u64 << all_inputs(boxes)) - best.0) / 2;
-    [&[figure as u32], &best.1[..]].concat()
+    (!combinations.is_empty()).then(|| [&[figure as u32], &best.1[..]].concat())
 }
 
 /// The call. Figures: the figure, c, one mask for each box that is read, b.
 pub fn sum_nonlinearity(number: u32, boxes: &[Summand; MOST], i: u32, figures_len: usize) -> Answer<Vec<u32>> {
-    refuse_when(number < 1 || number > MOST as u32, BOX_COUNT)?;
-    let read = &boxes[..number as usize];
-    for one in read {
-        check_box(one.n, one.m, &one.rows)?;
-    }
+    let read = check_boxes(number, boxes)?;
     let m = read[0].m;
-    refuse_when(read.iter().any(|one| one.m != m), OUTPUT_WIDTHS)?;
     check_parameter(i, 1, m)?;
     check_written(figures_len, 3 + read.len())?;
     Ok(match way(all_inputs(read), m, i) {
@@ -174,6 +184,17 @@ pub fn sum_nonlinearity(number: u32, boxes: &[Summand; MOST], i: u32, figures_le
         Way::ByCounting => by_counting(read, i),
         Way::ByProducts => by_products(read, i),
     })
+}
+
+/// The boxes that are read, where nothing about them is refused.
+pub fn check_boxes(number: u32, boxes: &[Summand; MOST]) -> Answer<&[Summand]> {
+    refuse_when(number < 1 || number > MOST as u32, BOX_COUNT)?;
+    let read = &boxes[..number as usize];
+    for one in read {
+        check_box(one.n, one.m, &one.rows)?;
+    }
+    refuse_when(read.iter().any(|one| one.m != read[0].m), OUTPUT_WIDTHS)?;
+    Ok(read)
 }
 
 /// How the figure is reached: the first way that takes no long time. Nobody can count over all
@@ -186,8 +207,13 @@ pub enum Way {
 }
 
 pub fn way(inputs: u32, m: u32, i: u32) -> Way {
+    way_over(inputs, how_many(m, i))
+}
+
+/// The same where so many combinations are looked at.
+pub fn way_over(inputs: u32, combinations: u64) -> Way {
     // Every combination is held against every mask, at every input.
-    let values = u128::from(how_many(m, i)) << (2 * inputs);
+    let values = u128::from(combinations) << (2 * inputs);
     if values <= 1 << 20 {
         Way::ByDefinition
     } else if inputs >= 6 && values <= 1 << 32 {
