@@ -36,7 +36,7 @@ pub fn magnitude(v: i32) -> u32
     ensures { λ r. ⌜ r ≡ natAbs v ⌝ }
 {
     if v < 0 {
-        let above = 0 - (v + 1);
+        let above = -(v + 1);
         (above as u32) + 1
     } else {
         v as u32

@@ -13,3 +13,4 @@ pub mod Leaving
 pub mod LowestGap
 pub mod RuleByRule
 pub mod Theorems
+pub mod Example

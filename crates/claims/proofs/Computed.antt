@@ -47,7 +47,7 @@ bounds-right =
 later-right : Right laterBounds
 unfolding parity dot affine ones onesIn one-if countBelow listFrom listBelow each every keep distance component components swapped best firstLeast first pairsOf pairs nonlinearity inputsOf sumAt sumRows masksOfInputs joined sumPairsOf sumPairs sumNonlinearity sumChecks swapAt swapsFrom swapsBy swaps raises firstOf raised design.newDesign design.setMark design.markChecks design.returnChecks server.start server.put server.putChecks server.heldChecks server.analysisOf server.among server.examinedOf
 later-right =
-    (refl, (refl, (refl, (refl, (refl, (refl, (refl, (refl, (refl, (refl, (refl, (refl, (refl, (refl, (refl, (refl, (refl, (refl, (refl, (refl, (refl, (refl, (refl, (refl, (refl, (refl, (refl, (refl, (refl, (refl, tt))))))))))))))))))))))))))))))
+    (refl, (refl, (refl, (refl, (refl, (refl, (refl, (refl, (refl, (refl, (refl, (refl, (refl, (refl, (refl, (refl, (refl, (refl, (refl, (refl, (refl, (refl, (refl, (refl, (refl, (refl, (refl, (refl, (refl, (refl, (refl, tt)))))))))))))))))))))))))))))))
 
 lengths-right : Right lengthBounds
 lengths-right =

@@ -190,6 +190,8 @@ laterBounds =
     ∷ (sumOf 1 (oneBit ∷ twoOutputs ∷ oneBit ∷ oneBit ∷ []) 2 is says (refusal 6))
     -- the raising swap: an affine function of three inputs is raised to 2, no swap raises one of two inputs, and eight outputs are taken
     ∷ (raisingOf 3 1 (0 ∷ 0 ∷ 0 ∷ 0 ∷ 1 ∷ 1 ∷ 1 ∷ 1 ∷ []) is says (figures (1 ∷ 0 ∷ 4 ∷ 2 ∷ [])))
+    -- no single output of this box is affine, and no swap raises their figure; the combination of all three is, and a swap raises its
+    ∷ (raisingOf 3 3 case9Rows is says (figures (1 ∷ 0 ∷ 1 ∷ 2 ∷ [])))
     ∷ (raisingOf 2 1 (0 ∷ 0 ∷ 1 ∷ 1 ∷ []) is says (figures (0 ∷ 0 ∷ 0 ∷ 0 ∷ [])))
     ∷ (raisingOf 1 8 (255 ∷ 255 ∷ []) is says (figures (0 ∷ 0 ∷ 0 ∷ 0 ∷ [])))
     ∷ (raisingOf 1 9 (255 ∷ 255 ∷ []) is says (refusal 2))

@@ -4,3 +4,4 @@ pub mod Histories
 pub mod Whole
 pub mod Held
 pub mod Theorems
+pub mod Any

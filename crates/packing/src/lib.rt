@@ -129,7 +129,8 @@ fn write_columns(words: &[u32], m: u32, size: usize, out: &mut [u8])
 // The packed form of an accepted box, by way of two arrays to work in, the first of them 0.
 fn pack_rows(n: u32, m: u32, rows: &[u32], padded: &mut [u32], words: &mut [u32], out: &mut [u8])
     requires { ⌜ Box n m (now rows) × Cleared 256 (now padded) × (length (now words) ≡ 256) × (length (now out) ≡ m * columnBytes n) ⌝ }
-    ensures { λ _. ⌜ now (out .exit) ≡ packed n m (now (rows .entry)) ⌝ }
+    ensures { λ _. ⌜ (now (out .exit) ≡ packed n m (now (rows .entry))) × Padded (now (rows .entry)) (now (padded .exit))
+        × GatheredWords (now (padded .exit)) (columnBytes n) (now (words .exit)) ⌝ }
 {
     let size = column_bytes(n);
     pad_rows(rows, padded);
@@ -213,7 +214,8 @@ fn write_rows(words: &[u32], size: usize, out: &mut [u32])
 // The rows of accepted packed bytes, by way of two arrays to work in, the first of them 0.
 fn unpack_bytes(n: u32, m: u32, bytes: &[u8], padded: &mut [u8], words: &mut [u32], out: &mut [u32])
     requires { ⌜ Columns n m (now bytes) × Cleared 1024 (now padded) × (length (now words) ≡ 256) × (length (now out) ≡ 2 ^ n) ⌝ }
-    ensures { λ _. ⌜ now (out .exit) ≡ unpacked n m (now (bytes .entry)) ⌝ }
+    ensures { λ _. ⌜ (now (out .exit) ≡ unpacked n m (now (bytes .entry))) × Padded (now (bytes .entry)) (now (padded .exit))
+        × BytesWords (now (padded .exit)) (columnBytes n) (now (words .exit)) ⌝ }
 {
     let size = column_bytes(n);
     pad_bytes(bytes, padded);

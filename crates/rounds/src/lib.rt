@@ -240,7 +240,7 @@ fn highest(values: &[i32]) -> Top
     }
 }
 
-// The largest magnitude in the spectrum of component c of a box, with its first mask and the sign there; an array for the spectrum is lent.
+// The first mask of the largest magnitude in the spectrum of component c of a box, and the sign there; an array for the spectrum is lent.
 fn top_in(n: u32, m: u32, rows: &[u32], c: u32, array: &mut [i32]) -> Top
     requires { ⌜ Box n m (now rows) × (1 ≤ c) × (c < 2 ^ m) × (length (now array) ≡ 2 ^ n) ⌝ }
     ensures reply { λ r. ⌜ TopOf (summandOf n m (now (rows .entry))) c r ⌝ }

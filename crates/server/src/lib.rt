@@ -174,26 +174,16 @@ fn with_component(fixed: &[i32; 2048], found: Found, n: u32, m: u32, rows: &[u32
 
 // The next combination of an unfinished box is examined.
 fn examine(fixed: &[i32; 2048], p: Place) -> Place
-    requires { ⌜ Spectra (now fixed) ⌝ }
-    ensures { λ r. ⌜ (model.unfinished (spotIn p) ≡ true → r ≡ oneMore p) ⌝ }
+    requires { ⌜ Spectra (now fixed) × (model.unfinished (spotIn p) ≡ true) ⌝ }
+    ensures { λ r. ⌜ r ≡ oneMore p ⌝ }
 {
     let n = p.n;
-    let k = p.examined;
-    if 8 < n {
-        return p;
-    }
-    if 65535 <= k {
-        return p;
-    }
     let m = p.m;
     let rows = p.rows;
     let old = p.found;
     let all = &rows[..];
     let size = boolean::power_of_two(n);
-    if all.len() < size {
-        return p;
-    }
-    let next = k + 1;
+    let next = p.examined + 1;
     let found = with_component(fixed, old, n, m, &all[..size], next);
     Place {
         taken: 1,

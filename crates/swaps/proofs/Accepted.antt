@@ -15,7 +15,7 @@ use Rattle.swaps.specs.declared.Searched.{Searched}
 
 -- ---- the nonlinearity over all combinations
 module _ {n m : ℕ} {rows : List ℕ} (boxed : Box n m rows) where
-  reply-is : nonlinearityReply n m rows m ≡ figures (shown (nonlinearity n m rows m))
+  pub reply-is : nonlinearityReply n m rows m ≡ figures (shown (nonlinearity n m rows m))
   reply-is =
       sym (reply-accepted (limit-accepted n m rows m (record { box = boxed; i-low = boxed .m-low; i-high = le-refl m })) (shown (nonlinearity n m rows m)))
 

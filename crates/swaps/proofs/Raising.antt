@@ -17,7 +17,9 @@ use Rattle.boolean.proofs.Lists.{length-listBelow, getD-listBelow}
 use Rattle.boolean.proofs.Members.{if-kept}
 use Rattle.refusals.specs.Table.{Box}
 use Rattle.linear.specs.declared.Found.{Found}
-use Rattle.linear.proofs.Theorems.{nonlinearity-least}
+use Rattle.linear.proofs.Theorems.{nonlinearity-least, component-least}
+use Rattle.boolean.proofs.Components.{whole-within}
+use native.Mathlib.Nat.{le-trans}
 use Rattle.swaps.specs.Swaps.{Swap, figureOf, swapAt, raises}
 use Rattle.swaps.specs.Work.{Tried, Passed, entryOf, tableOf, apartIn, NearestPair, NearestTable, PairsGathered}
 use Rattle.swaps.specs.declared.Attempt.{Attempt}
@@ -39,7 +41,8 @@ module _ {n m : ℕ} {rows : List ℕ} (box : Box n m rows) {figure : ℕ} (figu
 
   swap-fails : {r : Attempt} → 1 ≤ r .mask → Tried n m (swapped rows low high) figure r → raises n m rows swap ≡ false
   unfolding raises
-  swap-fails h t = le-ltb _ _ (subst (λ (z : ℕ). figureOf n m (swapped rows low high) ≤ z) figure-is (t .fails h))
+  swap-fails {r} h t = le-ltb _ _ (subst (λ (z : ℕ). figureOf n m (swapped rows low high) ≤ z) figure-is
+      (le-trans (component-least n m (swapped rows low high) m (r .mask) (whole-within m (r .mask) h (t .high))) (t .fails h)))
 
   module _ (low-in : low < 2 ^ n) (high-in : high < 2 ^ n) where
     -- a nearest pair that stays as near turns it down

@@ -12,7 +12,7 @@ use borrow.Author.Tests.{ltb-true, ltb-false, le-ltb, eqb-true}
 use lib.Bits.{bitXor}
 use lib.Count.{ones}
 use lib.Dec.{eqb, lit≤}
-use Rattle.boolean.specs.Functions.{at}
+use Rattle.boolean.specs.Functions.{at, swapped}
 use Rattle.boolean.specs.Selection.{Ascending}
 use Rattle.boolean.specs.Sums.{each, listFrom, listBelow, firstOf}
 use Rattle.boolean.proofs.Lists.{ascending-listFrom, ascending-listBelow, ascending-each, ascending-blocks}
@@ -21,6 +21,9 @@ use Rattle.boolean.proofs.Selection.{first-ranked}
 use Rattle.refusals.specs.Table.{Box, boxChecksUpTo, first, figures}
 use Rattle.refusals.specs.declared.Checked.the-variants.{Accepted}
 use Rattle.refusals.proofs.Checks.{box-up-to, reply-accepted}
+use Rattle.refusals.proofs.Swapped.{swapped-box}
+use Rattle.linear.specs.Nonlinearity.{nonlinearity, nonlinearityReply}
+use Rattle.swaps.proofs.Accepted as calls
 use Rattle.swaps.specs.Swaps.{Swap, figureOf, figureAfter, swapAt, swapsFrom, swapsBy, swaps, raises, shownSwap, raised, raisingReply}
 use Rattle.swaps.specs.Statements.{IsSwap, rowDistance, SwapBefore, InOrder, FirstRaising}
 use Rattle.boolean.proofs.FirstOf.{first-takes, first-skips, first-none, none-first, first-is}
@@ -187,3 +190,11 @@ module _ (n m : ℕ) (rows : List ℕ) (accepted : first (boxChecksUpTo 8 n m ro
           ⊎ ((s : Swap) × (raisingReply n m rows ≡ figures (1 ∷ s .low ∷ s .high ∷ figureAfter n m rows s ∷ [])) × FirstRaising n m rows s)
       go (inl e) = inl (reply-is ∙ ap (λ (l : List Swap). figures (shownSwap n m rows l)) e)
       go (inr t) = inr (t .0, reply-is ∙ ap (λ (l : List Swap). figures (shownSwap n m rows l)) (t .1), first-raising (t .0) (t .1))
+
+  -- the figures that are compared are those that the nonlinearity call replies with the limit m, before a swap and after it
+  replied : (r : List ℕ) → Box n m r → (v : List ℕ) × (nonlinearityReply n m r m ≡ figures (figureOf n m r ∷ v))
+  replied r box = (nonlinearity n m r m .witness, calls.reply-is box)
+
+  pub figures-compared : ((v : List ℕ) × (nonlinearityReply n m rows m ≡ figures (figureOf n m rows ∷ v)))
+      × ((s : Swap) → (v : List ℕ) × (nonlinearityReply n m (swapped rows (s .low) (s .high)) m ≡ figures (figureAfter n m rows s ∷ v)))
+  figures-compared = (replied rows boxed, λ s. replied (swapped rows (s .low) (s .high)) (swapped-box boxed (s .low) (s .high)))

@@ -89,7 +89,7 @@ module _ {n m : ℕ} {rows : List ℕ} {count : ℕ} where
     high = omega arith;
     passes = λ z. absurd (omega arith);
     figure-is = λ z. absurd (omega arith);
-    fails = λ k. le-trans (component-least n m rows m c (whole-within m c lo hi)) (le-trans (le-of-eq (sym e)) h);
+    fails = λ k. subst (λ (z : ℕ). nearest n rows z ≤ count) (sym same) (le-trans (le-of-eq (sym e)) h);
   }
 
 -- the rows after a swap, and the arrays to try them in

@@ -10,8 +10,10 @@ use lib.ListN.{length}
 use Rattle.boolean.specs.Bits.{affine}
 use Rattle.boolean.specs.Functions.{at, component, distance, swapped, MaskWithin}
 use Rattle.boolean.specs.Sums.{listBelow, firstOf}
+use Rattle.boolean.specs.Selection.{firstLeast}
 use Rattle.refusals.specs.Table.{Box}
 use Rattle.linear.specs.declared.Found.{Found}
+use Rattle.linear.specs.Nonlinearity.{pairsOf}
 use Rattle.swaps.specs.Swaps.{Swap, figureOf, raises}
 use Rattle.swaps.specs.declared.Attempt.{Attempt}
 use Rattle.swaps.specs.declared.Searched.{Searched}
@@ -62,12 +64,12 @@ pub record Searching (n m : ℕ) (rows : List ℕ) (figure : ℕ) (tables : List
   pub table-size : length table ≡ 2 ^ n
   pub values-size : length values ≡ 2 ^ n
 
--- no component and the nonlinearity, where that is above a count; or else the mask of a component
+-- no component and the nonlinearity, where that is above a count; or else the mask of a component with a pair of that count or less
 pub record Tried (n m : ℕ) (rows : List ℕ) (count : ℕ) (r : Attempt) : Type 0 where
   pub high : r .mask < 2 ^ m
   pub passes : r .mask ≡ 0 → count < figureOf n m rows
   pub figure-is : r .mask ≡ 0 → r .figure ≡ figureOf n m rows
-  pub fails : 1 ≤ r .mask → figureOf n m rows ≤ count
+  pub fails : 1 ≤ r .mask → firstLeast (pairsOf n rows (r .mask)) .figure ≤ count
 
 -- no component and the new figure, where one of the swaps raises the nonlinearity; or else the mask of a component, to try it first next
 -- time

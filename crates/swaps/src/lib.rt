@@ -414,17 +414,16 @@ fn search_box(n: u32, m: u32, rows: &[u32], present: Found) -> RaisingSwap
 }
 
 // The first swap of two unlike rows that raises the nonlinearity over all combinations, by the number of bits in which the rows differ, the
-// lower input, then the higher; or that there is none. At most eight outputs are taken. (An accepted box has a nonlinearity, so the branch
-// without one is never taken.)
+// lower input, then the higher; or that there is none. At most eight outputs are taken. (An accepted box has a nonlinearity, so that
+// its call never refuses; what it would refuse is passed on.)
 pub fn raising_swap(n: u32, m: u32, rows: &[u32]) -> RaisingSwap
     ensures { λ r. ⌜ saidRaisingSwap r ≡ raisingReply n m (now (rows .entry)) ⌝ }
 {
     if let Checked::Refused(e) = refusals::check_box_up_to(8, n, m, rows) {
         return RaisingSwap::Declined(e);
     }
-    let present = linear::nonlinearity(n, m, rows, m);
-    let LeastPair::Reached { count, c, w, b } = present else {
-        return RaisingSwap::NoSwap;
-    };
-    search_box(n, m, rows, Found { count, c, w, b })
+    match linear::nonlinearity(n, m, rows, m) {
+        LeastPair::Reached { count, c, w, b } => search_box(n, m, rows, Found { count, c, w, b }),
+        LeastPair::Declined(e) => RaisingSwap::Declined(e),
+    }
 }

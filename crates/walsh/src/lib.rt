@@ -192,8 +192,9 @@ fn transform_at_once(n: u32, values: &mut [i32])
     }
 }
 
-// The Walsh-Hadamard transform of any integers that are small enough, in place. Halves are cut until sixteen values are left, and fewer
-// are never cut.
+// The Walsh-Hadamard transform of any integers that are small enough, in place: what the inverse and the autocorrelation go by. (The
+// spectrum of a truth table goes by `descend`.) It calls itself on each half down to sixteen values; these, and fewer, have a function for
+// each number.
 pub fn transform(n: u32, values: &mut [i32])
     requires { ⌜ Summable n (now values) ⌝ }
     ensures { λ _. ⌜ now (values .exit) ≡ listBelow (2 ^ n) (λ w. functions.transform n (valueAt (now (values .entry))) w) ⌝ }

@@ -30,7 +30,7 @@ pack-rows-requires c κs =
 returns-2 : tie.Need-returns-2
 returns-2 c =
     let wrote = c .before .before .before .before in
-    wrote-accepted (accepted (wrote .before .before .before .before)) (wrote .pack-rows .ensures)
+    wrote-accepted (accepted (wrote .before .before .before .before)) (wrote .pack-rows .ensures .0)
 
 pub pack-spec : {M : Type 1} → statement M
 pack-spec =

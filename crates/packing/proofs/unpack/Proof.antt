@@ -30,7 +30,7 @@ unpack-bytes-requires c κs =
 returns-2 : tie.Need-returns-2
 returns-2 c =
     let wrote = c .before .before .before .before in
-    wrote-accepted (accepted (wrote .before .before .before .before)) (wrote .unpack-bytes .ensures)
+    wrote-accepted (accepted (wrote .before .before .before .before)) (wrote .unpack-bytes .ensures .0)
 
 pub unpack-spec : {M : Type 1} → statement M
 unpack-spec =

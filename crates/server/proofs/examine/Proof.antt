@@ -15,37 +15,38 @@ use Rattle.server.proofs.Places.{unfinished-taken}
 use Rattle.server.proofs.examine.Statement.{statement}
 use Rattle.server.proofs.examine.Tie as tie
 
-returns : tie.Need-returns
-returns c u = absurd (omega (arith, range-high 1 8 (c .before .args .p .n) (box-left (c .before .args .p) u .inputs), c .if1 .taken))
-
-returns-2 : tie.Need-returns-2
-returns-2 c u = absurd (omega (arith, left-few (c .before .before .args .p) u, c .if2 .taken))
-
 slice-aggregate-all : tie.Need-slice-aggregate-all
 slice-aggregate-all c = search needs
 
-returns-3 : tie.Need-returns-3
-returns-3 c u =
-    let p = c .before .before .before .before .before .before .before .args .p in
-    let room : 256 ≡ length (p .rows) = slice-aggregate-all (c .before .before) in
-    let short : length (p .rows) < c .before .power-of-two .result = c .if3 .taken in
-    absurd (omega (arith, rows-room p u, c .before .power-of-two .ensures .0))
+power-of-two-requires : tie.Need-power-of-two-requires
+power-of-two-requires c κs =
+    let start = c .before .before .before in
+    omega (arith, range-high 1 8 (start .args .p .n) (box-left (start .args .p) (start .pre .1) .inputs))
+
+add-next : tie.Need-add-next
+add-next c = let start = c .before .before .before .before .before in omega (arith, left-few (start .args .p) (start .pre .1))
 
 slice-aggregate-with-component : tie.Need-slice-aggregate-with-component
-slice-aggregate-with-component c = sym (length-take-le _ _ (c .before .if3 .left))
+slice-aggregate-with-component c =
+    let start = c .before .before .before .before .before .before in
+    let p = start .args .p in
+    let room : 256 ≡ length (p .rows) = slice-aggregate-all (c .before .before .before) in
+    sym (length-take-le _ _ (omega (arith, rows-room p (start .pre .1), c .before .before .power-of-two .ensures .0)))
 
-returns-4 : tie.Need-returns-4
+with-component-requires : tie.Need-with-component-requires
+with-component-requires c κs = c .before .before .before .before .before .before .pre .0
+
+returns : tie.Need-returns
 unfolding oneMore
-returns-4 c u =
+returns c =
     let power = c .before .before .before in
-    let p = power .before .before .before .before .before .before .args .p in
-    let e = power .power-of-two .ensures .0 in
+    let start = power .before .before .before .before in
+    let p = start .args .p in
     ap₂ (λ (t : ℕ) (f : Found). record { taken = t; n = p .n; m = p .m; rows = p .rows; examined = p .examined + 1; found = f })
-    (sym (unfinished-taken p u))
-    (c .with-component .ensures ∙ ap (λ (k : ℕ). foundOf (better (p .n) (p .m) (take k (p .rows)) (pairCandidate (p .found)) (p .examined + 1))) e)
+    (sym (unfinished-taken p (start .pre .1)))
+    (c .with-component .ensures ∙ ap (λ (k : ℕ). foundOf (better (p .n) (p .m) (take k (p .rows)) (pairCandidate (p .found)) (p .examined + 1))) (power .power-of-two .ensures .0))
 
 pub examine-spec : {M : Type 1} → statement M
 examine-spec =
     tie.close
-    (tie.spec returns returns-2 slice-aggregate-all (λ c κs. search needs) returns-3 (λ c. search needs)
-    slice-aggregate-with-component (λ c κs. search needs) returns-4)
+    (tie.spec slice-aggregate-all power-of-two-requires add-next slice-aggregate-with-component with-component-requires returns)

@@ -22,23 +22,24 @@ accepted c = sym (c .before .before .check-box-up-to .ensures) ∙ c .enum-told 
 boxed : (c : tie.After-enum-told) → let a = c .before .before .before .before .args in Box (a .n) (a .m) (a .rows .now)
 boxed c = let a = c .before .before .before .before .args in box-up-to 8 (a .n) (a .m) (a .rows .now) [] (lit≤ tt) (accepted c)
 
-returns-2 : tie.Need-returns-2
-returns-2 c = never-declined (boxed (c .before .before .before)) (sym (ap saidLeastPair (c .enum-told2 .given .1)) ∙ c .before .before .nonlinearity .ensures)
-
 search-box-requires : tie.Need-search-box-requires
 search-box-requires c κs =
     let told = c .before .before .before .before in
     let a = told .before .before .before .before .args in (
       boxed told,
       few-outputs 8 (a .n) (a .m) (a .rows .now) [] (accepted told),
-      pair-reached (boxed told) (sym (ap saidLeastPair (c .before .present .given .1)) ∙ c .before .before .before .nonlinearity .ensures),
+      pair-reached (boxed told) (sym (ap saidLeastPair (c .before .count .given .1)) ∙ c .before .before .before .nonlinearity .ensures),
     )
 
+returns-2 : tie.Need-returns-2
+returns-2 c = c .search-box .ensures ∙ reply-accepted (accepted (c .before .before .before .before .before)) _
+
+-- an accepted box is never refused
 returns-3 : tie.Need-returns-3
-returns-3 c = c .search-box .ensures ∙ reply-accepted (accepted (c .before .before .before .before .before)) _
+returns-3 c = never-declined (boxed (c .before .before .before .before)) (sym (ap saidLeastPair (c .before .e2 .given .1)) ∙ c .before .before .before .nonlinearity .ensures)
 
 pub raising-swap-spec : {M : Type 1} → statement M
 raising-swap-spec =
     tie.close
     (tie.spec (λ c κs. search needs) (λ c. search needs) returns (λ c. search needs) (λ c κs. search needs) (λ c. search needs)
-    (λ c. search needs) returns-2 search-box-requires returns-3)
+    search-box-requires (λ c. search needs) returns-2 returns-3)

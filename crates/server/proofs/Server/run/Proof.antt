@@ -1,12 +1,13 @@
 -- `server::Server::run` meets its contract: so many steps were made, or none is unfinished and the others would change nothing. Assumes
 -- nothing.
 use Prim.Native.Nat.{_-_, _≤_}
-use mathlib.Core.Path.{_≡_, refl, sym, _∙_, subst}
+use mathlib.Core.Path.{_≡_, refl, sym, ap, _∙_, subst}
 use native.Mathlib.Omega.{arith}
 use borrow.Author.Needs.{needs}
-use Rattle.server.specs.Model.{served}
+use Rattle.server.specs.Model.{served, unfinished}
 use Rattle.server.specs.Calls.{stateOfServer, ServerRan, none}
 use Rattle.server.specs.Work.{Waiting}
+use Rattle.server.proofs.Places.{spots-at}
 use Rattle.server.proofs.Steps.{turn-served, served-left}
 use Rattle.server.proofs.Waits.{waiting-served}
 use Rattle.server.proofs.Outcomes.{stepped-some, ran-more, ran-on}
@@ -44,7 +45,14 @@ element-copy-out-here : tie.Need-element-copy-out-here Inv-loop μ-loop
 element-copy-out-here c = omega (arith, c .before .next-place .ensures .0)
 
 examine-requires : tie.Need-examine-requires Inv-loop μ-loop
-examine-requires c κs = c .before .before .before .before .before .before .before .before .spectra .ensures
+examine-requires c κs =
+    let next = c .before .before .before in
+    let server = next .before .before .before .loop .server in
+    let q = next .next-place .result in
+    let left = served-left (stateOfServer server) q (turn-now next) (c .before .before .if1 .left) in (
+      c .before .before .before .before .before .before .before .before .spectra .ensures,
+      ap unfinished (sym (spots-at (server .places) (q - 1))) ∙ left,
+    )
 
 array-write-waiting : tie.Need-array-write-waiting Inv-loop μ-loop
 array-write-waiting c = omega (arith, c .before .before .before .before .before .next-place .ensures .0)
@@ -69,7 +77,7 @@ loop-again c =
     let some : q ≡ 0 → ⊥ = c .before .before .before .before .if1 .left in
     let v = c .before .examine .result in (
       omega arith,
-      ran-more (loop .inv .1) (stepped-some (loop .server) q v (turn-now next) some (c .before .examine .ensures) refl),
+      ran-more (loop .inv .1) (stepped-some (loop .server) q v (turn-now next) some (λ u. c .before .examine .ensures) refl),
       waiting-served (loop .server) (loop .waiting) (q - 1) q v _ (omega (arith, next .next-place .ensures .0)) (loop .inv .2)
           (served-left (stateOfServer (loop .server)) q (turn-now next) some) (c .unfinished .ensures),
     )
