@@ -3,3 +3,4 @@ pub mod FileRoom
 pub mod FileBytes
 pub mod Written
 pub mod Theorems
+pub mod Example

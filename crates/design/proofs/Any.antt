@@ -4,16 +4,18 @@ use Prim.Native.Nat.{ℕ}
 use mathlib.Core.Path.{_≡_, refl, sym, ap, _∙_, subst}
 use mathlib.Core.Logic.{_↔_, _⊎_, inl, inr, ⊎-elim}
 use mathlib.Core.Bool.{Bool, true, false, false≢true}
-use mathlib.Core.List.{List, [], _∷_, _++_, append-assoc, append-nil}
+use mathlib.Core.List.{List, [], _∷_, _++_, append-assoc, append-nil, List·Memᴰ, List·Memᴰ·head, List·Memᴰ·tail, List·Memᴰ·not-nil}
+use native.Mathlib.Omega.{arith}
 use Rattle.boolean.specs.Functions.{swapped}
 use Rattle.boolean.specs.Statements.{MadeBy, begins, goes-on}
+use Rattle.boolean.proofs.Selection.{of-cons}
 use Rattle.refusals.specs.Table.{Check, first, Reply, refusal, replyAfter, after}
 use Rattle.refusals.proofs.Outcomes.{refusal-leaves}
 use Rattle.columns.specs.Addition.{addedRows}
 use Rattle.design.specs.declared.Design.{Design}
 use Rattle.design.specs.Model.{DesignState, SoundState, begin, keeps, markAt, rowsKept, withRows, withMark, swapChecks, designAddChecks, markChecks, returnChecks, swapInputs, add, setMark, returnTo}
 use Rattle.design.specs.Calls.{stateOfDesign, designOf, SoundDesign, Operated}
-use Rattle.design.specs.Statements.{Operation, swaps, adds, sets, returns, afterOperation, OperationCalled, DesignMade, BegunBy, CalledBy}
+use Rattle.design.specs.Statements.{Operation, swaps, adds, sets, returns, afterOperation, onlySwaps, OperationCalled, DesignMade, BegunBy, CalledBy}
 use Rattle.design.proofs.Operations.{sound-begin, sound-after}
 use Rattle.design.proofs.Whole.{stands-for, sound-of}
 use Rattle.design.proofs.Theorems.{called-sound}
@@ -61,3 +63,34 @@ module _ {n m : ℕ} {rows : List ℕ} where
   pub any-made : (os : List Operation) → (d : Design) × DesignMade n m rows os d
   any-made os =
       made-on os [] (designOf (begin n m rows)) (sound-of (begin n m rows) (sound-begin n m rows)) (begins (_, record { reply = refl; whole = refl }))
+
+-- No operation changes the box but swaps: exactly where each of them is a swap or sets a mark.
+abbrev SwapOrSet : Operation → Type 0
+SwapOrSet o = ((x y : ℕ) × (o ≡ swaps x y)) ⊎ ((k : ℕ) × (o ≡ sets k))
+
+only-these : (os : List Operation) → onlySwaps os ≡ true → (o : Operation) → List·Memᴰ o os → SwapOrSet o
+unfolding onlySwaps
+only-these [] h o i = absurd (List·Memᴰ·not-nil i)
+only-these (swaps x y ∷ os) h o i = of-cons SwapOrSet (inl (x, y, refl)) (λ j. only-these os h o j) i
+only-these (adds j w b ∷ os) h o i = absurd (false≢true h)
+only-these (sets k ∷ os) h o i = of-cons SwapOrSet (inr (k, refl)) (λ j. only-these os h o j) i
+only-these (returns k ∷ os) h o i = absurd (false≢true h)
+
+no-addition : (j w b : ℕ) → SwapOrSet (adds j w b) → ⊥
+no-addition j w b (inl t) = let e = t .2 in let z : _≡_ {A = ℕ} 0 1 = cc in omega arith
+no-addition j w b (inr t) = let e = t .1 in let z : _≡_ {A = ℕ} 0 1 = cc in omega arith
+
+no-return : (k : ℕ) → SwapOrSet (returns k) → ⊥
+no-return k (inl t) = let e = t .2 in let z : _≡_ {A = ℕ} 0 1 = cc in omega arith
+no-return k (inr t) = let e = t .1 in let z : _≡_ {A = ℕ} 0 1 = cc in omega arith
+
+these-only : (os : List Operation) → ((o : Operation) → List·Memᴰ o os → SwapOrSet o) → onlySwaps os ≡ true
+unfolding onlySwaps
+these-only [] f = refl
+these-only (swaps x y ∷ os) f = these-only os (λ o i. f o (List·Memᴰ·tail i))
+these-only (adds j w b ∷ os) f = absurd (no-addition j w b (f (adds j w b) (List·Memᴰ·head refl)))
+these-only (sets k ∷ os) f = these-only os (λ o i. f o (List·Memᴰ·tail i))
+these-only (returns k ∷ os) f = absurd (no-return k (f (returns k) (List·Memᴰ·head refl)))
+
+pub only-swaps-exactly : (os : List Operation) → (onlySwaps os ≡ true) ↔ ((o : Operation) → List·Memᴰ o os → SwapOrSet o)
+only-swaps-exactly os = (only-these os, these-only os)

@@ -7,3 +7,4 @@ pub mod Laws
 pub mod Accepted
 pub mod Returns
 pub mod Theorems
+pub mod Example

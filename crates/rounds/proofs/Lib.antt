@@ -15,3 +15,4 @@ pub mod Orders
 pub mod Answers
 pub mod Tops
 pub mod Terms
+pub mod InputBits

@@ -34,10 +34,16 @@ ran-any s (suc k) =
     let u = stepped-any (t .0) in
     (u .0, more (t .1) (u .1))
 
+put-any : (place n m : ℕ) (rows : List ℕ) (s : Server) → (r : Server) × ServerCalled (puts place n m rows) s r
+put-any place n m rows s = (_, (_, record { reply = refl; server = refl }))
+
+withdrew-any : (place : ℕ) (s : Server) → (r : Server) × ServerCalled (withdraws place) s r
+withdrew-any place s = (_, (_, record { reply = refl; server = refl }))
+
 pub called-any : (c : Call) (s : Server) → (r : Server) × ServerCalled c s r
-called-any (puts place n m rows) s = (_, (_, record { reply = refl; server = refl }))
+called-any (puts place n m rows) s = put-any place n m rows s
 called-any (asks place) s = (s, (_, record { standing = refl }, refl))
-called-any (withdraws place) s = (_, (_, record { reply = refl; server = refl }))
+called-any (withdraws place) s = withdrew-any place s
 called-any steps s = stepped-any s
 called-any (runs k) s = ran-any s k
 
@@ -53,7 +59,7 @@ module _ {A O : Type 0} {Begun : A → Type 0} {Called : O → A → A → Type 
 pub any-made : (calls : List Call) → (s : Server) × ServerMade calls s
 any-made calls = made-on called-any calls [] (serverOf start) (begins (record { server = refl }))
 
--- "none of the calls withdraws the box of place q", said of the members
+-- None of the calls withdraws the box of place q: exactly where no such call is among them.
 abbrev isWithdrawal : Call → Bool
 isWithdrawal (withdraws z) = true
 isWithdrawal (puts z n k rows) = false
@@ -96,8 +102,3 @@ always q (withdraws p ∷ cs) f = go (eqb p q) refl (always q cs (λ x. f (List�
 
 pub keeps-exactly : (q : ℕ) (calls : List Call) → (keeps q calls ≡ true) ↔ (List·Memᴰ (withdraws q) calls → ⊥)
 keeps-exactly q calls = (λ h m. never q calls h m, λ f. always q calls f)
-
--- the first place in the circle at the start is place 1
-pub starts-at-one : start .last ≡ 0
-unfolding start
-starts-at-one = refl

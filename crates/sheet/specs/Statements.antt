@@ -46,3 +46,10 @@ exampleFile =
     ∷ 6 ∷ 0 ∷ 0 ∷ 0
     ∷ 7 ∷ 0 ∷ 0 ∷ 0
     ∷ []
+
+-- a file of the smallest widths, one input and one output: both rows 0, and the rows 0 and 1
+abbrev pub zeroFile : List ℕ
+zeroFile = 1 ∷ 1 ∷ 0 ∷ 0 ∷ 0 ∷ 0 ∷ 0 ∷ 0 ∷ 0 ∷ 0 ∷ []
+
+abbrev pub bitFile : List ℕ
+bitFile = 1 ∷ 1 ∷ 0 ∷ 0 ∷ 0 ∷ 0 ∷ 1 ∷ 0 ∷ 0 ∷ 0 ∷ []
