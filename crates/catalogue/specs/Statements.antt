@@ -2,8 +2,8 @@
 use Prim.Native.Nat.{ℕ, _+_, _≤_, _<_}
 use mathlib.Core.Path.{_≡_}
 use mathlib.Core.Bool.{Bool, true, false}
-use mathlib.Core.List.{List, [], _∷_}
-use lib.ListN.{length}
+use mathlib.Core.List.{List, [], _∷_, _++_}
+use lib.ListN.{length, replicate}
 use Rattle.boolean.specs.Functions.{at}
 use Rattle.refusals.specs.declared.Refusal.the-variants.{NoRoom}
 use Rattle.refusals.specs.declared.Checked.{Checked}
@@ -47,3 +47,23 @@ bytesTaken (r ∷ rs) = length (r .bytes) + bytesTaken rs
 abbrev pub roomFound : Bool → Checked
 roomFound true = Accepted
 roomFound false = Refused NoRoom
+
+-- ---- an example, byte by byte: in each place of the directory stand two numbers of which no two bytes are equal
+-- the file of a box with one input and one output, whose rows are 0 and 1: ten bytes
+abbrev pub smallFile : List ℕ
+smallFile = 1 ∷ 1 ∷ 0 ∷ 0 ∷ 0 ∷ 0 ∷ 1 ∷ 0 ∷ 0 ∷ 0 ∷ []
+
+-- the file of a box with six inputs and one output, whose rows are all 0: 258 bytes
+abbrev pub longFile : List ℕ
+longFile = 6 ∷ 1 ∷ replicate 256 0
+
+abbrev pub twoItems : List Item
+twoItems = record { start = 772; bytes = longFile } ∷ record { start = 1286; bytes = smallFile } ∷ []
+
+-- The count 2; the offset 772 and the length 258 of the first record, 1286 and 10 of the second; 62 places of zeros; zeros up to 772, the
+-- first file, zeros up to 1286, the second file, and zeros up to the end.
+abbrev pub behindPlaces : List ℕ
+behindPlaces = replicate 248 0 ++ (replicate 514 0 ++ (longFile ++ (replicate 256 0 ++ (smallFile ++ replicate 4 0))))
+
+abbrev pub twoRecords : List ℕ
+twoRecords = 2 ∷ 0 ∷ 4 ∷ 3 ∷ 2 ∷ 1 ∷ 6 ∷ 5 ∷ 10 ∷ 0 ∷ behindPlaces

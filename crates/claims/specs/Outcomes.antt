@@ -5,20 +5,25 @@ use mathlib.Core.List.{List, [], _∷_}
 use lib.IntN.{ℤ}
 use lib.ListN.{length, take}
 use Rattle.boolean.specs.Sums.{listBelow}
-use Rattle.boolean.specs.Functions.{at, valueAt, spectrum, inverse}
+use Rattle.boolean.specs.Functions.{at, valueAt, spectrum, inverse, normalForm}
 use Rattle.refusals.specs.Table.{Reply, first, replyAfter, after, tableCallChecks}
 use Rattle.walsh.specs.Calls.{inverseChecks}
 use Rattle.linear.specs.Nonlinearity.{nonlinearityReply}
 use Rattle.columns.specs.Addition.{additionChecks, addedRows}
 use Rattle.rounds.specs.Round.{Summand, sumReply}
 use Rattle.swaps.specs.Swaps.{raisingReply}
-use Rattle.differential.specs.Calls.{rowChecks, largestCellReply}
+use Rattle.differential.specs.XorTable.{xorRow, largestCells}
+use Rattle.differential.specs.Calls.{rowChecks, listChecks, listAfter, largestCellReply}
 use Rattle.avalanche.specs.Calls.{distanceReply, autocorrelationReply, completeReply}
-use Rattle.algebraic.specs.Calls.{boxDegreeReply}
+use Rattle.algebraic.specs.Calls.{boxDegreeReply, bijectiveReply}
 use Rattle.constructions.specs.Enlargement.{enlargedTable, enlargedRows}
 use Rattle.constructions.specs.BentForm.{bentTable}
 use Rattle.constructions.specs.Calls.{columnChecks, enlargeChecks, bentChecks}
-use Rattle.catalogue.specs.Calls.{checkReply}
+use Rattle.boxfile.specs.File.{fileChecks, fileRows, writeChecks, fileOf}
+use Rattle.packing.specs.Packing.{packChecks, packed, unpackChecks, unpacked}
+use Rattle.texts.specs.Text.{numeral}
+use Rattle.sheet.specs.Sheet.{sheetLimit, sheetText}
+use Rattle.catalogue.specs.Calls.{checkReply, fetchReply, addChecks, gapFor, gapIndex, added}
 use Rattle.design.specs.Model as design
 use Rattle.server.specs.Model as server
 
@@ -111,8 +116,72 @@ markReply s k = says (replyAfter (first (design.markChecks s k)) [])
 abbrev pub returnReply : (s : design.DesignState) (k : ℕ) → CallOutcome
 returnReply s k = says (replyAfter (first (design.returnChecks s k)) [])
 
+abbrev pub swapReply : (s : design.DesignState) (x y : ℕ) → CallOutcome
+swapReply s x y = says (replyAfter (first (design.swapChecks s x y)) [])
+
+abbrev pub designAddReply : (s : design.DesignState) (j w b : ℕ) → CallOutcome
+designAddReply s j w b = says (replyAfter (first (design.designAddChecks s j w b)) [])
+
 abbrev pub putReply : (s : server.ServerState) (p n m : ℕ) (rows : List ℕ) → CallOutcome
 putReply s p n m rows = says (replyAfter (first (server.putChecks s p n m rows)) [])
 
 abbrev pub withdrawReply : (s : server.ServerState) (p : ℕ) → CallOutcome
 withdrawReply s p = says (replyAfter (first (server.heldChecks s p)) [])
+
+-- ---- what the other calls write; `old` is what stands in the written array before the call
+abbrev pub rowOf : (n m : ℕ) (rows : List ℕ) (a : ℕ) (old : List ℕ) → CallOutcome
+rowOf n m rows a old = holds (after (first (rowChecks n m rows a (length old))) (xorRow n m rows a) old)
+
+abbrev pub cellsReply : (n m : ℕ) (rows old : List ℕ) → CallOutcome
+cellsReply n m rows old = says (replyAfter (first (listChecks n m rows (length old))) (length (largestCells n m rows) ∷ []))
+
+abbrev pub cellsListed : (n m : ℕ) (rows old : List ℕ) → CallOutcome
+cellsListed n m rows old = holds (after (first (listChecks n m rows (length old))) (listAfter (largestCells n m rows) old) old)
+
+abbrev pub formOf : (n : ℕ) (table old : List ℕ) → CallOutcome
+formOf n table old = holds (after (first (tableCallChecks n table (length old))) (normalForm n (at table)) old)
+
+abbrev pub bijectiveOf : (n m : ℕ) (rows : List ℕ) → CallOutcome
+bijectiveOf n m rows = says (bijectiveReply n m rows)
+
+-- ---- box files and packed columns
+abbrev pub readReply : (file old : List ℕ) → CallOutcome
+readReply file old = says (replyAfter (first (fileChecks file (length old))) (at file 0 ∷ at file 1 ∷ []))
+
+abbrev pub readOf : (file old : List ℕ) → CallOutcome
+readOf file old = holds (after (first (fileChecks file (length old))) (fileRows file (at file 0)) old)
+
+abbrev pub writtenOf : (n m : ℕ) (rows old : List ℕ) → CallOutcome
+writtenOf n m rows old = holds (after (first (writeChecks n m rows (length old))) (fileOf n m rows) old)
+
+abbrev pub packReply : (n m : ℕ) (rows old : List ℕ) → CallOutcome
+packReply n m rows old = says (replyAfter (first (packChecks n m rows (length old))) [])
+
+abbrev pub packedOf : (n m : ℕ) (rows old : List ℕ) → CallOutcome
+packedOf n m rows old = holds (after (first (packChecks n m rows (length old))) (packed n m rows) old)
+
+abbrev pub unpackReply : (n m : ℕ) (bytes old : List ℕ) → CallOutcome
+unpackReply n m bytes old = says (replyAfter (first (unpackChecks n m bytes (length old))) [])
+
+abbrev pub unpackedOf : (n m : ℕ) (bytes old : List ℕ) → CallOutcome
+unpackedOf n m bytes old = holds (after (first (unpackChecks n m bytes (length old))) (unpacked n m bytes) old)
+
+-- ---- the sheet of a file, its limit on combinations with m outputs, and a number as text
+abbrev pub sheetOf : (file : List ℕ) → CallOutcome
+sheetOf file = holds (sheetText file)
+
+abbrev pub limitOf : (m : ℕ) → CallOutcome
+limitOf m = holds (sheetLimit m ∷ [])
+
+abbrev pub numeralOf : (figure : ℕ) → CallOutcome
+numeralOf figure = holds (numeral figure)
+
+-- ---- a catalogue: fetching, and what adding says and leaves
+abbrev pub fetchOf : (catalogue : List ℕ) (index : ℕ) → CallOutcome
+fetchOf catalogue index = says (fetchReply catalogue index)
+
+abbrev pub addReply : (catalogue file : List ℕ) → CallOutcome
+addReply catalogue file = says (replyAfter (first (addChecks catalogue file)) (gapIndex (gapFor catalogue file) ∷ []))
+
+abbrev pub addedOf : (catalogue file : List ℕ) → CallOutcome
+addedOf catalogue file = holds (after (first (addChecks catalogue file)) (added catalogue file) catalogue)

@@ -1,11 +1,15 @@
 -- Document 01's proved cases, with the limits and the later calls of document 02: a table. The theorem over it is `worked` (proofs/Worked).
-use Prim.Native.Nat.{ℕ, _^_}
+use Prim.Native.Nat.{ℕ, _+_, _*_, _^_}
 use mathlib.Core.List.{List, [], _∷_, _++_}
 use lib.IntN.{pos, negsuc}
 use lib.ListN.{drop, replicate}
 use Rattle.boolean.specs.Sums.{listBelow}
 use Rattle.refusals.specs.Table.{figures, refusal}
 use Rattle.rounds.specs.Round.{Summand}
+use Rattle.texts.specs.Text.{bytes}
+use Rattle.sheet.specs.Statements.{zeroFile, bitFile}
+use Rattle.catalogue.specs.Format.{build}
+use Rattle.catalogue.specs.Statements.{smallFile, behindPlaces, twoRecords}
 use Rattle.design.specs.Model as design
 use Rattle.server.specs.Model as server
 use Rattle.claims.specs.Outcomes.{Case, says, holds, holdsSigned, _is_}
@@ -13,7 +17,10 @@ use Rattle.claims.specs.Outcomes.{nonlinearityOf, autocorrelationOf, deg
 use Rattle.claims.specs.Outcomes.{distanceOutcome, cellOutcome, rowReply, completeOf}
 use Rattle.claims.specs.Outcomes.{spectrumOf, inverseReply, inverseOf, columnOf, columnReply, enlargedBoxOf, boxReply, bentOf}
 use Rattle.claims.specs.Outcomes.{additionReply, additionOf, sumOf, raisingOf, checkOf}
-use Rattle.claims.specs.Outcomes.{markReply, returnReply, putReply, withdrawReply}
+use Rattle.claims.specs.Outcomes.{markReply, returnReply, swapReply, designAddReply, putReply, withdrawReply}
+use Rattle.claims.specs.Outcomes.{rowOf, cellsReply, cellsListed, formOf, bijectiveOf, readReply, readOf, writtenOf}
+use Rattle.claims.specs.Outcomes.{packReply, packedOf, unpackReply, unpackedOf, sheetOf, limitOf, numeralOf}
+use Rattle.claims.specs.Outcomes.{fetchOf, addReply, addedOf}
 
 -- what stands in an array before a call
 abbrev pub sixteen : List ℕ
@@ -204,6 +211,15 @@ laterBounds =
     ∷ (returnReply markedDesign 1 is says (refusal 17))
     ∷ (returnReply markedDesign 16 is says (figures []))
     ∷ (returnReply markedDesign 17 is says (refusal 6))
+    -- the inputs of a swap; the column, the mask and the constant of an addition
+    ∷ (swapReply markedDesign 0 1 is says (figures []))
+    ∷ (swapReply markedDesign 0 2 is says (refusal 6))
+    ∷ (swapReply markedDesign 2 0 is says (refusal 6))
+    ∷ (designAddReply markedDesign 0 1 1 is says (refusal 6))
+    ∷ (designAddReply markedDesign 1 1 1 is says (figures []))
+    ∷ (designAddReply markedDesign 2 1 1 is says (refusal 6))
+    ∷ (designAddReply markedDesign 1 2 1 is says (refusal 6))
+    ∷ (designAddReply markedDesign 1 1 2 is says (refusal 6))
     -- places 1 to 8, before the box's checks, and whether a place is taken; at most sixteen outputs
     ∷ (putReply servedServer 0 0 0 [] is says (refusal 18))
     ∷ (putReply servedServer 1 1 16 (0 ∷ 65535 ∷ []) is says (figures []))
@@ -226,6 +242,130 @@ lengthBounds =
     ∷ (checkOf (replicate 65536 0) is says (refusal 13))
     ∷ []
 
+-- ---- what the calls write, entry by entry
+-- nines in an array of eight, and in one of four
+abbrev pub eightNines : List ℕ
+eightNines = 9 ∷ 9 ∷ 9 ∷ 9 ∷ 9 ∷ 9 ∷ 9 ∷ 9 ∷ []
+
+abbrev pub fourNines : List ℕ
+fourNines = 9 ∷ 9 ∷ 9 ∷ 9 ∷ []
+
+abbrev pub tableCases : List Case
+tableCases =
+    -- two rows of the XOR table of document 01's box
+    (rowOf 3 3 case9Rows 1 eightNines is holds (0 ∷ 2 ∷ 2 ∷ 0 ∷ 2 ∷ 0 ∷ 0 ∷ 2 ∷ []))
+    ∷ (rowOf 3 3 case9Rows 3 eightNines is holds (0 ∷ 0 ∷ 0 ∷ 4 ∷ 0 ∷ 4 ∷ 0 ∷ 0 ∷ []))
+    -- the list of the largest cells, a × 2^32 + β: by ascending a, then β; entries past it stay, and a list that is too short is left
+    ∷ (cellsReply 2 1 (0 ∷ 0 ∷ 0 ∷ 1 ∷ []) eightNines is says (figures (6 ∷ [])))
+    ∷ (cellsListed 2 1 (0 ∷ 0 ∷ 0 ∷ 1 ∷ []) eightNines
+    is holds (4294967296 ∷ 4294967297 ∷ 8589934592 ∷ 8589934593 ∷ 12884901888 ∷ 12884901889 ∷ 9 ∷ 9 ∷ []))
+    ∷ (cellsReply 2 2 (0 ∷ 1 ∷ 2 ∷ 3 ∷ []) (9 ∷ 9 ∷ 9 ∷ []) is says (figures (3 ∷ [])))
+    ∷ (cellsListed 2 2 (0 ∷ 1 ∷ 2 ∷ 3 ∷ []) (9 ∷ 9 ∷ 9 ∷ []) is holds (4294967297 ∷ 8589934594 ∷ 12884901891 ∷ []))
+    ∷ (cellsReply 2 2 (0 ∷ 1 ∷ 2 ∷ 3 ∷ []) (9 ∷ 9 ∷ []) is says (refusal 9))
+    ∷ (cellsListed 2 2 (0 ∷ 1 ∷ 2 ∷ 3 ∷ []) (9 ∷ 9 ∷ []) is holds (9 ∷ 9 ∷ []))
+    -- the normal forms of input bit 1, of input bit 2 and of the OR of both
+    ∷ (formOf 2 (0 ∷ 1 ∷ 0 ∷ 1 ∷ []) fourNines is holds (0 ∷ 1 ∷ 0 ∷ 0 ∷ []))
+    ∷ (formOf 2 (0 ∷ 0 ∷ 1 ∷ 1 ∷ []) fourNines is holds (0 ∷ 0 ∷ 1 ∷ 0 ∷ []))
+    ∷ (formOf 2 (0 ∷ 1 ∷ 1 ∷ 1 ∷ []) fourNines is holds (0 ∷ 1 ∷ 1 ∷ 1 ∷ []))
+    -- the AND of two of three inputs, and of all three
+    ∷ (degreeOutcome 3 1 (0 ∷ 0 ∷ 0 ∷ 1 ∷ 0 ∷ 0 ∷ 0 ∷ 1 ∷ []) 1 is says (figures (2 ∷ 1 ∷ [])))
+    ∷ (degreeOutcome 3 1 (0 ∷ 0 ∷ 0 ∷ 0 ∷ 0 ∷ 0 ∷ 0 ∷ 1 ∷ []) 1 is says (figures (3 ∷ 1 ∷ [])))
+    -- bijective; two equal rows; two rows that are not equal, and n is not m
+    ∷ (bijectiveOf 2 2 (1 ∷ 3 ∷ 0 ∷ 2 ∷ []) is says (figures (1 ∷ [])))
+    ∷ (bijectiveOf 2 2 (1 ∷ 3 ∷ 0 ∷ 3 ∷ []) is says (figures (0 ∷ [])))
+    ∷ (bijectiveOf 1 2 (0 ∷ 3 ∷ []) is says (figures (0 ∷ [])))
+    ∷ []
+
+-- the rows of three inputs and two outputs: column 1 is 1 at the inputs 0, 1 and 3, column 2 at the input 6 alone
+abbrev pub eightRows : List ℕ
+eightRows = 1 ∷ 1 ∷ 0 ∷ 1 ∷ 0 ∷ 0 ∷ 2 ∷ 0 ∷ []
+
+abbrev pub byteCases : List Case
+byteCases =
+    -- a file's rows have four bytes, low byte first
+    (readReply (1 ∷ 32 ∷ 1 ∷ 2 ∷ 3 ∷ 4 ∷ 5 ∷ 6 ∷ 7 ∷ 8 ∷ []) (9 ∷ 9 ∷ []) is says (figures (1 ∷ 32 ∷ [])))
+    ∷ (readOf (1 ∷ 32 ∷ 1 ∷ 2 ∷ 3 ∷ 4 ∷ 5 ∷ 6 ∷ 7 ∷ 8 ∷ []) (9 ∷ 9 ∷ []) is holds (67305985 ∷ 134678021 ∷ []))
+    ∷ (writtenOf 1 32 (67305985 ∷ 134678021 ∷ []) (9 ∷ 9 ∷ eightNines) is holds (1 ∷ 32 ∷ 1 ∷ 2 ∷ 3 ∷ 4 ∷ 5 ∷ 6 ∷ 7 ∷ 8 ∷ []))
+    -- files of no byte, one and two; the widths come before the length
+    ∷ (readReply [] (9 ∷ 9 ∷ []) is says (refusal 10))
+    ∷ (readReply (0 ∷ []) (9 ∷ 9 ∷ []) is says (refusal 10))
+    ∷ (readReply (0 ∷ 1 ∷ []) (9 ∷ 9 ∷ []) is says (refusal 1))
+    ∷ (readReply (1 ∷ 33 ∷ []) (9 ∷ 9 ∷ []) is says (refusal 2))
+    ∷ (readReply (1 ∷ 1 ∷ []) (9 ∷ 9 ∷ []) is says (refusal 10))
+    -- a byte too few, as many as needed, one too many; a row that is too large; a written array of another length
+    ∷ (readReply (1 ∷ 1 ∷ 0 ∷ 0 ∷ 0 ∷ 0 ∷ 1 ∷ 0 ∷ 0 ∷ []) (9 ∷ 9 ∷ []) is says (refusal 10))
+    ∷ (readReply (1 ∷ 1 ∷ 0 ∷ 0 ∷ 0 ∷ 0 ∷ 1 ∷ 0 ∷ 0 ∷ 0 ∷ []) (9 ∷ 9 ∷ []) is says (figures (1 ∷ 1 ∷ [])))
+    ∷ (readReply (1 ∷ 1 ∷ 0 ∷ 0 ∷ 0 ∷ 0 ∷ 1 ∷ 0 ∷ 0 ∷ 0 ∷ 0 ∷ []) (9 ∷ 9 ∷ []) is says (refusal 10))
+    ∷ (readReply (1 ∷ 1 ∷ 0 ∷ 0 ∷ 0 ∷ 0 ∷ 2 ∷ 0 ∷ 0 ∷ 0 ∷ []) (9 ∷ []) is says (refusal 4))
+    ∷ (readReply (1 ∷ 1 ∷ 0 ∷ 0 ∷ 0 ∷ 0 ∷ 1 ∷ 0 ∷ 0 ∷ 0 ∷ []) (9 ∷ []) is says (refusal 7))
+    -- packed columns: column 1 first, the lowest input in the lowest bit, a byte for a column below three inputs
+    ∷ (packedOf 3 2 eightRows (9 ∷ 9 ∷ []) is holds (11 ∷ 64 ∷ []))
+    ∷ (packedOf 1 2 (1 ∷ 2 ∷ []) (9 ∷ 9 ∷ []) is holds (1 ∷ 2 ∷ []))
+    ∷ (unpackedOf 3 2 (11 ∷ 64 ∷ []) eightNines is holds eightRows)
+    ∷ (unpackedOf 1 2 (1 ∷ 2 ∷ []) (9 ∷ 9 ∷ []) is holds (1 ∷ 2 ∷ []))
+    -- above three inputs the lower inputs come first
+    ∷ (packedOf 4 1 (1 ∷ 0 ∷ 0 ∷ 0 ∷ 0 ∷ 0 ∷ 0 ∷ 0 ∷ 0 ∷ 1 ∷ 0 ∷ 0 ∷ 0 ∷ 0 ∷ 0 ∷ 0 ∷ []) (9 ∷ 9 ∷ []) is holds (1 ∷ 2 ∷ []))
+    -- a packed array of another length, where it is written and where it is read
+    ∷ (packReply 3 2 eightRows (9 ∷ 9 ∷ 9 ∷ []) is says (refusal 7))
+    ∷ (unpackReply 3 2 (11 ∷ 64 ∷ 0 ∷ []) eightNines is says (refusal 3))
+    -- with one input two bits are used, with two inputs four, and with three inputs all eight
+    ∷ (unpackReply 1 2 (3 ∷ 3 ∷ []) (9 ∷ 9 ∷ []) is says (figures []))
+    ∷ (unpackReply 1 2 (3 ∷ 4 ∷ []) (9 ∷ 9 ∷ []) is says (refusal 16))
+    ∷ (unpackReply 2 1 (15 ∷ []) fourNines is says (figures []))
+    ∷ (unpackReply 2 1 (16 ∷ []) fourNines is says (refusal 16))
+    ∷ (unpackReply 3 1 (255 ∷ []) eightNines is says (figures []))
+    -- 16 is looked for before 7
+    ∷ (unpackReply 1 2 (3 ∷ 4 ∷ []) (9 ∷ []) is says (refusal 16))
+    ∷ (unpackReply 1 2 (3 ∷ 3 ∷ []) (9 ∷ []) is says (refusal 7))
+    ∷ []
+
+abbrev pub sheetCases : List Case
+sheetCases =
+    -- with one output there is no bic; a box that is neither complete nor bijective, and one that is both
+    (sheetOf zeroFile is holds (
+    bytes "box 1 1\nnonlinearity 0 1 0 0 1\nxor 2 1 0\nautocorrelation 2 1 1 1\nsac 1 1 1\n"
+    ++ bytes "bic none\ndegree 0 1 1\ncomplete no\nbijective no\n"))
+    ∷ (sheetOf bitFile is holds (
+    bytes "box 1 1\nnonlinearity 0 1 1 0 1\nxor 2 1 1\nautocorrelation 2 1 1 1\nsac 1 1 1\n"
+    ++ bytes "bic none\ndegree 1 1 1\ncomplete yes\nbijective yes\n"))
+    -- a refused file prints one line
+    ∷ (sheetOf [] is holds (bytes "refused 10\n"))
+    -- the limit is m up to 16 outputs, and 4 above
+    ∷ (limitOf 1 is holds (1 ∷ []))
+    ∷ (limitOf 16 is holds (16 ∷ []))
+    ∷ (limitOf 17 is holds (4 ∷ []))
+    ∷ (limitOf 32 is holds (4 ∷ []))
+    -- numbers are in base ten
+    ∷ (numeralOf 0 is holds (bytes "0"))
+    ∷ (numeralOf 4294967295 is holds (bytes "4294967295"))
+    ∷ []
+
+-- so many small files, one behind the other, and room for one more
+abbrev pub recordsOf : (count : ℕ) → List ℕ
+recordsOf count = build (268 + 10 * count) (listBelow count (λ k. record { start = 258 + 10 * k; bytes = smallFile }))
+
+abbrev pub recordCases : List Case
+recordCases =
+    -- a file added to an empty catalogue: the count, the offset 258 and the length 10, each low byte first
+    (addReply (replicate 268 0) smallFile is says (figures (0 ∷ [])))
+    ∷ (addedOf (replicate 268 0) smallFile is holds (1 ∷ 0 ∷ 2 ∷ 1 ∷ 10 ∷ 0 ∷ (replicate 252 0 ++ smallFile)))
+    -- a byte too few, and no room for a second
+    ∷ (addReply (replicate 267 0) smallFile is says (refusal 14))
+    ∷ (addReply (1 ∷ 0 ∷ 2 ∷ 1 ∷ 10 ∷ 0 ∷ (replicate 252 0 ++ smallFile)) smallFile is says (refusal 14))
+    -- two records: 258 bytes at 772, and ten at 1,286
+    ∷ (checkOf twoRecords is says (figures (2 ∷ [])))
+    ∷ (fetchOf twoRecords 0 is says (figures (772 ∷ 258 ∷ [])))
+    ∷ (fetchOf twoRecords 1 is says (figures (1286 ∷ 10 ∷ [])))
+    ∷ (fetchOf twoRecords 2 is says (refusal 15))
+    -- 64 records, one less, and one more; a gap is there for each
+    ∷ (checkOf (recordsOf 64) is says (figures (64 ∷ [])))
+    ∷ (addReply (recordsOf 63) smallFile is says (figures (63 ∷ [])))
+    ∷ (addReply (recordsOf 64) smallFile is says (refusal 14))
+    ∷ (checkOf (recordsOf 65) is says (refusal 13))
+    -- the two places exchanged, so that they are not sorted by offset
+    ∷ (checkOf (2 ∷ 0 ∷ 6 ∷ 5 ∷ 10 ∷ 0 ∷ 4 ∷ 3 ∷ 2 ∷ 1 ∷ behindPlaces) is says (refusal 13))
+    ∷ []
+
 -- the table
 abbrev pub workedTable : List Case
-workedTable = cases ++ (bounds ++ (laterBounds ++ lengthBounds))
+workedTable = cases ++ (bounds ++ (laterBounds ++ (lengthBounds ++ (tableCases ++ (byteCases ++ (sheetCases ++ recordCases))))))

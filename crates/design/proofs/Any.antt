@@ -1,26 +1,26 @@
 -- Any operations with any arguments can be made of a design, one after the other, so that what is proved of a design that its own calls
 -- made is proved of every history. Assumes nothing.
 use Prim.Native.Nat.{ℕ}
-use mathlib.Core.Path.{_≡_, refl, sym, ap, _∙_, subst}
-use mathlib.Core.Logic.{_↔_, _⊎_, inl, inr, ⊎-elim}
-use mathlib.Core.Bool.{Bool, true, false, false≢true}
-use mathlib.Core.List.{List, [], _∷_, _++_, append-assoc, append-nil, List·Memᴰ, List·Memᴰ·head, List·Memᴰ·tail, List·Memᴰ·not-nil}
+use mathlib.Core.Path.{_≡_, refl, sym, ap, _∙_}
+use mathlib.Core.Logic.{_↔_, _⊎_, inl, inr}
+use mathlib.Core.Bool.{true, false≢true}
+use mathlib.Core.List.{List, [], _∷_, List·Memᴰ, List·Memᴰ·head, List·Memᴰ·tail, List·Memᴰ·not-nil}
 use native.Mathlib.Omega.{arith}
 use Rattle.boolean.specs.Functions.{swapped}
-use Rattle.boolean.specs.Statements.{MadeBy, begins, goes-on}
+use Rattle.boolean.proofs.Histories as histories
 use Rattle.boolean.proofs.Selection.{of-cons}
-use Rattle.refusals.specs.Table.{Check, first, Reply, refusal, replyAfter, after}
+use Rattle.refusals.specs.Table.{Check, first, boxChecks, Reply, refusal, replyAfter, after}
 use Rattle.refusals.proofs.Outcomes.{refusal-leaves}
 use Rattle.columns.specs.Addition.{addedRows}
 use Rattle.design.specs.declared.Design.{Design}
 use Rattle.design.specs.Model.{DesignState, SoundState, begin, keeps, markAt, rowsKept, withRows, withMark, swapChecks, designAddChecks, markChecks, returnChecks, swapInputs, add, setMark, returnTo}
 use Rattle.design.specs.Calls.{stateOfDesign, designOf, SoundDesign, Operated}
-use Rattle.design.specs.Statements.{Operation, swaps, adds, sets, returns, afterOperation, onlySwaps, OperationCalled, DesignMade, BegunBy, CalledBy}
+use Rattle.design.specs.Statements.{Operation, swaps, adds, sets, returns, operationChecks, afterOperation, onlySwaps, OperationCalled, DesignMade, BegunBy, CalledBy}
 use Rattle.design.proofs.Operations.{sound-begin, sound-after}
 use Rattle.design.proofs.Whole.{stands-for, sound-of}
 use Rattle.design.proofs.Theorems.{called-sound}
 
--- an operation's record, from what its checks found
+-- an operation's record, from what its checks found: it is done or refused, and says so
 operated-any : (d : Design) (checks : List Check) (result : DesignState) → SoundDesign d → SoundState (after (first checks) result (stateOfDesign d))
     → let made = after (first checks) result (stateOfDesign d) in Operated d checks made (replyAfter (first checks) []) (designOf made)
 operated-any d checks result s t = record {
@@ -30,39 +30,34 @@ operated-any d checks result s t = record {
   whole = λ h. refl;
 }
 
-called-any : (o : Operation) (d : Design) → SoundDesign d → (e : Design) × CalledBy o d e
-unfolding afterOperation swapInputs add setMark returnTo
-called-any (swaps x y) d s = by-swap (sound-after (stateOfDesign d) (s .sound) (swaps x y))
-  where
-    by-swap : SoundState (afterOperation (stateOfDesign d) (swaps x y)) → (e : Design) × CalledBy (swaps x y) d e
-    by-swap t = (_, (_, operated-any d (swapChecks (stateOfDesign d) x y) (withRows (stateOfDesign d) (swapped (stateOfDesign d .rows) x y)) s t))
-called-any (adds j w b) d s = by-add (sound-after (stateOfDesign d) (s .sound) (adds j w b))
-  where
-    by-add : SoundState (afterOperation (stateOfDesign d) (adds j w b)) → (e : Design) × CalledBy (adds j w b) d e
-    by-add t =
-        let p = operated-any d (designAddChecks (stateOfDesign d) j w b) (withRows (stateOfDesign d) (addedRows j w b (stateOfDesign d .rows))) s t in
-        (_, (_, record { unchanged = p .unchanged; operated = λ h. p }))
-called-any (sets k) d s = by-set (sound-after (stateOfDesign d) (s .sound) (sets k))
-  where
-    by-set : SoundState (afterOperation (stateOfDesign d) (sets k)) → (e : Design) × CalledBy (sets k) d e
-    by-set t = (_, (_, operated-any d (markChecks (stateOfDesign d) k) (withMark (stateOfDesign d) k (keeps (stateOfDesign d .rows))) s t))
-called-any (returns k) d s = by-return (sound-after (stateOfDesign d) (s .sound) (returns k))
-  where
-    by-return : SoundState (afterOperation (stateOfDesign d) (returns k)) → (e : Design) × CalledBy (returns k) d e
-    by-return t =
-        (_, (_, operated-any d (returnChecks (stateOfDesign d) k) (withRows (stateOfDesign d) (rowsKept (markAt (stateOfDesign d) k) (stateOfDesign d .rows))) s t))
+-- what an operation says of a design
+abbrev saidOf : (o : Operation) (d : Design) → Reply
+saidOf o d = replyAfter (first (operationChecks (stateOfDesign d) o)) []
 
-module _ {n m : ℕ} {rows : List ℕ} where
-  made-on : (os done : List Operation) (d : Design) → SoundDesign d → DesignMade n m rows done d → (e : Design) × DesignMade n m rows (done ++ os) e
-  made-on [] done d s t = (d, subst (λ (l : List Operation). DesignMade n m rows l d) (sym (append-nil done)) t)
-  made-on (o ∷ os) done d s t =
-      let c = called-any o d s in
-      let u = made-on os (done ++ (o ∷ [])) (c .0) (called-sound o (c .1 .0) (c .1 .1) s) (goes-on o t (c .1)) in
-      (u .0, subst (λ (l : List Operation). DesignMade n m rows l (u .0)) (append-assoc done (o ∷ []) os) (u .1))
+-- every operation has an outcome, whatever its arguments
+called-any : (o : Operation) (d : Design) → SoundDesign d → CalledBy o d (designOf (afterOperation (stateOfDesign d) o))
+unfolding operationChecks afterOperation swapInputs add setMark returnTo
+called-any (swaps x y) d s =
+    let a = stateOfDesign d in
+    (saidOf (swaps x y) d, operated-any d (swapChecks a x y) (withRows a (swapped (a .rows) x y)) s (sound-after a (s .sound) (swaps x y)))
+called-any (adds j w b) d s =
+    let a = stateOfDesign d in
+    let p = operated-any d (designAddChecks a j w b) (withRows a (addedRows j w b (a .rows))) s (sound-after a (s .sound) (adds j w b)) in
+    (saidOf (adds j w b) d, record { unchanged = p .unchanged; operated = λ h. p })
+called-any (sets k) d s =
+    let a = stateOfDesign d in
+    (saidOf (sets k) d, operated-any d (markChecks a k) (withMark a k (keeps (a .rows))) s (sound-after a (s .sound) (sets k)))
+called-any (returns k) d s =
+    let a = stateOfDesign d in
+    (saidOf (returns k) d, operated-any d (returnChecks a k) (withRows a (rowsKept (markAt a k) (a .rows))) s (sound-after a (s .sound) (returns k)))
 
-  pub any-made : (os : List Operation) → (d : Design) × DesignMade n m rows os d
-  any-made os =
-      made-on os [] (designOf (begin n m rows)) (sound-of (begin n m rows) (sound-begin n m rows)) (begins (_, record { reply = refl; whole = refl }))
+-- and so has every list of operations
+pub any-made : {n m : ℕ} {rows : List ℕ} (os : List Operation) → (d : Design) × DesignMade n m rows os d
+any-made {n} {m} {rows} os =
+    histories.any-made (BegunBy n m rows) CalledBy SoundDesign
+    (λ o d s. let c = called-any o d s in (designOf (afterOperation (stateOfDesign d) o), c, called-sound o (c .0) (c .1) s))
+    (designOf (begin n m rows)) (replyAfter (first (boxChecks n m rows)) [], record { reply = refl; whole = refl })
+    (sound-of (begin n m rows) (sound-begin n m rows)) os
 
 -- No operation changes the box but swaps: exactly where each of them is a swap or sets a mark.
 abbrev SwapOrSet : Operation → Type 0

@@ -4,15 +4,16 @@ use Prim.Native.Nat.{ℕ, zero, suc, _-_}
 use mathlib.Core.Path.{_≡_, refl, sym, ap, subst}
 use mathlib.Core.Logic.{_↔_, ⊎-elim}
 use mathlib.Core.Bool.{Bool, true, false, false≢true, true≢false}
-use mathlib.Core.List.{List, [], _∷_, _++_, append-assoc, append-nil, List·Memᴰ, List·Memᴰ·head, List·Memᴰ·tail, List·Memᴰ·not-nil, List·Memᴰ·cases-cons}
+use mathlib.Core.List.{List, [], _∷_, List·Memᴰ, List·Memᴰ·head, List·Memᴰ·tail, List·Memᴰ·not-nil, List·Memᴰ·cases-cons}
 use native.Mathlib.Decide.{ℕ-discrete}
 use lib.Dec.{eqb}
 use lib.ListN.{getD}
 use borrow.Author.Tests.{eqb-true, eqb-false}
-use Rattle.boolean.specs.Statements.{MadeBy, begins, goes-on}
+use Rattle.boolean.proofs.Histories as histories
+use Rattle.refusals.specs.Table.{first, replyAfter}
 use Rattle.server.specs.declared.Server.{Server}
-use Rattle.server.specs.Model.{start, served}
-use Rattle.server.specs.Calls.{stateOfServer, serverOf, oneMore, ServerStepped, ServerRan, none, more}
+use Rattle.server.specs.Model.{start, served, putChecks, heldChecks}
+use Rattle.server.specs.Calls.{stateOfServer, serverOf, oneMore, ServerBegan, ServerStepped, ServerRan, none, more}
 use Rattle.server.specs.Statements.{Call, puts, asks, withdraws, steps, runs, keeps, ServerCalled, ServerMade}
 use Rattle.server.proofs.Places.{nowhere}
 use Rattle.server.proofs.Outcomes.{stepped-none, stepped-some}
@@ -35,10 +36,11 @@ ran-any s (suc k) =
     (u .0, more (t .1) (u .1))
 
 put-any : (place n m : ℕ) (rows : List ℕ) (s : Server) → (r : Server) × ServerCalled (puts place n m rows) s r
-put-any place n m rows s = (_, (_, record { reply = refl; server = refl }))
+put-any place n m rows s =
+    (_, (replyAfter (first (putChecks (stateOfServer s) place n m rows)) [], record { reply = refl; server = refl }))
 
 withdrew-any : (place : ℕ) (s : Server) → (r : Server) × ServerCalled (withdraws place) s r
-withdrew-any place s = (_, (_, record { reply = refl; server = refl }))
+withdrew-any place s = (_, (replyAfter (first (heldChecks (stateOfServer s) place)) [], record { reply = refl; server = refl }))
 
 pub called-any : (c : Call) (s : Server) → (r : Server) × ServerCalled c s r
 called-any (puts place n m rows) s = put-any place n m rows s
@@ -48,16 +50,10 @@ called-any steps s = stepped-any s
 called-any (runs k) s = ran-any s k
 
 -- and so has every list of calls
-module _ {A O : Type 0} {Begun : A → Type 0} {Called : O → A → A → Type 0} (any : (o : O) (v : A) → (w : A) × Called o v w) where
-  made-on : (os done : List O) (v : A) → MadeBy Begun Called done v → (w : A) × MadeBy Begun Called (done ++ os) w
-  made-on [] done v t = (v, subst (λ (l : List O). MadeBy Begun Called l v) (sym (append-nil done)) t)
-  made-on (o ∷ os) done v t =
-      let c = any o v in
-      let u = made-on os (done ++ (o ∷ [])) (c .0) (goes-on o t (c .1)) in
-      (u .0, subst (λ (l : List O). MadeBy Begun Called l (u .0)) (append-assoc done (o ∷ []) os) (u .1))
-
 pub any-made : (calls : List Call) → (s : Server) × ServerMade calls s
-any-made calls = made-on called-any calls [] (serverOf start) (begins (record { server = refl }))
+any-made calls =
+    histories.any-made ServerBegan ServerCalled (λ s. Unit {0}) (λ c s u. let t = called-any c s in (t .0, t .1, tt)) (serverOf start)
+    (record { server = refl }) tt calls
 
 -- None of the calls withdraws the box of place q: exactly where no such call is among them.
 abbrev isWithdrawal : Call → Bool

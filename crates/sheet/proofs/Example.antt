@@ -31,3 +31,12 @@ zero-sheet = refl
 pub bit-sheet : sheetText bitFile ≡ bytes "box 1 1\nnonlinearity 0 1 1 0 1\nxor 2 1 1\nautocorrelation 2 1 1 1\nsac 1 1 1\nbic none\ndegree 1 1 1\ncomplete yes\nbijective yes\n"
 unfolding parity dot affine bit onesWithin ones sumBelow one-if countBelow xorBelow listFrom listBelow each every keep largestBelow distinct agreement distance autocorrelation changes coefficient degree column component components best firstLeast firstLargest first limitChecks pairsOf pairs nonlinearity difference cell cellsOf cells largestCell shifts atMost changesOf measured boxAutocorrelation imbalance dynamicDistance complete distanceChecks degrees boxDegree bijective rowAt fileRows readChecks fileChecks fileFound text.decimalDigits spaced line yesOrNo outcomeOf untilRefused sheetLimit sheetLines fileReply sheetText
 bit-sheet = refl
+
+-- The limit is m up to 16 outputs, and 4 above.
+pub limit-of-sixteen : sheetLimit 16 ≡ 16
+unfolding sheetLimit
+limit-of-sixteen = refl
+
+pub limit-of-seventeen : sheetLimit 17 ≡ 4
+unfolding sheetLimit
+limit-of-seventeen = refl
