@@ -49,7 +49,7 @@ cases-right =
 bounds-right : Right bounds
 unfolding parity dot affine bit onesWithin ones onesIn sumBelow one-if countBelow xorBelow listFrom listBelow each every keep largestBelow distinct agreement approximation spectrum distance autocorrelation changes coefficient degree column component components sign transform signBit inverse isSpectrum swapped best firstLeast firstLargest first limitChecks tableCallChecks inverseLengths functionCheck inverseChecks pairsOf pairs nonlinearity difference cell cellsOf cells largestCell rowChecks shifts atMost measured boxAutocorrelation imbalance dynamicDistance complete distanceChecks degrees boxDegree enlarged enlargedTable enlargedRows bentForm bentTable isPermutation columnChecks enlargeChecks bentChecks addedRow addedRows additionChecks
 bounds-right =
-    (refl, (refl, (refl, (refl, (refl, (refl, (refl, (refl, (refl, (refl, (refl, (refl, (refl, (refl, (refl, (refl, (refl, (refl, (refl, (refl, (refl, (refl, (refl, (refl, (refl, (refl, (refl, (refl, (refl, (refl, (refl, (refl, (refl, (refl, (refl, (refl, (refl, (refl, (refl, (refl, (refl, (refl, (refl, (refl, (refl, (refl, (refl, (refl, (refl, (refl, (refl, (refl, (refl, (refl, (refl, (refl, (refl, (refl, (refl, (refl, (refl, (refl, (refl, tt)))))))))))))))))))))))))))))))))))))))))))))))))))))))))))))))
+    (refl, (refl, (refl, (refl, (refl, (refl, (refl, (refl, (refl, (refl, (refl, (refl, (refl, (refl, (refl, (refl, (refl, (refl, (refl, (refl, (refl, (refl, (refl, (refl, (refl, (refl, (refl, (refl, (refl, (refl, (refl, (refl, (refl, (refl, (refl, (refl, (refl, (refl, (refl, (refl, (refl, (refl, (refl, (refl, (refl, (refl, (refl, (refl, (refl, (refl, (refl, (refl, (refl, (refl, (refl, (refl, (refl, (refl, (refl, (refl, (refl, (refl, (refl, (refl, (refl, (refl, (refl, (refl, (refl, (refl, (refl, (refl, (refl, (refl, (refl, (refl, (refl, (refl, (refl, tt)))))))))))))))))))))))))))))))))))))))))))))))))))))))))))))))))))))))))))))))
 
 later-right : Right laterBounds
 unfolding parity dot affine ones onesIn one-if countBelow listFrom listBelow each every keep distance component components swapped best firstLeast first pairsOf pairs nonlinearity inputsOf sumAt sumRows masksOfInputs joined sumPairsOf sumPairs sumNonlinearity sumChecks swapAt swapsFrom swapsBy swaps raises firstOf raised design.newDesign design.setMark design.markChecks design.returnChecks design.swapChecks design.designAddChecks server.start server.put server.putChecks server.heldChecks server.analysisOf server.among server.examinedOf

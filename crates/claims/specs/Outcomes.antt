@@ -66,9 +66,12 @@ rowReply n m rows a room = says (replyAfter (first (rowChecks n m rows a room)) 
 abbrev pub completeOf : (n m : ℕ) (rows : List ℕ) → CallOutcome
 completeOf n m rows = says (completeReply n m rows)
 
--- ---- a spectrum and its inverse; `old` is what stands in the written array before the call
+-- ---- a spectrum and its inverse; `old` is what stands in the written array before the call, and `room` how long it is
 abbrev pub spectrumOf : (n : ℕ) (table : List ℕ) (old : List ℤ) → CallOutcome
 spectrumOf n table old = holdsSigned (after (first (tableCallChecks n table (length old))) (spectrum n (at table)) old)
+
+abbrev pub spectrumReply : (n : ℕ) (table : List ℕ) (room : ℕ) → CallOutcome
+spectrumReply n table room = says (replyAfter (first (tableCallChecks n table room)) [])
 
 abbrev pub inverseReply : (n : ℕ) (values : List ℤ) (old : List ℕ) → CallOutcome
 inverseReply n values old = says (replyAfter (first (inverseChecks n values (length old))) [])
@@ -93,6 +96,9 @@ boxReply n rows table k old = says (replyAfter (first (enlargeChecks n rows tabl
 abbrev pub bentOf : (n : ℕ) (permutation table old : List ℕ) → List ℕ
 bentOf n permutation table old =
     after (first (bentChecks n permutation table (length old))) (bentTable n permutation table) old
+
+abbrev pub bentReply : (n : ℕ) (permutation table old : List ℕ) → CallOutcome
+bentReply n permutation table old = says (replyAfter (first (bentChecks n permutation table (length old))) [])
 
 abbrev pub additionReply : (n m : ℕ) (rows : List ℕ) (j w b : ℕ) (old : List ℕ) → CallOutcome
 additionReply n m rows j w b old = says (replyAfter (first (additionChecks n m rows j w b (length old))) [])

@@ -15,7 +15,8 @@ use Rattle.server.specs.Model as server
 use Rattle.claims.specs.Outcomes.{Case, says, holds, holdsSigned, _is_}
 use Rattle.claims.specs.Outcomes.{nonlinearityOf, autocorrelationOf, degreeOutcome}
 use Rattle.claims.specs.Outcomes.{distanceOutcome, cellOutcome, rowReply, completeOf}
-use Rattle.claims.specs.Outcomes.{spectrumOf, inverseReply, inverseOf, columnOf, columnReply, enlargedBoxOf, boxReply, bentOf}
+use Rattle.claims.specs.Outcomes.{spectrumOf, spectrumReply, inverseReply, inverseOf, columnOf, columnReply}
+use Rattle.claims.specs.Outcomes.{enlargedBoxOf, boxReply, bentOf, bentReply}
 use Rattle.claims.specs.Outcomes.{additionReply, additionOf, sumOf, raisingOf, checkOf}
 use Rattle.claims.specs.Outcomes.{markReply, returnReply, swapReply, designAddReply, putReply, withdrawReply}
 use Rattle.claims.specs.Outcomes.{rowOf, cellsReply, cellsListed, formOf, bijectiveOf, readReply, readOf, writtenOf}
@@ -133,6 +134,13 @@ bounds =
     ∷ (autocorrelationOf 2 3 (0 ∷ 2 ∷ 4 ∷ 5 ∷ []) 3 is says (figures (4 ∷ 4 ∷ 1 ∷ [])))
     ∷ (distanceOutcome 2 3 (0 ∷ 2 ∷ 4 ∷ 5 ∷ []) 3 2 is says (figures (2 ∷ 4 ∷ 1 ∷ [])))
     ∷ (degreeOutcome 2 3 (0 ∷ 2 ∷ 4 ∷ 5 ∷ []) 3 is says (figures (1 ∷ 4 ∷ [])))
+    -- a truth table: its width, its length, its values, and the written array
+    ∷ (spectrumReply 0 (0 ∷ []) 1 is says (refusal 1))
+    ∷ (spectrumReply 9 (zeros 9) 512 is says (refusal 1))
+    ∷ (spectrumReply 8 (zeros 8) 256 is says (figures []))
+    ∷ (spectrumReply 1 (0 ∷ 2 ∷ 0 ∷ []) 2 is says (refusal 3))
+    ∷ (spectrumReply 1 (0 ∷ 2 ∷ []) 3 is says (refusal 4))
+    ∷ (spectrumReply 1 (0 ∷ 1 ∷ []) 3 is says (refusal 7))
     -- a spectrum's doubled values are no function's
     ∷ (inverseReply 2 (pos 2 ∷ pos 2 ∷ pos 2 ∷ negsuc 1 ∷ []) (9 ∷ 9 ∷ 9 ∷ 9 ∷ []) is says (refusal 8))
     ∷ (inverseReply 1 (pos 1 ∷ pos 0 ∷ []) (9 ∷ 9 ∷ []) is says (figures []))
@@ -152,6 +160,17 @@ bounds =
     ∷ (boxReply 3 case9Rows case9Table 3 sixteen is says (figures []))
     ∷ (boxReply 3 case9Rows case9Table 4 sixteen is says (refusal 6))
     ∷ (boxReply 3 case9Rows case9Table 3 case8 is says (refusal 7))
+    -- the bent form: an even width from 2 to 8; then the lengths, 4 for the table before 5 for the permutation, and the written array
+    ∷ (bentReply 0 (0 ∷ []) (0 ∷ []) (9 ∷ []) is says (refusal 1))
+    ∷ (bentReply 2 (1 ∷ 0 ∷ []) (0 ∷ 1 ∷ []) (9 ∷ 9 ∷ 9 ∷ 9 ∷ []) is says (figures []))
+    ∷ (bentReply 3 (1 ∷ 0 ∷ []) (0 ∷ 1 ∷ []) (zeros 3) is says (refusal 1))
+    ∷ (bentReply 8 (identity 4) (zeros 4) (zeros 8) is says (figures []))
+    ∷ (bentReply 10 (identity 5) (zeros 5) (zeros 10) is says (refusal 1))
+    ∷ (bentReply 2 (1 ∷ 0 ∷ 2 ∷ []) (0 ∷ 1 ∷ []) (9 ∷ 9 ∷ 9 ∷ 9 ∷ []) is says (refusal 3))
+    ∷ (bentReply 2 (1 ∷ 1 ∷ []) (0 ∷ 2 ∷ []) (9 ∷ 9 ∷ 9 ∷ 9 ∷ []) is says (refusal 4))
+    ∷ (bentReply 2 (1 ∷ 1 ∷ []) (0 ∷ 1 ∷ []) (9 ∷ 9 ∷ 9 ∷ []) is says (refusal 5))
+    ∷ (bentReply 2 (0 ∷ 2 ∷ []) (0 ∷ 1 ∷ []) (9 ∷ 9 ∷ 9 ∷ []) is says (refusal 5))
+    ∷ (bentReply 2 (1 ∷ 0 ∷ []) (0 ∷ 1 ∷ []) (9 ∷ 9 ∷ 9 ∷ []) is says (refusal 7))
     -- column addition: the column, the mask, the constant, and the written array
     ∷ (additionReply 2 2 (0 ∷ 1 ∷ 2 ∷ 3 ∷ []) 0 3 1 (9 ∷ 9 ∷ 9 ∷ 9 ∷ []) is says (refusal 6))
     ∷ (additionReply 2 2 (0 ∷ 1 ∷ 2 ∷ 3 ∷ []) 2 3 1 (9 ∷ 9 ∷ 9 ∷ 9 ∷ []) is says (figures []))
