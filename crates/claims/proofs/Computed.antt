@@ -33,7 +33,7 @@ use Rattle.catalogue.specs.Calls.{catalogueChecks, indexChecks, recordAt, lowes
 use Rattle.design.specs.Model as design
 use Rattle.server.specs.Model as server
 use Rattle.claims.specs.Outcomes.{Case, says, holds, _is_, Right}
-use Rattle.claims.specs.Worked.{cases, bounds, laterBounds, lengthBounds, tableCases, byteCases, sheetCases, recordCases, workedTable}
+use Rattle.claims.specs.Worked.{cases, bounds, laterBounds, lengthBounds, tableCases, byteCases, sheetCases, recordCases, boundsTable, contentTable, workedTable}
 use Rattle.claims.proofs.Lengths.{zeros-taken, zeros-too-few, zeros-too-many}
 
 -- two tables, one after the other
@@ -70,7 +70,7 @@ tables-right =
     (refl, (refl, (refl, (refl, (refl, (refl, (refl, (refl, (refl, (refl, (refl, (refl, (refl, (refl, (refl, (refl, tt))))))))))))))))
 
 bytes-right : Right byteCases
-unfolding bit listFrom listBelow each totalBelow column first rowAt fileRows readChecks fileChecks rowBytes fileOf writeChecks columnBytes packedByte packed packedValue unpackedRow unpacked usedBits packChecks unpackChecks
+unfolding bit listFrom listBelow each every totalBelow column first rowAt fileRows readChecks fileChecks rowBytes fileOf writeChecks columnBytes packedByte packed packedValue unpackedRow unpacked usedBits packChecks unpackChecks
 bytes-right =
     (refl, (refl, (refl, (refl, (refl, (refl, (refl, (refl, (refl, (refl, (refl, (refl, (refl, (refl, (refl, (refl, (refl, (refl, (refl, (refl, (refl, (refl, (refl, (refl, (refl, (refl, (refl, tt)))))))))))))))))))))))))))
 
@@ -84,10 +84,15 @@ unfolding valid count places placeAt wordAt listBelow listFrom stand stands acce
 records-right =
     (refl, (refl, (refl, (refl, (refl, (refl, (refl, (refl, (refl, (refl, (refl, (refl, (refl, tt)))))))))))))
 
+bounds-table-right : Right boundsTable
+bounds-table-right =
+    joined-right cases (bounds ++ (laterBounds ++ lengthBounds)) cases-right
+    (joined-right bounds (laterBounds ++ lengthBounds) bounds-right (joined-right laterBounds lengthBounds later-right lengths-right))
+
+content-table-right : Right contentTable
+content-table-right =
+    joined-right tableCases (byteCases ++ (sheetCases ++ recordCases)) tables-right
+    (joined-right byteCases (sheetCases ++ recordCases) bytes-right (joined-right sheetCases recordCases sheets-right records-right))
+
 pub table-right : Right workedTable
-table-right =
-    joined-right cases _ cases-right
-    (joined-right bounds _ bounds-right
-    (joined-right laterBounds _ later-right
-    (joined-right lengthBounds _ lengths-right
-    (joined-right tableCases _ tables-right (joined-right byteCases _ bytes-right (joined-right sheetCases recordCases sheets-right records-right))))))
+table-right = joined-right boundsTable contentTable bounds-table-right content-table-right

@@ -48,7 +48,7 @@ packed-bits = packing.column-packed
 -- design that the operations make by definition
 pub operations-end : (n m : ℕ) (rows : List ℕ) (os : List Operation) → DesignMade n m rows os (designOf (afterOperations (begin n m rows) os))
 operations-end n m rows os =
-    let t = operations.any-made {n} {m} {rows} os in subst (λ (d : Design). DesignMade n m rows os d) (designs.made-whole (t .1)) (t .1)
+    let t = operations.any-made {n = n} {m = m} {rows = rows} os in subst (λ (d : Design). DesignMade n m rows os d) (designs.made-whole (t .1)) (t .1)
 
 -- [02.§11.9] "with only swaps": each of the operations is a swap or sets a mark
 pub only-swaps-exactly : (os : List Operation)

@@ -385,6 +385,12 @@ recordCases =
     ∷ (checkOf (2 ∷ 0 ∷ 6 ∷ 5 ∷ 10 ∷ 0 ∷ 4 ∷ 3 ∷ 2 ∷ 1 ∷ behindPlaces) is says (refusal 13))
     ∷ []
 
--- the table
+-- the table: cases and bounds, and then what the calls write
+abbrev pub boundsTable : List Case
+boundsTable = cases ++ (bounds ++ (laterBounds ++ lengthBounds))
+
+abbrev pub contentTable : List Case
+contentTable = tableCases ++ (byteCases ++ (sheetCases ++ recordCases))
+
 abbrev pub workedTable : List Case
-workedTable = cases ++ (bounds ++ (laterBounds ++ (lengthBounds ++ (tableCases ++ (byteCases ++ (sheetCases ++ recordCases))))))
+workedTable = boundsTable ++ contentTable
