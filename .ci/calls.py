@@ -2,7 +2,8 @@
 """Holds docs/CALLS.md to the sources: what a call is stands there, and nothing else is public without a line in it.
 
 A section of the list says of each of its functions that it stands in its crate as a `pub fn`, and whether it asks something of its caller:
-a call and an export have no `requires`, and a contract on their reply. Every `pub fn` stands in the list once.
+a call and an export have no `requires`, and a contract on their reply. What the sums of boxes call of the analyser has a contract on its reply too,
+over definitions that are to be believed (`specs.py`), and may ask something. Every `pub fn` stands in the list once.
 
 usage: calls.py CALLS CRATES      (docs/CALLS.md and crates/)
 """
@@ -12,8 +13,9 @@ import sys
 
 import sources
 
-CALLS, EXPORTS, ASKING, FREE = "Calls", "Calls from C", "Functions between crates that ask something", "Functions between crates that ask nothing"
-SECTIONS = (CALLS, EXPORTS, ASKING, FREE)
+CALLS, EXPORTS, UPPER = "Calls", "Calls from C", "Functions that the sums of boxes call"
+ASKING, FREE = "Functions between crates that ask something", "Functions between crates that ask nothing"
+SECTIONS = (CALLS, EXPORTS, UPPER, ASKING, FREE)
 ENTRY = re.compile(r"- `(\w+)`: (.*)$")
 NAME = re.compile(r"`([\w:]+)`")
 
@@ -38,15 +40,20 @@ def contracts(text):
     return found[CALLS] + found[EXPORTS]
 
 
+def believed(text):
+    """The functions whose contracts name only what is to be believed: the calls, the exports, and what the sums of boxes call."""
+    return contracts(text) + listed(text)[UPPER]
+
+
 def section_fault(section, function):
     """What keeps a function from standing in a section, or None."""
     if function is None or not function.public:
         return "its crate has no such `pub fn`"
     if function.exported != (section == EXPORTS):
         return "it is exported to C" if function.exported else "it is not exported to C"
-    if ("requires" in function.clauses) != (section == ASKING):
+    if section != UPPER and ("requires" in function.clauses) != (section == ASKING):
         return "it has a `requires`" if "requires" in function.clauses else "it has no `requires`"
-    if section in (CALLS, EXPORTS) and "ensures" not in function.clauses:
+    if section in (CALLS, EXPORTS, UPPER) and "ensures" not in function.clauses:
         return "it has no `ensures`"
     return None
 
@@ -76,7 +83,7 @@ def main():
     if found or not contracts(text):
         sys.exit(f"the list of calls has {len(found)} faults")
     sizes = {section: len(names) for section, names in listed(text).items()}
-    print(f"{sizes[CALLS]} calls and {sizes[EXPORTS]} exports ask nothing of their caller; {sizes[ASKING] + sizes[FREE]} public functions are for other crates")
+    print(f"{sizes[CALLS]} calls and {sizes[EXPORTS]} exports ask nothing of their caller; {sizes[UPPER] + sizes[ASKING] + sizes[FREE]} public functions are for other crates")
 
 
 if __name__ == "__main__":

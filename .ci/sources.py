@@ -1,4 +1,4 @@
-"""The functions of Rattle sources: their names, whether they are public, what they take, which clauses their contracts have, and their bodies.
+"""The functions of Rattle sources: their names, whether they are public, what they take and give, the clauses of their contracts, and their bodies.
 
 It reads tokens and not the language: enough to find each function, and each call in a body.
 """
@@ -17,7 +17,10 @@ class Function:
     public: bool
     exported: bool
     takes: list  # the names of its parameters, in order
+    types: list  # the tokens of the type of each; for `self` those before it, as & and mut
+    gives: list  # the tokens of what it returns
     clauses: list  # `requires` and `ensures`, in order
+    promises: list  # the tokens of all its `ensures`
     body: list  # the tokens of its body
 
 
@@ -51,6 +54,10 @@ def parameter(part):
     return next(word for word in part if word not in ("mut", "&") and not word.startswith("'"))
 
 
+def type_of(part):
+    return part[part.index(":") + 1:] if ":" in part else part[:-1]
+
+
 def function_at(crate, place, words, at):
     """The function whose word `fn` stands at a place, and the place after it."""
     before = words[max(0, at - 3):at]
@@ -58,17 +65,23 @@ def function_at(crate, place, words, at):
     public = "pub" in (before[:-2] if exported else before)[-1:]
     opened = words.index("(", at)
     closed = closing(words, opened)
-    takes = [parameter(part) for part in parts(words[opened + 1:closed])]
-    clauses, next_at = [], closed + 1
+    given = parts(words[opened + 1:closed])
+    takes, types = [parameter(part) for part in given], [type_of(part) for part in given]
+    clauses, promises, gives, next_at = [], [], [], closed + 1
     while words[next_at] not in ("{", ";"):
+        start = next_at
         if words[next_at] in ("requires", "ensures"):
             clauses.append(words[next_at])
             next_at = closing(words, words.index("{", next_at))
-        elif words[next_at] == "[":  # a type may hold a length, and a `;` with it
-            next_at = closing(words, next_at)
+            promises += words[start:next_at + 1] if words[start] == "ensures" else []
+        else:
+            if words[next_at] == "[":  # a type may hold a length, and a `;` with it
+                next_at = closing(words, next_at)
+            gives += words[start:next_at + 1]
         next_at += 1
     end = closing(words, next_at) if words[next_at] == "{" else next_at
-    return Function(crate, place + words[at + 1], public, exported, takes, clauses, words[next_at + 1:end]), end + 1
+    body = words[next_at + 1:end]
+    return Function(crate, place + words[at + 1], public, exported, takes, types, gives[1:], clauses, promises, body), end + 1
 
 
 def type_name(words):

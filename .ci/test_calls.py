@@ -16,6 +16,9 @@ LIST = """# Calls
 ## Calls from C
 - `satmegwo`: `satmegwo_nonlinearity`
 
+## Functions that the sums of boxes call
+- `linear`: `largest`, `count`
+
 ## Functions between crates that ask something
 - `linear`: `sweep`, `listing::measure`
 
@@ -39,6 +42,10 @@ pub fn sweep(mut found: Found, values: &mut [i32]) -> [i32; 8]
 pub fn spectra() -> [i32; 8]
     ensures { λ r. ⌜ r ≡ n ⌝ }
 { [0i32; 8] }
+
+pub fn largest(n: u32) -> u32 ensures { λ r. ⌜ r ≡ n ⌝ } { n }
+
+pub fn count(n: u32) -> u32 requires { ⌜ n ≤ 8 ⌝ } ensures { λ r. ⌜ r ≡ n ⌝ } { n }
 
 fn private(n: u32) {}
 """
@@ -99,6 +106,9 @@ class Listed(unittest.TestCase):
         self.one_fault("it has no `requires`", linear=LINEAR.replace("    requires { ⌜ n ≤ 8 ⌝ }\n", ""))
         self.one_fault("it has a `requires`", text=LIST.replace("`sweep`, ", "").replace("`spectra`", "`spectra`, `sweep`"))
 
+    def test_what_a_crate_above_calls_without_an_ensures_fails(self):
+        self.one_fault("it has no `ensures`", linear=LINEAR.replace("largest(n: u32) -> u32 ensures { λ r. ⌜ r ≡ n ⌝ }", "largest(n: u32) -> u32"))
+
     def test_an_export_is_no_call(self):
         self.one_fault("it is not exported", exports=EXPORTS.replace('extern "C" ', ""))
 
@@ -107,7 +117,9 @@ class Listed(unittest.TestCase):
             calls.listed(LIST.replace("## Calls from C", "## Exports"))
 
     def test_the_contracts(self):
-        self.assertEqual(calls.contracts(LIST), [("linear", "nonlinearity"), ("server", "Server::step"), ("satmegwo", "satmegwo_nonlinearity")])
+        held = [("linear", "nonlinearity"), ("server", "Server::step"), ("satmegwo", "satmegwo_nonlinearity")]
+        self.assertEqual(calls.contracts(LIST), held)
+        self.assertEqual(calls.believed(LIST), held + [("linear", "largest"), ("linear", "count")])
 
     def test_the_type_of_a_method(self):
         text = "impl<'a> Reader<'a> { pub fn next(self) -> Self { self } }\npub fn after() {}\n"

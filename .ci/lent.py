@@ -1,0 +1,51 @@
+#!/usr/bin/env python3
+"""Holds every contract to what a function leaves: each lent array, and the reply.
+
+A `&mut` parameter has its `.exit` in an `ensures` (DECISIONS 108), of a private function too: what no contract names may be left with any content,
+and a wrong program lives there. A function that returns something has an `ensures`.
+
+usage: lent.py CRATES      (crates/)
+"""
+import pathlib
+import sys
+
+import sources
+
+
+def lent(function):
+    """The parameters that a function may write to."""
+    bare = [[word for word in words if not word.startswith("'")] for words in function.types]
+    return [name for name, words in zip(function.takes, bare) if words[:2] == ["&", "mut"]]
+
+
+def unnamed(function):
+    """The lent arrays whose content after the call stands in no `ensures`."""
+    promises = function.promises
+    named = {promises[at - 2] for at in range(2, len(promises)) if promises[at - 1:at + 1] == [".", "exit"]}
+    return [name for name in lent(function) if name not in named]
+
+
+def faults(functions):
+    found = []
+    for function in functions:
+        whole = f"{function.crate}::{function.name}"
+        found += [f"{whole} is lent {name}, and no `ensures` says what it holds afterwards" for name in unnamed(function)]
+        if function.gives and "ensures" not in function.clauses:
+            found.append(f"{whole} returns something, and has no `ensures`")
+    return found
+
+
+def main():
+    if len(sys.argv) != 2:
+        sys.exit("usage: lent.py CRATES")
+    functions = sources.of_crates(pathlib.Path(sys.argv[1]))
+    found, count = faults(functions), sum(len(lent(function)) for function in functions)
+    for fault in found:
+        print(f"lent: {fault}")
+    if found or not count:
+        sys.exit(f"{count} lent arrays, and {len(found)} faults")
+    print(f"{count} lent arrays of {len(functions)} functions: each is named in its contract as it is left")
+
+
+if __name__ == "__main__":
+    main()
