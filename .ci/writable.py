@@ -31,7 +31,7 @@ def main(files):
         code = [name for name, text, _, _ in objects(table) if text]
         count += len(code)
         found += [f"{file}: {fault}" for fault in faults(table)] + ([] if code else [f"{file}: no code was found"])
-    print("\n".join(found + [f"{len(files)} archives with {count} objects, and {len(found)} faults: what can be written outlives no call"]))
+    print("\n".join(found + [f"{len(files)} archives with {count} objects, {len(found)} of which have data that can be written, or no code"]))
     sys.exit(1 if found else 0)
 
 

@@ -18,7 +18,7 @@
  * THE LIMIT. A combination within the limit i, from 1 to m, is one of at most i outputs:
  * c has 1 to i ones. With i = m these are all. A call over combinations visits each of
  * those within its limit: 41,448 at 32 outputs with i = 4, and 4,294,967,295 with i = 32.
- * It takes 0.3 to 0.5 microseconds for each at 8 inputs, so 20 to 30 minutes for the last
+ * It takes 0.3 to 0.5 microseconds for each at 8 inputs, so 21 to 36 minutes for the last
  * (autocorrelation and dynamic distance twice that, the degree far less), and cannot be
  * stopped. With i below m a combination of more outputs may be nearer: the nonlinearity
  * and the degree over all are at most those within i, autocorrelation and dynamic
@@ -40,10 +40,10 @@
  * ANSWERS. Every function but satmegwo_version returns 0, or the number of a refusal
  * (enum satmegwo_refusal). A refused call has written to no array. Figures are written to
  * a lent array, which must be exactly as long as the number of figures. The checks run in
- * the order of the numbers (those of a box file, of a sum and of a catalogue in their
- * own, which is given there), and the first that applies gives the number. All lengths
- * (3) are looked at before any value (4). Each function below names the refusals it can
- * give, in the order in which it looks for them.
+ * the order of the numbers (those of a box file, of packed columns, of a sum and of a
+ * catalogue in their own, which is given there), and the first that applies gives the
+ * number. All lengths (3) are looked at before any value (4). Each function below names
+ * the refusals it can give, in the order in which it looks for them.
  */
 #ifndef SATMEGWO_H
 #define SATMEGWO_H

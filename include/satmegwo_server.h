@@ -12,9 +12,10 @@
  * witness that satmegwo_nonlinearity gives with the limit m.
  *
  * A server that anything but these calls has made or changed may hold any bytes. No call
- * reads or writes outside of it, a refused call hands it back as it was, and it is soon
- * done: what has other widths than a box that may be put here is never unfinished, so
- * that no box is after 8 x 65,535 steps. But its figures need be those of no box.
+ * reads or writes outside of it and of the array that the call is lent, a refused call
+ * hands it back as it was, and it is soon done: what has other widths than a box that may
+ * be put here is never unfinished, so that no box is unfinished after 8 x 65,535 steps.
+ * But its figures need be those of no box.
  *
  * Refusals: 18 the place is not 1 to 8; then 19 it is taken (on putting) or empty (on
  * asking and withdrawing); then those of a box, where 2 means that m is not 1 to 16. A

@@ -1,5 +1,7 @@
 // Reads box files from standard input, one after the other, and writes the figures of each box over all combinations; then its
-// nonlinearity after one column addition, after a second, and after a third that is refused and leaves the rows standing.
+// nonlinearity after one column addition, after a second, and after a third that is refused and leaves the rows standing. It is for boxes
+// of three inputs or more and two outputs or more, as the stored ones are: with one output the line `bic` has neither figures nor an end,
+// and with fewer inputs nothing is written after the first addition, since the second one is refused.
 use algebraic::DegreeFound;
 use avalanche::LargestChange;
 use boxfile::BoxFile;
@@ -81,7 +83,7 @@ fn show_degree(n: u32, m: u32, rows: &[u32]) {
     show_verdict(algebraic::is_bijective(n, m, rows));
 }
 
-// The nonlinearity of the rows that stand after an addition to column m + 1, which no box has.
+// The nonlinearity of the rows that stand after an addition to column m + 1, which a box of m outputs has not.
 fn show_refused(n: u32, m: u32, rows: &[u32]) {
     let mut new = [0u32; 256];
     let size = lines::smaller(rows.len(), 256);

@@ -1,5 +1,5 @@
-// The calls for C and for everything that speaks C. A slice is a pointer and its number of elements. Every function returns 0 or the number
-// of a refusal, and its figures go to an array that is lent for them.
+// The calls for C and for everything that speaks C. A slice is a pointer and its number of elements. Every function but `satmegwo_version`
+// returns 0 or the number of a refusal, and its figures go to an array that is lent for them.
 mod giving;
 
 use algebraic::DegreeFound;

@@ -31,8 +31,9 @@ fn limit_of(m: u32) -> u32
     if m <= 16 { m } else { 4 }
 }
 
-// Each function below writes the line of one figure, or nothing where its figure is refused. The number in its clauses is how many bytes
-// the line may take: its word's, eleven for each figure with its space, and one for the line's end.
+// Each function below writes the line of one figure, or nothing where its figure is refused. (With one output `write_bic` writes
+// `bic none` and asks for no figure.) The number in its clauses is how many bytes the line may take: its word's, eleven for each figure
+// with its space, and one for the line's end.
 
 fn write_nonlinearity(n: u32, m: u32, rows: &[u32], text: &mut [u8], at: usize) -> Printed
     requires { ⌜ at + 68 ≤ length (now text) ⌝ }

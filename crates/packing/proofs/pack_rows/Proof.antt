@@ -26,9 +26,12 @@ returns c =
     let a = s .args in
     let words = gave .gather-words .last .1 .1 .0 in
     let padded = pad .pad-rows .last .1 .0 in
-    let held : GatheredWords padded (columnBytes (a .n)) words = subst (λ (k : ℕ). GatheredWords padded k words) (sized .column-bytes .ensures .0) (gave .gather-words .ensures) in
-    (wrote .write-columns .ensures ∙ ap (λ (k : ℕ). listBelow (a .m * k) (wordByte words k)) (sized .column-bytes .ensures .0)
-    ∙ packed-from-words (a .n) (a .m) (a .rows .now) padded words (s .pre .0 .m-high) (pad .pad-rows .ensures) held, pad .pad-rows .ensures, held)
+    let held : GatheredWords padded (columnBytes (a .n)) words = subst (λ (k : ℕ). GatheredWords padded k words) (sized .column-bytes .ensures .0) (gave .gather-words .ensures) in (
+      wrote .write-columns .ensures ∙ ap (λ (k : ℕ). listBelow (a .m * k) (wordByte words k)) (sized .column-bytes .ensures .0)
+          ∙ packed-from-words (a .n) (a .m) (a .rows .now) padded words (s .pre .0 .m-high) (pad .pad-rows .ensures) held,
+      pad .pad-rows .ensures,
+      held,
+    )
 
 pub pack-rows-spec : {M : Type 1} → statement M
 pack-rows-spec =

@@ -35,10 +35,13 @@ returns c =
     let a = s .args in
     let words = joined .join-words .last .1 .1 .0 in
     let padded = pad .pad-bytes .last .1 .0 in
-    let held : BytesWords padded (columnBytes (a .n)) words = subst (λ (k : ℕ). BytesWords padded k words) (sized .column-bytes .ensures .0) (joined .join-words .ensures) in
-    (wrote .write-rows .ensures
-    ∙ ap₂ (λ (k size : ℕ). listBelow k (λ x. bitsGathered words (x / 8) size (x % 8))) (s .pre .3) (sized .column-bytes .ensures .0)
-    ∙ unpacked-from-words (a .n) (a .m) (a .bytes .now) padded words (s .pre .0) (pad .pad-bytes .ensures) held, pad .pad-bytes .ensures, held)
+    let held : BytesWords padded (columnBytes (a .n)) words = subst (λ (k : ℕ). BytesWords padded k words) (sized .column-bytes .ensures .0) (joined .join-words .ensures) in (
+      wrote .write-rows .ensures
+          ∙ ap₂ (λ (k size : ℕ). listBelow k (λ x. bitsGathered words (x / 8) size (x % 8))) (s .pre .3) (sized .column-bytes .ensures .0)
+          ∙ unpacked-from-words (a .n) (a .m) (a .bytes .now) padded words (s .pre .0) (pad .pad-bytes .ensures) held,
+      pad .pad-bytes .ensures,
+      held,
+    )
 
 pub unpack-bytes-spec : {M : Type 1} → statement M
 unpack-bytes-spec =
