@@ -11,7 +11,7 @@ use lib.ListN.{length}
 use Rattle.boolean.specs.Functions.{at, Below, occurrences}
 use Rattle.boolean.specs.Selection.{Candidate}
 use Rattle.differential.specs.Running.{risenAt, higherOf, runningAfter, LargestSoFar, numberIn, InRow}
-use Rattle.differential.specs.Work.{AfterRow}
+use Rattle.differential.specs.Work.{AfterRow, afterStanding}
 use Rattle.sorting.proofs.Occurrences.{occurs-more, occurs-same, occurs-none, occurs-le}
 
 -- ---- at the start
@@ -188,6 +188,21 @@ module _ {values : List ℕ} {y best : ℕ} (r : LargestSoFar values y best) whe
   pub smallest-is : 4294967295 - best % 4294967296 ≡ r .β
   smallest-is = omega (arith, r .is, r .small)
 
+-- ---- the best cell after a row, from the row's standing alone
+module _ (a best : ℕ) (found : Candidate) where
+  pub standing-stays : 2 * (best / 4294967296) ≤ found .figure → afterStanding a best found ≡ found
+  unfolding afterStanding
+  standing-stays h =
+      ap (λ (t : Bool). elim t [ true ↦ record { figure = 2 * (best / 4294967296); witness = a ∷ (4294967295 - best % 4294967296) ∷ [] } | false ↦ found ])
+      (le-ltb (found .figure) (2 * (best / 4294967296)) h)
+
+  pub standing-counts : found .figure < 2 * (best / 4294967296)
+      → afterStanding a best found ≡ record { figure = 2 * (best / 4294967296); witness = a ∷ (4294967295 - best % 4294967296) ∷ [] }
+  unfolding afterStanding
+  standing-counts h =
+      ap (λ (t : Bool). elim t [ true ↦ record { figure = 2 * (best / 4294967296); witness = a ∷ (4294967295 - best % 4294967296) ∷ [] } | false ↦ found ])
+      (lt-ltb (found .figure) (2 * (best / 4294967296)) h)
+
 -- ---- at the end
 module _ {values : List ℕ} {best : ℕ} (r : LargestSoFar values (length values) best) where
   pub largest-few : best / 4294967296 ≤ length values
@@ -206,3 +221,11 @@ module _ {values : List ℕ} {best : ℕ} (r : LargestSoFar values (length value
     above = omega (arith, largest-is r);
     of-row = r .so-far;
   })
+
+  -- so does what the standing leaves
+  pub row-after : (a : ℕ) (found : Candidate) → AfterRow a values found (afterStanding a best found)
+  row-after a found = pick (decLt (found .figure) (2 * (best / 4294967296)))
+    where
+      pick : Dec (found .figure < 2 * (best / 4294967296)) → AfterRow a values found (afterStanding a best found)
+      pick (yes h) = rw (standing-counts a best found h) (row-takes a found h)
+      pick (no h) = let k : 2 * (best / 4294967296) ≤ found .figure = omega arith in rw (standing-stays a best found k) (row-keeps a found k)

@@ -1,11 +1,11 @@
 -- What the functions behind the calls on the XOR table ask and leave, but for the running value of a row (`Running`).
-use Prim.Native.Nat.{ℕ, _+_, _-_, _*_, _%_, _^_, _≤_, _<_}
+use Prim.Native.Nat.{ℕ, _+_, _-_, _*_, _/_, _%_, _^_, _≤_, _<_}
 use mathlib.Core.Path.{_≡_}
 use mathlib.Core.Bool.{true, false}
 use mathlib.Core.Logic.{_⊎_}
 use mathlib.Core.List.{List, [], _∷_, map}
 use lib.Bits.{bitXor}
-use lib.Dec.{eqb}
+use lib.Dec.{eqb, ltb}
 use lib.ListN.{length}
 use Rattle.boolean.specs.Sums.{countBelow, listBelow, each, keep}
 use Rattle.boolean.specs.Functions.{at, Below, occurrences}
@@ -78,9 +78,12 @@ abbrev pub AfterRow : (a : ℕ) (pairs : List ℕ) (found r : Candidate) → Typ
 AfterRow a pairs found r =
     ((r ≡ found) × ((β : ℕ) → 2 * occurrences pairs (length pairs) β ≤ found .figure)) ⊎ RowAbove a pairs found r
 
--- the best cell after the row of a, from the row's largest standing, whatever its pairs are
-abbrev pub AfterStanding : (a best : ℕ) (found r : Candidate) → Type 0
-AfterStanding a best found r = (pairs : List ℕ) → LargestSoFar pairs (length pairs) best → AfterRow a pairs found r
+-- the best cell after the row of a, from the row's largest standing alone: the cell that this has, where it counts more than the best
+-- before, and else that one. A pair stands for two inputs.
+unfoldable pub afterStanding : (a best : ℕ) (found : Candidate) → Candidate
+afterStanding a best found =
+    elim (ltb (found .figure) (2 * (best / 2 ^ 32)))
+    [ true ↦ record { figure = 2 * (best / 2 ^ 32); witness = a ∷ (2 ^ 32 - 1 - best % 2 ^ 32) ∷ [] } | false ↦ found ]
 
 -- how many values have the largest count, once the count of one has risen: r is 1 where it is above the largest before, one more where it
 -- is as large, and as before where it is smaller

@@ -14,7 +14,7 @@ ghost use Rattle.boolean.specs.Sums.{AnyContent};
 ghost use Rattle.boolean.specs.Functions.{occurrences};
 ghost use Rattle.differential.specs.XorTable as spec;
 ghost use Rattle.differential.specs.Calls.{rowChecks, saidLargestCell, largestCellReply, RowCalled, ListCalled};
-ghost use Rattle.differential.specs.Work.{cellFound, CellsSwept, XorInside, differencesOf, FreeFrom, Buckets, AfterStanding};
+ghost use Rattle.differential.specs.Work.{cellFound, CellsSwept, XorInside, differencesOf, FreeFrom, Buckets, afterStanding};
 ghost use Rattle.differential.specs.Running.{HighestBit, Paired, LargestSoFar, numberIn, InRow, risenAt, higherOf, runningAfter};
 
 // Numbers of a count's standing: see `risen`. The standing of the difference 0 with a count of 0 is 2^32 − 1.
@@ -159,8 +159,8 @@ fn larger(x: u64, y: u64) -> u64
 // rows, and the first difference of a row that falls into a bucket takes it.
 //
 // The number of the difference at y after its count has risen: by one in its bucket, or, where another difference has the bucket, from
-// those before it that are the same. That a bucket is free shows in the larger of two numbers, and not in a branch: free or taken, in no
-// pattern, is what a processor guesses wrong.
+// those before it that are the same. That a bucket is free shows in the larger of two numbers, and not in a branch: free and taken buckets
+// follow no pattern, and a processor would often mispredict it.
 fn risen(a: u32, differences: &[u32], y: usize, buckets: &mut [u64]) -> u64
     requires { ⌜ (a < 256) × (y < length (now differences)) × (length (now differences) ≤ 128)
         × Buckets a (now differences) y (now buckets) ⌝ }
@@ -218,11 +218,11 @@ fn largest_risen(a: u32, differences: &[u32], buckets: &mut [u64]) -> u64
     running - row
 }
 
-// The best cell so far, or the largest of the row of a where that counts more: of the row's pairs, whatever they are, the largest
-// standing is given. A pair stands for two inputs.
+// The best cell so far, or the largest of the row of a where that counts more, from the row's largest standing. A pair stands for two
+// inputs.
 fn after_row(a: u32, best: u64, found: FoundCell) -> FoundCell
     requires { ⌜ best / 2 ^ 32 ≤ 128 ⌝ }
-    ensures { λ r. ⌜ AfterStanding a best (cellFound found) (cellFound r) ⌝ }
+    ensures { λ r. ⌜ cellFound r ≡ afterStanding a best (cellFound found) ⌝ }
 {
     let count = 2 * ((best / TWO_TO_32) as u32);
     if count <= found.count {
@@ -276,8 +276,9 @@ fn find_largest(n: u32, m: u32, rows: &[u32], pairs: &mut [u32]) -> FoundCell
     }
 }
 
-// The largest cell of a box, in ascending a, then beta. An array is made before the checks, so that room on the stack is: made after
-// them, room for the buckets would cost the number of rows, by a fault of the compiler that no proof covers (decision 119).
+// The largest cell of a box, the first of these by ascending a, then beta. An array is made before the checks, so that the compiler lays
+// out the function's stack frame at its start. Laid out after them, the frame with the buckets is so long that the code which touches its
+// pages overwrites the register that holds the number of rows: a fault of the compiler, which no proof covers (decision 119).
 pub fn largest_cell(n: u32, m: u32, rows: &[u32]) -> LargestCell
     ensures { λ r. ⌜ saidLargestCell r ≡ largestCellReply n m (now (rows .entry)) ⌝ }
 {

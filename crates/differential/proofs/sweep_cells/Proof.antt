@@ -9,7 +9,7 @@ use lib.Dec.{lit≤}
 use lib.ListN.{length}
 use Rattle.differential.specs.Work.{cellFound, FreeFrom}
 use Rattle.differential.proofs.Sweeps.{box-inside, pairs-few, Sweeping, sweep-starts, sweep-next, sweep-ends, sweep-last}
-use Rattle.differential.proofs.Rises.{largest-few}
+use Rattle.differential.proofs.Rises.{largest-few, row-after}
 use Rattle.differential.proofs.Buckets.{buckets-free}
 use Rattle.differential.proofs.sweep_cells.Statement.{statement}
 use Rattle.differential.proofs.sweep_cells.Tie as tie
@@ -61,7 +61,7 @@ loop-again c =
     let at-loop = in-loop .before in
     let sweep = at-loop .loop .inv .0 in (
       sweep-next sweep (omega (arith, in-loop .loop-test .taken, at-loop .before .power-of-two .ensures .0)) (written .write-pairs .ensures)
-          (c .after-row .ensures _ (row .largest-risen .ensures .0)),
+          (rw (c .after-row .ensures) (row-after (row .largest-risen .ensures .0) _ _)),
       buckets-free (row .largest-risen .ensures .2) (pairs-few (sweep .box) (written .write-pairs .ensures)),
     )
 

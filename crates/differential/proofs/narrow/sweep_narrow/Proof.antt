@@ -10,7 +10,7 @@ use lib.ListN.{length}
 use lib.Pow.{pow-pos, pow-mono}
 use Rattle.differential.specs.Work.{cellFound}
 use Rattle.differential.proofs.Sweeps.{box-inside, pairs-few, Sweeping, sweep-starts, sweep-next, sweep-ends, sweep-last}
-use Rattle.differential.proofs.Rises.{largest-few}
+use Rattle.differential.proofs.Rises.{largest-few, row-after}
 use Rattle.differential.proofs.Pairs.{pair-small}
 use Rattle.differential.proofs.narrow.sweep_narrow.Statement.{statement}
 use Rattle.differential.proofs.narrow.sweep_narrow.Tie as tie
@@ -64,7 +64,7 @@ loop-again c =
     let at-loop = in-loop .before in
     let sweep = at-loop .loop .inv .0 in (
       sweep-next sweep (omega (arith, in-loop .loop-test .taken, at-loop .before .power-of-two .ensures .0)) (written .write-pairs .ensures)
-          (c .after-row .ensures _ (row .largest-alone .ensures .0)),
+          (rw (c .after-row .ensures) (row-after (row .largest-alone .ensures .0) _ _)),
       row .largest-alone .ensures .2 .long ∙ at-loop .loop .inv .1,
     )
 
