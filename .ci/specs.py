@@ -2,7 +2,7 @@
 """Holds the border of belief to be a border of files, and what must be read to be readable.
 
 What one must believe stands in `specs/`, in every file but `Work`, which has what functions ask of one another. So no other file of specs
-imports from a `Work`, and no contract of a call or an export in docs/CALLS.md names what its source imports from one. A definition of two
+imports from a `Work`, and no contract of a call or an export in docs/CALLS.md, or of what the sums of boxes call, names what its source imports from one. A definition of two
 arguments or more names them in its signature. No two definitions of all specs share a name, in whatever case its letters are. No line of
 src/ or specs/ has more than 140 characters.
 
@@ -103,7 +103,7 @@ def faults_of_calls(crate, text, listed):
 def main():
     if len(sys.argv) != 3:
         sys.exit("usage: specs.py CALLS CRATES")
-    listed = calls.contracts(pathlib.Path(sys.argv[1]).read_text(encoding="utf-8"))
+    listed = calls.believed(pathlib.Path(sys.argv[1]).read_text(encoding="utf-8"))
     found, read, homes = [], 0, {}
     for file in sorted(pathlib.Path(sys.argv[2]).glob("*/src/**/*.rt")) + sorted(pathlib.Path(sys.argv[2]).glob("*/specs/**/*.antt")):
         text, read = file.read_text(encoding="utf-8"), read + 1

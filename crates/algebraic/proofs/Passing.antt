@@ -6,7 +6,7 @@ use native.Mathlib.Decide.{decLt, ℕ-discrete}
 use native.Mathlib.Nat.{le-refl}
 use native.Mathlib.Omega.{arith}
 use lib.Count.{ones}
-use Rattle.masks.specs.Work.{Next}
+use Rattle.masks.specs.Masks.{Next}
 use Rattle.masks.proofs.Walk.{Walk, walk-next}
 use Rattle.algebraic.specs.Work.{degreeOfWords, FirstBelow}
 

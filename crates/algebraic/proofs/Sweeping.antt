@@ -19,7 +19,7 @@ use Rattle.boolean.proofs.Kept.{each-cong}
 use Rattle.boolean.proofs.Lists.{some-member, mem-each, in-each, ascending-each}
 use Rattle.boolean.proofs.OneBit.{ones-none, ones-power}
 use Rattle.masks.specs.Masks.{outputs}
-use Rattle.masks.specs.Work.{Next}
+use Rattle.masks.specs.Masks.{Next}
 use Rattle.masks.specs.Statements.{Blocks}
 use Rattle.masks.proofs.Fewest.{least-swept}
 use Rattle.masks.proofs.Walk.{Walk, walk-starts, walk-next, best-passes}

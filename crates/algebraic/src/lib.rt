@@ -17,7 +17,7 @@ ghost use Rattle.boolean.specs.Functions.{at, normalForm};
 ghost use Rattle.boolean.specs.Selection.{best, lower, firstLeast, ranked};
 ghost use Rattle.refusals.specs.Table.{saidVerdict, Box, Table};
 ghost use Rattle.masks.specs.Masks.{outputs};
-ghost use Rattle.masks.specs.Work.{Next};
+ghost use Rattle.masks.specs.Masks.{Next};
 ghost use Rattle.algebraic.specs.Algebraic.{boxDegree};
 ghost use Rattle.algebraic.specs.Calls.{FormCalled, saidDegreeFound, boxDegreeReply, bijectiveReply};
 ghost use Rattle.algebraic.specs.Work.{degreeAt, degreeCandidate, degreeOfWords, degreesOf, HalvesAdded, Echelon};

@@ -12,9 +12,12 @@ use lib.Seq.{getD-drop}
 use Rattle.boolean.specs.Functions.{valueAt, MaskWithin}
 use Rattle.boolean.proofs.Largest.{largest-reached}
 use Rattle.boolean.proofs.Lists.{upper-part}
-use Rattle.walsh.specs.Work.{largestMagnitude, FirstOfMagnitude}
+use Rattle.walsh.specs.Magnitudes.{largestMagnitude, FirstOfMagnitude}
 use Rattle.walsh.proofs.Magnitudes.{largest-bounds, place-inside, place-has}
 use Rattle.avalanche.specs.Work.{LargestWithin, FirstWithin}
+
+pub rest-magnitude : (values : List ℤ) → largestMagnitude (take (length values - 1) (drop 1 values)) ≡ largestMagnitude (drop 1 values)
+rest-magnitude values = ap (λ (l : List ℤ). largestMagnitude l) (upper-part 1 values)
 
 -- ---- the values from place 1 on, as they are handed over; none of at most 256 places has more than 8 ones
 module _ (values : List ℤ) (few : length values ≤ 256) where

@@ -1,14 +1,18 @@
 -- What the functions behind the calls on input changes ask and leave.
-use Prim.Native.Nat.{ℕ, _^_, _≤_, _<_}
+use Prim.Native.Nat.{ℕ, _/_, _^_, _≤_, _<_}
 use mathlib.Core.Path.{_≡_}
+use mathlib.Core.Bool.{Bool, not, _&&_}
 use mathlib.Core.List.{List, [], _∷_}
 use lib.Count.{ones}
+use lib.Dec.{ltb}
 use lib.IntN.{ℤ, pos, _*ℤ_, natAbs}
-use lib.ListN.{length}
+use lib.ListN.{length, drop}
 use Rattle.boolean.specs.Sums.{listBelow}
 use Rattle.boolean.specs.Functions.{at, valueAt, autocorrelation, component, MaskWithin}
 use Rattle.boolean.specs.Selection.{Candidate}
 use Rattle.refusals.specs.Table.{Box}
+use Rattle.walsh.specs.Magnitudes.{largestMagnitude}
+use Rattle.masks.specs.Work.{preferred}
 use Rattle.avalanche.specs.declared.FoundChange.{FoundChange}
 
 -- the best so far, as a candidate
@@ -36,6 +40,13 @@ pub record Compared (n m : ℕ) (rows : List ℕ) (j : ℕ) (found : FoundChange
 pub record LargestWithin (values : List ℤ) (j largest : ℕ) : Type 0 where
   pub bounds : (s : ℕ) → MaskWithin j (length values) s → natAbs (valueAt values s) ≤ largest
   pub reached : 0 < largest → (s : ℕ) × MaskWithin j (length values) s × (natAbs (valueAt values s) ≡ largest)
+
+-- whether the largest magnitude at all changes shows already that component c is no better than the best so far. It is looked at where half
+-- of the changes or more are listed.
+abbrev pub beatenAtOnce : (found : FoundChange) (rows : List ℕ) (listed c : ℕ) (values : List ℤ) → Bool
+beatenAtOnce found rows listed c values =
+    not (ltb listed (length values / 2))
+    && not (preferred (found .figure) (largestMagnitude (drop 1 values) / length rows) c (found .c))
 
 -- the first such change that has a magnitude
 pub record FirstWithin (values : List ℤ) (j size s : ℕ) : Type 0 where

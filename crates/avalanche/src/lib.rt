@@ -8,21 +8,22 @@ ghost use mathlib.Core.List.{[], _∷_};
 ghost use Prim.Native.Nat.{ℕ, _+_, _*_, _^_, _≤_, _<_};
 ghost use lib.Dec.{eqb};
 ghost use lib.IntN.{pos, _+ℤ_, natAbs};
-ghost use lib.ListN.{length, take};
+ghost use lib.ListN.{length, take, drop};
 ghost use Rattle.boolean.specs.Bits.{bit};
 ghost use Rattle.boolean.specs.Sums.{listFrom, listBelow, every, AnyContent};
 ghost use Rattle.boolean.specs.Functions.{valueAt, changes, column, square};
 ghost use Rattle.boolean.specs.Selection.{best, higher, firstLargest, ranked};
 ghost use Rattle.refusals.specs.Table.{first, saidVerdict, Box};
-ghost use Rattle.walsh.specs.Work.{Spectra};
+ghost use Rattle.walsh.specs.FixedTable.{Spectra};
+ghost use Rattle.walsh.specs.Magnitudes.{largestMagnitude};
 ghost use Rattle.masks.specs.Masks.{outputs};
 ghost use Rattle.masks.specs.Work.{stepTables, Stepping};
-ghost use Rattle.linear.specs.Work.{PairsSwept};
+ghost use Rattle.linear.specs.Lent.{PairsSwept};
 ghost use Rattle.avalanche.specs.Avalanche.{measured, correlated, changesOf};
 ghost use Rattle.avalanche.specs.Avalanche as spec;
 ghost use Rattle.avalanche.specs.Calls.{distanceChecks, saidLargestChange, autocorrelationReply, distanceReply, completeReply};
 ghost use Rattle.avalanche.specs.Work.{changeCandidate, truthTable, correlations, Compared, LargestWithin};
-ghost use Rattle.avalanche.specs.Work.{FirstWithin, Listed, ChangesInside, LargestListed, FirstListed};
+ghost use Rattle.avalanche.specs.Work.{FirstWithin, Listed, ChangesInside, LargestListed, FirstListed, beatenAtOnce};
 
 // The best so far.
 pub struct FoundChange {
@@ -123,11 +124,11 @@ fn list_change(j: u32, s: u32, count: usize, list: &mut [u32]) -> usize
 }
 
 // Lists the changes of at most j of the n inputs, once for all components, and gives their number. Where j is n or more the limit leaves
-// out none, and no list is made.
+// out none: no list is made, and the number is 0.
 fn list_changes(n: u32, j: u32, list: &mut [u32]) -> usize
     requires { ⌜ (n ≤ 8) × (length (now list) ≡ 2 ^ n) ⌝ }
     ensures { λ r. ⌜ (r ≤ 2 ^ n) × (j < n → Listed j (2 ^ n) (take r (now (list .exit))))
-        × AnyContent (now (list .entry)) (now (list .exit)) ⌝ }
+        × AnyContent (now (list .entry)) (now (list .exit)) × (n ≤ j → r ≡ 0) ⌝ }
 {
     if n <= j {
         return 0;
@@ -163,7 +164,7 @@ fn largest_listed(values: &[i32], list: &[u32]) -> u32
 // The largest magnitude at an s from 1. None of them has more than 8 ones, so that none is counted.
 fn largest_from_one(values: &[i32]) -> u32
     requires { ⌜ (1 ≤ length (now values)) × (length (now values) ≤ 256) ⌝ }
-    ensures { λ r. ⌜ LargestWithin (now (values .entry)) 8 r ⌝ }
+    ensures { λ r. ⌜ LargestWithin (now (values .entry)) 8 r × (r ≡ largestMagnitude (drop 1 (now (values .entry)))) ⌝ }
 {
     walsh::largest_magnitude(&values[1..])
 }
@@ -216,8 +217,8 @@ fn first_within(n: u32, values: &[i32], j: u32, list: &[u32], largest: u32) -> u
     }
 }
 
-// Whether the largest magnitude at all changes shows already that component c is no better than the best so far. That is found many at a
-// time, and a list is gone through one by one: it is asked where half of the changes or more are listed.
+// Whether the largest magnitude at all changes shows already that component c is no better than the best so far. It is found by vector
+// instructions, several values at a time, and a list is gone through one by one: it is asked where half of the changes or more are listed.
 fn is_beaten(
     found: FoundChange,
     n: u32,
@@ -230,7 +231,8 @@ fn is_beaten(
 ) -> bool
     requires { ⌜ Compared n m (now rows) j found c (now values) ⌝ }
     ensures { λ r. ⌜ (r ≡ true → changeCandidate found
-        ≡ best (ranked higher outputs) (changeCandidate found) (firstLargest (changesOf n j (correlated n (now (rows .entry))) c) ∷ [])) ⌝ }
+        ≡ best (ranked higher outputs) (changeCandidate found) (firstLargest (changesOf n j (correlated n (now (rows .entry))) c) ∷ []))
+        × (r ≡ beatenAtOnce found (now (rows .entry)) (length (now (list .entry))) c (now (values .entry))) ⌝ }
 {
     if list.len() < values.len() / 2 {
         return false;

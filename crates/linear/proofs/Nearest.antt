@@ -19,7 +19,7 @@ use Rattle.boolean.proofs.Dots.{bit-cases}
 use Rattle.boolean.proofs.Lists.{length-listBelow, getD-listBelow}
 use Rattle.boolean.proofs.Selection.{best-takes, best-keeps, first-is, firstLeast-chooses, ranked-first}
 use Rattle.boolean.proofs.Approximations.{walsh-twice, walsh-size, approximation-le, half-power}
-use Rattle.walsh.specs.Work.{FirstOfMagnitude}
+use Rattle.walsh.specs.Magnitudes.{FirstOfMagnitude}
 use Rattle.walsh.proofs.Magnitudes.{Largest, place-inside}
 use Rattle.masks.specs.Masks.{outputs}
 use Rattle.masks.specs.Work.{preferred}
@@ -27,7 +27,7 @@ use Rattle.masks.specs.Statements.{Blocks}
 use Rattle.masks.proofs.Fewest.{least-names, lower-test, least-swept}
 use Rattle.masks.proofs.Sweeps.{Sweeping, choosing-ends, table-size}
 use Rattle.linear.specs.Nonlinearity.{pair, pairsOf, pairs, nonlinearity}
-use Rattle.linear.specs.Work.{PairsSwept}
+use Rattle.linear.specs.Lent.{PairsSwept}
 use Rattle.linear.specs.Statements.{pairRank}
 use Rattle.linear.proofs.Pairs.{in-pairsOf, mem-pairsOf, pairsOf-some, ascending-pairsOf}
 

@@ -1,4 +1,4 @@
 pub mod Nonlinearity
 pub mod Calls
-pub mod Work
+pub mod Lent
 pub mod Statements

@@ -10,13 +10,13 @@ ghost use Rattle.boolean.specs.Sums.{listBelow, AnyContent};
 ghost use Rattle.boolean.specs.Functions.{component, spectrum};
 ghost use Rattle.boolean.specs.Selection.{best, lower, firstLeast, ranked};
 ghost use Rattle.refusals.specs.Table.{first, Box};
-ghost use Rattle.walsh.specs.Work.{Spectra};
+ghost use Rattle.walsh.specs.FixedTable.{Spectra};
 ghost use Rattle.masks.specs.Masks.{outputs};
 ghost use Rattle.masks.specs.Work.{stepTables, Stepping};
 ghost use Rattle.linear.specs.Nonlinearity.{pairsOf, nonlinearityReply};
 ghost use Rattle.linear.specs.Nonlinearity as spec;
 ghost use Rattle.linear.specs.Calls.{componentChecks, ComponentCalled, saidLeastPair, pairCandidate};
-ghost use Rattle.linear.specs.Work.{PairsSwept};
+ghost use Rattle.linear.specs.Lent.{PairsSwept};
 
 // The best pair so far. It stands in a server, which crosses to C by value: so its fields lie as C lays them.
 #[repr(C)]

@@ -11,7 +11,8 @@ use Rattle.boolean.specs.Selection.{best}
 use Rattle.boolean.specs.Statements.{masksBelow}
 use Rattle.boolean.proofs.Lists.{length-listBelow}
 use Rattle.refusals.specs.Table.{Box}
-use Rattle.masks.specs.Work.{Next, PowerAdded, Steps, Stepping}
+use Rattle.masks.specs.Masks.{Next, PowerAdded}
+use Rattle.masks.specs.Work.{Steps, Stepping}
 use Rattle.masks.proofs.Walk.{Walk, walk-starts, walk-next, raised-first, best-starts, best-next, best-ends}
 
 -- ---- the loop stands at the mask c, with the best candidate of the masks before it

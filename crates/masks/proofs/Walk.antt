@@ -16,7 +16,7 @@ use Rattle.boolean.proofs.Kept.{keep-append, keep-takes, mem-keep}
 use Rattle.boolean.proofs.Lists.{each-append, mem-each, mem-listFrom}
 use Rattle.boolean.proofs.OneBit.{ones-one, ones-power}
 use Rattle.boolean.proofs.Selection.{best-append, best-stays}
-use Rattle.masks.specs.Work.{Next, PowerAdded}
+use Rattle.masks.specs.Masks.{Next, PowerAdded}
 
 -- ---- the masks within the limit that are below c, in ascending order
 pub masks-none : (i : ℕ) → masksBelow i 1 ≡ []

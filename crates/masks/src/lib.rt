@@ -7,7 +7,8 @@ ghost use lib.ListN.{length};
 ghost use Rattle.boolean.specs.Bits.{dot};
 ghost use Rattle.boolean.specs.Sums.{listBelow};
 ghost use Rattle.boolean.specs.Functions.{at, component};
-ghost use Rattle.masks.specs.Work.{Next, PowerAdded, preferred, maskOfOnes, Steps, Stepping};
+ghost use Rattle.masks.specs.Masks.{Next, PowerAdded};
+ghost use Rattle.masks.specs.Work.{preferred, maskOfOnes, Steps, Stepping};
 
 // The next mask with at most `limit` ones: c + 1 where c has fewer, and else c with its lowest one added.
 pub fn next_mask(limit: u32, c: u64) -> u64

@@ -15,7 +15,7 @@ use Rattle.boolean.specs.Functions.{valueAt, components, MaskWithin}
 use Rattle.boolean.proofs.Lists.{each-append, each-from-one, each-from-zero}
 use Rattle.boolean.proofs.Stored.{Stored, stored-none, stored-more}
 use Rattle.refusals.specs.Table.{Box}
-use Rattle.linear.specs.Work.{PairsSwept}
+use Rattle.linear.specs.Lent.{PairsSwept}
 use Rattle.nearest.specs.Work.{NextOfOnes, masksWithOnes, pairsAt, pairNumberAt, pairNumbers, NonlinearityKnown}
 use Rattle.nearest.proofs.Masks.{masks-none, masks-next, masks-all}
 

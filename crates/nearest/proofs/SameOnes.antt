@@ -10,7 +10,7 @@ use lib.Dec.{lit<}
 use lib.Pow.{pow-pos, pow-mono, shl-exact}
 use Rattle.boolean.proofs.Dots.{bit-cases}
 use Rattle.boolean.proofs.OneBit.{ones-one, ones-pos}
-use Rattle.masks.specs.Work.{Next}
+use Rattle.masks.specs.Masks.{Next}
 use Rattle.masks.proofs.Ones.{ones-none, ones-shifted}
 use Rattle.masks.proofs.Trailing.{Odd}
 use Rattle.masks.proofs.NextMask.{next-carried, lowest-one, lowest-place, lowest-shifted, power-low}

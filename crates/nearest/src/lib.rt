@@ -7,8 +7,8 @@ ghost use lib.ListN.{length, set};
 ghost use lib.Seq.{sets};
 ghost use Rattle.boolean.specs.Sums.{each, AnyContent};
 ghost use Rattle.boolean.specs.Functions.{components, MaskWithin};
-ghost use Rattle.walsh.specs.Work.{Spectra};
-ghost use Rattle.linear.specs.Work.{PairsSwept};
+ghost use Rattle.walsh.specs.FixedTable.{Spectra};
+ghost use Rattle.linear.specs.Lent.{PairsSwept};
 ghost use Rattle.nearest.specs.Calls.{PairsCalled};
 ghost use Rattle.nearest.specs.Work.{NextOfOnes, masksWithOnes, pairsAt, pairNumberAt, pairNumbers, NonlinearityKnown};
 
@@ -19,7 +19,7 @@ pub enum PairList {
 }
 
 // The next mask with as many ones. Its lowest one is added, which carries through the run of ones that begins there and leaves a single
-// one above it; the ones that went lost stand then at the lowest places.
+// one above it; as many ones as are then missing are set at the lowest places.
 fn next_of_ones(c: u64) -> u64
     requires { ⌜ (1 ≤ c) × (c < 4294967296) ⌝ }
     ensures { λ r. ⌜ NextOfOnes c r ⌝ }

@@ -17,7 +17,8 @@ use Rattle.boolean.specs.Selection.{Candidate, best, higher, firstLargest, rank
 use Rattle.boolean.proofs.FirstLargest.{best-changed}
 use Rattle.boolean.proofs.Selection.{best-takes, best-keeps, largest, by-largest}
 use Rattle.masks.specs.Masks.{outputs}
-use Rattle.masks.specs.Work.{Next, preferred}
+use Rattle.masks.specs.Masks.{Next}
+use Rattle.masks.specs.Work.{preferred}
 use Rattle.masks.proofs.Fewest.{visit-within, swept, ranked-wins, higher-test}
 use Rattle.masks.proofs.Sweeps.{Choosing, choosing-next, choosing-ends}
 use Rattle.rounds.specs.Round.{Summand, inputsOf, sumNonlinearity}

@@ -24,7 +24,7 @@ use Rattle.rounds.specs.Work.{Highest, TopOf}
 use Rattle.rounds.specs.declared.Top.{Top}
 use Rattle.rounds.proofs.Peaks.{sizeOf, Peak}
 use Rattle.rounds.proofs.Spectra.{place-peak, peak-size}
-use Rattle.walsh.specs.Work.{FirstOfMagnitude}
+use Rattle.walsh.specs.Magnitudes.{FirstOfMagnitude}
 use Rattle.walsh.proofs.Magnitudes.{Largest, place-inside, place-has}
 
 -- the magnitude of a value

@@ -23,7 +23,7 @@ use Rattle.boolean.proofs.Selection.{best-step, firstLeast-chooses}
 use Rattle.boolean.proofs.Stored.{Stored, stored-more}
 use Rattle.refusals.specs.Table.{Box}
 use Rattle.linear.specs.Nonlinearity.{pair, pairsOf, nonlinearity}
-use Rattle.linear.specs.Work.{PairsSwept}
+use Rattle.linear.specs.Lent.{PairsSwept}
 use Rattle.linear.specs.Calls.{pairCandidate}
 use Rattle.linear.specs.declared.Found.{Found}
 use Rattle.linear.proofs.Nearest.{values-length}

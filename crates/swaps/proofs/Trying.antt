@@ -14,7 +14,7 @@ use Rattle.boolean.specs.Functions.{swapped}
 use Rattle.boolean.specs.Selection.{firstLeast}
 use Rattle.boolean.proofs.Components.{first-mask, whole-within}
 use Rattle.refusals.specs.Table.{Box}
-use Rattle.linear.specs.Work.{PairsSwept}
+use Rattle.linear.specs.Lent.{PairsSwept}
 use Rattle.linear.specs.Nonlinearity.{pairsOf}
 use Rattle.linear.proofs.Nearest.{least-le}
 use Rattle.linear.proofs.Theorems.{component-least, component-reached}

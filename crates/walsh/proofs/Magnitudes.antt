@@ -9,7 +9,7 @@ use lib.IntN.{ℤ, pos, natAbs}
 use lib.ListN.{length, List·getD-eq-default}
 use Rattle.boolean.specs.Functions.{valueAt}
 use Rattle.boolean.proofs.Largest.{le-largest, largest-reached}
-use Rattle.walsh.specs.Work.{largestMagnitude, FirstOfMagnitude}
+use Rattle.walsh.specs.Magnitudes.{largestMagnitude, FirstOfMagnitude}
 
 -- a magnitude that no value exceeds, and a place that has it
 pub record Largest (values : List ℤ) (largest : ℕ) : Type 0 where

@@ -11,7 +11,8 @@ use lib.Pow.{pow-mono}
 use Rattle.boolean.specs.Functions.{at, valueAt, approximation}
 use Rattle.boolean.proofs.Approximations.{approximation-cong}
 use Rattle.boolean.proofs.Filled.{Filled, filled-more}
-use Rattle.walsh.specs.Work.{functionNumbered, withFour, Spectra}
+use Rattle.walsh.specs.FixedTable.{functionNumbered, Spectra}
+use Rattle.walsh.specs.Work.{withFour}
 
 -- t has the values of the table from x on, up to the eighth
 pub record Numbered (table : List ℕ) (t x : ℕ) : Type 0 where

@@ -1,2 +1,4 @@
 pub mod Calls
+pub mod FixedTable
+pub mod Magnitudes
 pub mod Work

@@ -1,20 +1,11 @@
 -- What the functions behind the spectrum calls ask and leave. The sweeps of the crates above ask them too, and meet the same conditions.
-use Prim.Native.Nat.{ℕ, _+_, _-_, _*_, _/_, _%_, _^_, _≤_, _<_}
+use Prim.Native.Nat.{ℕ, _+_, _-_, _*_, _^_, _≤_, _<_}
 use mathlib.Core.Path.{_≡_}
 use mathlib.Core.List.{List}
 use lib.ListN.{length, set}
 use lib.IntN.{ℤ, _+ℤ_, _-ℤ_, natAbs}
-use Rattle.boolean.specs.Functions.{valueAt, approximation}
-use Rattle.boolean.specs.Sums.{largestBelow}
+use Rattle.boolean.specs.Functions.{valueAt}
 use Rattle.refusals.specs.Table.{Table}
-
--- the function of three inputs with the number t: its value at x is bit x of t, counted from 0
-unfoldable pub functionNumbered : (t x : ℕ) → ℕ
-functionNumbered t x = t / 2 ^ x % 2
-
--- the fixed table's rule: entry 8t + w is the spectrum value at w of the function with the number t
-pub record Spectra (fixed : List ℤ) : Type 0 where
-  pub rule : (k : ℕ) → k < 2048 → valueAt fixed k ≡ approximation 3 (functionNumbered (k / 8)) (k % 8)
 
 -- the array, with the four entries of the fixed table from one place on written to it from the other place on
 unfoldable pub withFour : (out : List ℤ) (to : ℕ) (fixed : List ℤ) (from : ℕ) → List ℤ
@@ -53,13 +44,3 @@ pub record Invertible (n : ℕ) (values work : List ℤ) (table : List ℕ) : Ty
   pub work-size : length work ≡ 2 ^ n
   pub room : length table ≡ 2 ^ n
   pub small : (k : ℕ) → natAbs (valueAt values k) ≤ 2 ^ (n - 1)
-
--- the largest magnitude of some values, and 0 of none
-abbrev pub largestMagnitude : List ℤ → ℕ
-largestMagnitude values = largestBelow (length values) (λ w. natAbs (valueAt values w))
-
--- the first place of a magnitude, and the number of values where none has it
-pub record FirstOfMagnitude (values : List ℤ) (size place : ℕ) : Type 0 where
-  pub within : place ≤ length values
-  pub has : place < length values → natAbs (valueAt values place) ≡ size
-  pub first : (w : ℕ) → w < place → natAbs (valueAt values w) ≡ size → ⊥

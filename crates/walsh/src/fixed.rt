@@ -1,5 +1,5 @@
 // The spectra of all functions of three inputs.
-ghost use Rattle.walsh.specs.Work.{Spectra};
+ghost use Rattle.walsh.specs.FixedTable.{Spectra};
 
 // Eight spectrum values for each of the 256 functions of three inputs.
 const FIXED: [i32; 2048] = [

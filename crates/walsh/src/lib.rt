@@ -17,8 +17,9 @@ ghost use Rattle.boolean.specs.Functions.{at, valueAt, signBit, inverse};
 ghost use Rattle.boolean.specs.Functions as functions;
 ghost use Rattle.refusals.specs.Table.{first, Wrote, saidWritten, Table};
 ghost use Rattle.walsh.specs.Calls.{inverseLengths, functionCheck, SpectrumCalled, InverseCalled};
-ghost use Rattle.walsh.specs.Work.{functionNumbered, withFour, Spectra, Ready, Halves, Crossed, Summable, Invertible};
-ghost use Rattle.walsh.specs.Work.{largestMagnitude, FirstOfMagnitude};
+ghost use Rattle.walsh.specs.FixedTable.{functionNumbered, Spectra};
+ghost use Rattle.walsh.specs.Work.{withFour, Ready, Halves, Crossed, Summable, Invertible};
+ghost use Rattle.walsh.specs.Magnitudes.{largestMagnitude, FirstOfMagnitude};
 
 // The number of a truth table of three inputs: its entry at x is bit x.
 fn number(table: &[u8]) -> usize
@@ -118,7 +119,7 @@ pub fn descend(fixed: &[i32; 2048], n: u32, table: &[u8], out: &mut [i32])
     } else if n == 3 {
         by_table(fixed, table, out);
     } else if n == 4 {
-        let h = table.len() / 2; // 8
+        let h = table.len() / 2; // 8 of 16 entries
         descend(fixed, 3, &table[..h], &mut out[..h]);
         descend(fixed, 3, &table[h..], &mut out[h..]);
         butterfly(out, h);

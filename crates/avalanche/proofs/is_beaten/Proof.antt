@@ -4,6 +4,7 @@ use mathlib.Core.Bool.{Bool, true, false, not, false≢true}
 use Prim.Native.Nat.{ℕ, _/_, _≤_}
 use native.Mathlib.Omega.{arith}
 use borrow.Author.Needs.{needs}
+use borrow.Author.Tests.{lt-ltb, le-ltb}
 use lib.Count.{ones-le}
 use lib.ListN.{length}
 use lib.Pow.{pow-pos}
@@ -23,7 +24,7 @@ unless true z = absurd (false≢true z)
 unless false z = refl
 
 returns : tie.Need-returns
-returns c z = absurd (false≢true z)
+returns c = ((λ z. absurd (false≢true z)), simp (lt-ltb _ _ (c .if1 .taken)))
 
 largest-from-one-requires : tie.Need-largest-from-one-requires
 largest-from-one-requires c κs =
@@ -35,14 +36,16 @@ div-bound : tie.Need-div-bound
 div-bound c = let s = c .before .before .before .before in omega (arith, s .pre .box .size, pow-pos (s .args .n))
 
 returns-2 : tie.Need-returns-2
-returns-2 c z =
+returns-2 c =
     let called = c .before in
     let s = called .before .before .before .before in
-    let a = s .args in
-    beaten (a .n) (a .rows .now) (a .c) (a .j) (s .pre .values-are)
-    (λ t w. called .largest-from-one .ensures .bounds t (record { low = w .low; high = w .high; few = ones-le 8 t (omega (arith, w .high, short s)) }))
-    (s .pre .box .n-low) (s .pre .j-low) (ap (λ (k : ℕ). called .largest-from-one .result / k) (s .pre .box .size)) (changeCandidate (a .found))
-    (sym (c .is-preferred .ensures) ∙ unless (c .is-preferred .result) z)
+    let a = s .args in (
+      (λ z. beaten (a .n) (a .rows .now) (a .c) (a .j) (s .pre .values-are)
+          (λ t w. called .largest-from-one .ensures .0 .bounds t (record { low = w .low; high = w .high; few = ones-le 8 t (omega (arith, w .high, short s)) }))
+          (s .pre .box .n-low) (s .pre .j-low) (ap (λ (k : ℕ). called .largest-from-one .result / k) (s .pre .box .size)) (changeCandidate (a .found))
+          (sym (c .is-preferred .ensures) ∙ unless (c .is-preferred .result) z)),
+      simp (le-ltb _ _ (called .before .if1 .left), c .is-preferred .ensures, called .largest-from-one .ensures .1),
+    )
 
 pub is-beaten-spec : {M : Type 1} → statement M
 is-beaten-spec =

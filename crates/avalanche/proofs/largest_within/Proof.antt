@@ -33,7 +33,7 @@ returns c =
 returns-2 : tie.Need-returns-2
 returns-2 c =
     let s = c .before .before .before in
-    largest-anywhere (s .args .values .now) (s .pre .1) (s .pre .0) (c .before .if1 .left) (c .largest-from-one .ensures)
+    largest-anywhere (s .args .values .now) (s .pre .1) (s .pre .0) (c .before .if1 .left) (c .largest-from-one .ensures .0)
 
 pub largest-within-spec : {M : Type 1} → statement M
 largest-within-spec =

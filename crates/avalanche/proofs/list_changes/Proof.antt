@@ -21,7 +21,7 @@ short : (s : tie.Start Inv-loop μ-loop) → length (s .args .list .now) ≤ 256
 short s = le-trans (le-of-eq (s .pre .1)) (pow-mono {i = s .args .n} {j = 8} (s .pre .0))
 
 returns : tie.Need-returns Inv-loop μ-loop
-returns c = (omega arith, λ l. absurd (omega (arith, c .if1 .taken)), refl)
+returns c = (omega arith, λ l. absurd (omega (arith, c .if1 .taken)), refl, λ l. refl)
 
 cast-end : tie.Need-cast-end Inv-loop μ-loop
 cast-end c = omega (arith, short (c .before .before))
@@ -63,7 +63,7 @@ returns-2 c =
     let loop = c .before .loop in
     let start = c .before .before .before .before in
     let all : loop .s ≡ 2 ^ start .args .n = omega (arith, start .pre .1, loop .inv .1) in
-    (omega (arith, loop .inv .2), λ l. subst (λ (k : ℕ). Listed (start .args .j) k (take (loop .count) (loop .list))) all (loop .inv .4), loop .inv .3)
+    (omega (arith, loop .inv .2), λ l. subst (λ (k : ℕ). Listed (start .args .j) k (take (loop .count) (loop .list))) all (loop .inv .4), loop .inv .3, λ l. absurd (omega (arith, c .before .before .if1 .left)))
 
 pub list-changes-spec : {M : Type 1} → statement M
 list-changes-spec =

@@ -21,7 +21,7 @@ is-beaten-requires : tie.Need-is-beaten-requires
 is-beaten-requires c κs = c .before .before .pre .0
 
 returns : tie.Need-returns
-returns c = c .before .is-beaten .ensures (c .if1 .taken)
+returns c = c .before .is-beaten .ensures .0 (c .if1 .taken)
 
 largest-within-requires : tie.Need-largest-within-requires
 largest-within-requires c κs =

@@ -6,7 +6,7 @@ use Rattle.boolean.specs.Bits.{dot, parity}
 use Rattle.boolean.specs.Sums.{countBelow, one-if, listFrom, listBelow}
 use Rattle.boolean.specs.Functions.{approximation}
 use Rattle.boolean.proofs.Lists.{getD-listBelow}
-use Rattle.walsh.specs.Work.{functionNumbered}
+use Rattle.walsh.specs.FixedTable.{functionNumbered}
 use Rattle.walsh.proofs.fixed.spectra.Statement.{statement}
 use Rattle.walsh.proofs.fixed.spectra.Tie as tie
 
