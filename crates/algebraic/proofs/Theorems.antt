@@ -1,5 +1,5 @@
 -- The normal form twice is the table again; the degree, as the call replies it, is the least of the combinations' within the limit, and their first has
--- it, in whichever order they are visited; a wider limit covers more; where it is at most 1 the nonlinearity is 0; and bijective boxes, by their rows.
+-- it; a wider limit covers more; where it is at most 1 the nonlinearity is 0; and bijective boxes, by their rows.
 use mathlib.Core.Path.{_≡_, sym, ap, _∙_, subst}
 use mathlib.Core.Logic.{_↔_, Iff·trans}
 use mathlib.Core.Bool.{true}
@@ -11,16 +11,15 @@ use native.Mathlib.Omega.{arith}
 use borrow.Author.Tests.{eqb-true}
 use lib.Dec.{eqb}
 use lib.ListN.{length, List·getD-eq-default}
-use Rattle.boolean.specs.Sums.{each, distinct}
-use Rattle.boolean.specs.Functions.{at, MaskWithin, component, components, MaskBefore, degree, distance, normalForm}
-use Rattle.boolean.specs.Selection.{Candidate, shown, lower, firstBest, SameMembers, ranked}
+use Rattle.boolean.specs.Sums.{distinct}
+use Rattle.boolean.specs.Functions.{at, MaskWithin, component, MaskBefore, degree, distance, normalForm}
+use Rattle.boolean.specs.Selection.{Candidate, shown}
 use Rattle.boolean.proofs.AffineForms.{constant-degree, degree-constant, degree-affine, affine-degree, distance-none, distance-same}
 use Rattle.boolean.proofs.Components.{rank-of-before, within-more}
 use Rattle.boolean.proofs.Degrees.{length-normal-form, at-normal-form, normal-form-twice, degree-le}
 use Rattle.boolean.proofs.Digits.{component-lt}
 use Rattle.boolean.proofs.Distinct.{distinct-at, distinct-of}
 use Rattle.boolean.proofs.Every.{both}
-use Rattle.boolean.proofs.Lists.{each-same}
 use Rattle.boolean.proofs.NormalForm.{coefficient-boolean}
 use Rattle.boolean.proofs.Selection.{firstLeast-chooses, first-ranked}
 use Rattle.refusals.specs.Table.{tableChecks, tableCallChecks, boxChecks, limitChecks, first, figures, asFigure, Table}
@@ -81,20 +80,6 @@ module _ (n m : ℕ) (rows : List ℕ) (i : ℕ) where
   no-lower : (c : ℕ) → MaskWithin i (2 ^ m) c → boxDegree n m rows i .figure ≤ degree n (component rows c)
   unfolding boxDegree degrees
   no-lower c w = firstLeast-chooses .all (degreesBy degreeOfMask m i) (withDegree n rows c) (in-degrees degreeOfMask m i c w)
-
-  -- "Combinations may be visited in any order without effect on any answer." Over any list with the members of `degrees`, in any order and some of
-  -- them more than once, the least degree, and of those that have it the one of the lowest rank, is the degree with its witness.
-  pub degree-any-order : (visited : List Candidate) → SameMembers visited (degrees n m rows i)
-      → firstBest (ranked lower (degreeRank m)) visited ≡ boxDegree n m rows i
-  unfolding boxDegree degrees
-  degree-any-order visited = firstLeast-chooses .visited (degreeRank m) (degreesBy degreeOfMask m i) visited (ascending-degrees degreeOfMask m i)
-
-  -- so where the components are visited in any order, each with its degree
-  pub degree-any-component-order : (order : List ℕ) → SameMembers order (components m i)
-      → firstBest (ranked lower (degreeRank m)) (each order (λ c. withDegree n rows c ∷ [])) ≡ boxDegree n m rows i
-  unfolding degrees
-  degree-any-component-order order same =
-      degree-any-order (each order (λ c. withDegree n rows c ∷ [])) (each-same order (components m i) (λ c. withDegree n rows c ∷ []) same)
 
   -- ---- of an accepted box and limit
   module _ (accepted : first (limitChecks n m rows i) ≡ Accepted) where

@@ -1,14 +1,14 @@
 -- The list of changes: which it has, that they stand in the order of c, fewest ones first, then s, and that (1, 1) is the first.
 use mathlib.Core.Path.{_≡_, refl, ap, _∙_}
 use mathlib.Core.List.{List, [], _∷_, _++_, List·Memᴰ, List·Memᴰ·head, List·Memᴰ·not-nil, List·Memᴰ·eq-of-singleton}
-use Prim.Native.Nat.{ℕ, suc, _+_, _*_, _-_, _^_, _<_, _≤_}
+use Prim.Native.Nat.{ℕ, suc, _+_, _*_, _^_, _<_, _≤_}
 use native.Mathlib.Nat.{suc-mul}
 use native.Mathlib.Omega.{arith}
 use lib.Pow.{pow-pos}
 use Rattle.boolean.specs.Sums.{each}
 use Rattle.boolean.specs.Functions.{MaskWithin, components, maskRank}
-use Rattle.boolean.specs.Selection.{Candidate, Ascending, SameMembers}
-use Rattle.boolean.proofs.Lists.{some-member, mem-each, in-each, each-same, ascending-each, ascending-blocks}
+use Rattle.boolean.specs.Selection.{Candidate, Ascending}
+use Rattle.boolean.proofs.Lists.{some-member, mem-each, in-each, ascending-each, ascending-blocks}
 use Rattle.boolean.proofs.Kept.{each-cong-on}
 use Rattle.boolean.proofs.Components.{mem-masksBelow, in-masksBelow, ascending-masksBelow, first-masksBelow, mem-components, in-components, ascending-components, first-component, first-mask}
 use Rattle.avalanche.specs.Avalanche.{shifts, atMost, measured, change, changesOf}
@@ -99,11 +99,6 @@ module _ (n m i j : ℕ) (figure : ℕ → ℕ → ℕ) where
         ps .0 ++ each (cs .0) (changesOf n j figure),
         ap (λ (l : List ℕ). each l (changesOf n j figure)) (cs .1) ∙ ap (λ (l : List Candidate). l ++ each (cs .0) (changesOf n j figure)) (ps .1),
       )
-
-  -- the components in any order
-  pub measured-same : (order : List ℕ) → SameMembers order (components m i) → SameMembers (each order (changesOf n j figure)) (measured n m i j figure)
-  unfolding measured changesOf
-  measured-same order same = each-same order (components m i) (changesOf n j figure) same
 
   -- figures that are equal within the limits make equal lists
   pub measured-cong : (other : ℕ → ℕ → ℕ) → ((c s : ℕ) → MaskWithin i (2 ^ m) c → MaskWithin j (2 ^ n) s → figure c s ≡ other c s) → measured n m i j figure ≡ measured n m i j other

@@ -1,5 +1,5 @@
--- The autocorrelation and the dynamic distance as the calls reply them: the largest figure, the first change that has it, and (1, 1) where it is 0, in
--- whichever order they are visited; a wider limit covers more. The strict avalanche criterion as document 000 defines it, bit independence, and
+-- The autocorrelation and the dynamic distance as the calls reply them: the largest figure, the first change that has it, and (1, 1) where it is 0;
+-- a wider limit covers more. The strict avalanche criterion as document 000 defines it, bit independence, and
 -- completeness.
 use mathlib.Core.Path.{_≡_, sym, _∙_}
 use mathlib.Core.Logic.{_↔_, Iff·trans}
@@ -8,19 +8,16 @@ use Prim.Native.Nat.{ℕ, _-_, _^_, _<_, _≤_}
 use native.Mathlib.Omega.{arith}
 use lib.Bits.{bitXor}
 use lib.IntN.{natAbs}
-use Rattle.boolean.specs.Sums.{each}
-use Rattle.boolean.specs.Functions.{MaskWithin, autocorrelation, component, components, column}
-use Rattle.boolean.specs.Selection.{Candidate, shown, higher, firstBest, SameMembers, ranked}
+use Rattle.boolean.specs.Functions.{MaskWithin, autocorrelation, component, column}
+use Rattle.boolean.specs.Selection.{shown}
 use Rattle.boolean.proofs.Components.{whole-within, within-more}
-use Rattle.boolean.proofs.Selection.{firstLargest-chooses}
 use Rattle.refusals.specs.Table.{Box, first, figures, boxChecks, limitChecks, asFigure}
 use Rattle.refusals.specs.declared.Checked.the-variants.{Accepted}
 use Rattle.refusals.proofs.Checks.{limited, reply-accepted}
 use Rattle.refusals.proofs.Replies.{figures-accepted, head-same, same-figure, figure-true}
-use Rattle.avalanche.specs.Avalanche.{changesOf, measured, correlated, boxAutocorrelation, dynamicDistance, complete}
+use Rattle.avalanche.specs.Avalanche.{correlated, boxAutocorrelation, dynamicDistance, complete}
 use Rattle.avalanche.specs.Calls.{distanceChecks, autocorrelationReply, distanceReply, completeReply}
-use Rattle.avalanche.specs.Statements.{AutocorrelationReported, DistanceReported, ChangesAtHalf, changeRank, distanceOf}
-use Rattle.avalanche.proofs.Changes.{ascending-measured, measured-same}
+use Rattle.avalanche.specs.Statements.{AutocorrelationReported, DistanceReported, ChangesAtHalf, distanceOf}
 use Rattle.avalanche.proofs.Criteria.{avalanche-exactly, independence-exactly, complete-iff}
 use Rattle.avalanche.proofs.Distance.{distance-box, outputs-low, inputs-low}
 use Rattle.avalanche.proofs.Reports.{largest-reported}
@@ -48,32 +45,6 @@ pub autocorrelation-most : (n m : ℕ) (rows : List ℕ) (i d : ℕ) (v : List �
 autocorrelation-most n m rows i d v e c s w low high =
     let r = autocorrelation-reported n m rows i (figures-accepted (first (limitChecks n m rows i)) (shown (boxAutocorrelation n m rows i)) e .0) in
     omega (arith, r .largest c s (record { mask = w; shift = whole-within n s low high }), same-figure (r .reply) e)
-
--- ---- "Combinations may be visited in any order without effect on any answer." Over any list with the members of `measured`, in any order and some
--- of them more than once, the largest figure, and of its changes the one of the lowest rank, is the box's figure with its witness.
-module _ (n m : ℕ) (rows : List ℕ) (i : ℕ) where
-  pub autocorrelation-any-order : (visited : List Candidate) → SameMembers visited (measured n m i n (correlated n rows))
-      → firstBest (ranked higher (changeRank n m)) visited ≡ boxAutocorrelation n m rows i
-  unfolding boxAutocorrelation
-  autocorrelation-any-order visited =
-      firstLargest-chooses .visited (changeRank n m) (measured n m i n (correlated n rows)) visited (ascending-measured n m i n (correlated n rows))
-
-  pub distance-any-order : (j : ℕ) (visited : List Candidate) → SameMembers visited (measured n m i j (distanceOf n rows))
-      → firstBest (ranked higher (changeRank n m)) visited ≡ dynamicDistance n m rows i j
-  unfolding dynamicDistance
-  distance-any-order j visited =
-      firstLargest-chooses .visited (changeRank n m) (measured n m i j (distanceOf n rows)) visited (ascending-measured n m i j (distanceOf n rows))
-
-  -- so where the components within the limit are visited in any order, each with its changes
-  pub autocorrelation-any-component-order : (order : List ℕ) → SameMembers order (components m i)
-      → firstBest (ranked higher (changeRank n m)) (each order (changesOf n n (correlated n rows))) ≡ boxAutocorrelation n m rows i
-  autocorrelation-any-component-order order same =
-      autocorrelation-any-order (each order (changesOf n n (correlated n rows))) (measured-same n m i n (correlated n rows) order same)
-
-  pub distance-any-component-order : (j : ℕ) (order : List ℕ) → SameMembers order (components m i)
-      → firstBest (ranked higher (changeRank n m)) (each order (changesOf n j (distanceOf n rows))) ≡ dynamicDistance n m rows i j
-  distance-any-component-order j order same =
-      distance-any-order j (each order (changesOf n j (distanceOf n rows))) (measured-same n m i j (distanceOf n rows) order same)
 
 -- ---- "cover combinations of at most i outputs": a wider limit covers more, so that no figure is smaller
 module _ (n m : ℕ) (rows : List ℕ) (i j : ℕ) (wider : i ≤ j) (d e : ℕ) (v w : List ℕ) where

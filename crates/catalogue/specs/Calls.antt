@@ -6,8 +6,9 @@ use mathlib.Core.List.{List, [], _∷_, _++_}
 use denote.Ref.{RefT}
 use lib.Dec.{ltb, leb}
 use lib.ListN.{getD, length, take, drop}
-use Rattle.refusals.specs.Table.{Check, _unless_, first, Reply, figures, refusal, number, replyAfter, after}
+use Rattle.refusals.specs.Table.{Check, _unless_, first, Reply, figures, refusal, number, replyAfter, after, Wrote, saidWritten}
 use Rattle.refusals.specs.declared.Refusal.the-variants.{Catalogue, NoRoom, NoRecord}
+use Rattle.refusals.specs.declared.Written.{Written}
 use Rattle.boxfile.specs.File.{fileChecks, aloneChecks}
 use Rattle.catalogue.specs.declared.Gap.{Gap}
 use Rattle.catalogue.specs.declared.Gap.the-variants.{Starts, Nowhere}
@@ -70,6 +71,10 @@ without index rs = take index rs ++ drop (index + 1) rs
 abbrev pub removed : (b : List ℕ) (index : ℕ) → List ℕ
 removed b index = build (length b) (without index (records b))
 
+-- the outcome of a call of `catalogue::remove`
+abbrev pub RemoveCalled : (b : List ℕ) (index : ℕ) (answer : Written) (left : List ℕ) → Type 0
+RemoveCalled b index answer left = Wrote (indexChecks b index) [] (removed b index) b (saidWritten answer) left
+
 -- Adding. The lowest gap of `need` bytes, from a position on: the gap before the next record, or else one behind it; k is that record's
 -- index.
 unfoldable pub lowest : (need size k pos : ℕ) (rs : List Item) → Gap
@@ -110,6 +115,10 @@ addedAt Nowhere file rs = rs
 abbrev pub added : (b file : List ℕ) → List ℕ
 added b file = build (length b) (addedAt (gapFor b file) file (records b))
 
+-- the outcome of a call of `catalogue::add`: the new record's index, and the catalogue with it
+abbrev pub AddCalled : (b file : List ℕ) (answer : Told) (left : List ℕ) → Type 0
+AddCalled b file answer left = Wrote (addChecks b file) (gapIndex (gapFor b file) ∷ []) (added b file) b (saidTold answer) left
+
 -- Compacting: the records from a position on, without gaps.
 unfoldable pub withoutGaps : (pos : ℕ) (rs : List Item) → List Item
 withoutGaps pos [] = []
@@ -117,3 +126,7 @@ withoutGaps pos (r ∷ rs) = record { start = pos; bytes = r .bytes } ∷ withou
 
 abbrev pub compacted : List ℕ → List ℕ
 compacted b = build (length b) (withoutGaps recordsStart (records b))
+
+-- the outcome of a call of `catalogue::compact`
+abbrev pub CompactCalled : (b : List ℕ) (answer : Written) (left : List ℕ) → Type 0
+CompactCalled b answer left = Wrote (catalogueChecks b) [] (compacted b) b (saidWritten answer) left

@@ -3,16 +3,15 @@ use refusals::Checked;
 use refusals::Refusal;
 use refusals::Written;
 ghost use mathlib.Core.Path.{_≡_};
-ghost use mathlib.Core.List.{[], _∷_};
 ghost use mathlib.Core.Bool.{true};
 ghost use Prim.Native.Nat.{_+_, _*_, _<_, _≤_};
 ghost use lib.Seq.{sets};
 ghost use lib.ListN.{length, replicate};
-ghost use Rattle.refusals.specs.Table.{first, saidWritten, Wrote};
+ghost use Rattle.refusals.specs.Table.{first};
 ghost use Rattle.catalogue.specs.Format.{wordAt, word, recordsStart, part, count, places, stands, stand, valid, records};
 ghost use Rattle.catalogue.specs.Work.{placeFrom, slidDown, slidUp, closed, opened};
-ghost use Rattle.catalogue.specs.Calls.{saidTold, saidFetched, catalogueChecks, checkReply, indexChecks, Handed, fetchReply, removed};
-ghost use Rattle.catalogue.specs.Calls.{lowest, gapFor, gapIndex, offeredChecks, addChecks, added, compacted};
+ghost use Rattle.catalogue.specs.Calls.{saidTold, saidFetched, checkReply, indexChecks, Handed, fetchReply, RemoveCalled};
+ghost use Rattle.catalogue.specs.Calls.{lowest, offeredChecks, AddCalled, compacted, CompactCalled};
 
 // Where the first record may begin: behind the count and the directory of 64 places.
 const RECORDS_START: usize = 258;
@@ -245,11 +244,7 @@ fn open_place(b: &mut [u8], n: usize, k: usize, offset: usize, size: usize)
 
 // Removes a record: its bytes are cleared and its place is taken out of the directory.
 pub fn remove(catalogue: &mut [u8], index: u32) -> Written
-    ensures { λ r. ⌜ Wrote
-        (indexChecks (now (catalogue .entry)) index)
-        []
-        (removed (now (catalogue .entry)) index)
-        (now (catalogue .entry)) (saidWritten r) (now (catalogue .exit)) ⌝ }
+    ensures { λ r. ⌜ RemoveCalled (now (catalogue .entry)) index r (now (catalogue .exit)) ⌝ }
 {
     if let Checked::Refused(e) = check_index(catalogue, index) {
         return Written::Declined(e);
@@ -297,11 +292,7 @@ pub fn check_offered(buffer: &[u8], file: &[u8]) -> Checked
 
 // Adds a box file at the start of the lowest gap that is long enough: its index is the answer.
 pub fn add(catalogue: &mut [u8], file: &[u8]) -> Told
-    ensures { λ r. ⌜ Wrote
-        (addChecks (now (catalogue .entry)) (now (file .entry)))
-        (gapIndex (gapFor (now (catalogue .entry)) (now (file .entry))) ∷ [])
-        (added (now (catalogue .entry)) (now (file .entry)))
-        (now (catalogue .entry)) (saidTold r) (now (catalogue .exit)) ⌝ }
+    ensures { λ r. ⌜ AddCalled (now (catalogue .entry)) (now (file .entry)) r (now (catalogue .exit)) ⌝ }
 {
     if let Checked::Refused(e) = check_offered(catalogue, file) {
         return Told::Declined(e);
@@ -339,11 +330,7 @@ fn pack(b: &mut [u8], n: usize)
 
 // Compacts a catalogue: the records start at 258 without gaps, their order and bytes the same.
 pub fn compact(catalogue: &mut [u8]) -> Written
-    ensures { λ r. ⌜ Wrote
-        (catalogueChecks (now (catalogue .entry)))
-        []
-        (compacted (now (catalogue .entry)))
-        (now (catalogue .entry)) (saidWritten r) (now (catalogue .exit)) ⌝ }
+    ensures { λ r. ⌜ CompactCalled (now (catalogue .entry)) r (now (catalogue .exit)) ⌝ }
 {
     if !is_valid(catalogue) {
         return Written::Declined(Refusal::Catalogue);

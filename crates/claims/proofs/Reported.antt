@@ -2,13 +2,14 @@
 use mathlib.Core.Path.{_≡_, refl, sym, ap, ap₂, _∙_, subst}
 use mathlib.Core.Logic.{_↔_}
 use mathlib.Core.List.{List, [], _∷_}
-use Prim.Native.Nat.{ℕ, _*_, _^_, _≤_}
+use Prim.Native.Nat.{ℕ, _*_, _^_, _≤_, _<_}
 use native.Mathlib.Nat.{le-trans, le-of-eq, le-antisymm}
 use native.Mathlib.Omega.{arith}
 use lib.Bits.{bitXor, xor-lt}
 use Rattle.boolean.specs.Bits.{bit}
-use Rattle.boolean.specs.Functions.{at, component, distance}
+use Rattle.boolean.specs.Functions.{Bent, at, component, distance}
 use Rattle.boolean.specs.Selection.{Candidate, shown}
+use Rattle.boolean.proofs.Components.{whole-within}
 use Rattle.boolean.proofs.Digits.{bit-lt, affine-times, component-lt}
 use Rattle.boolean.proofs.Distances.{distance-cong, distance-shift}
 use Rattle.boolean.proofs.Xor.{xor-cancel}
@@ -122,3 +123,10 @@ first-pair n m rows i d c w b e =
     subst (λ (l : List ℕ). FirstPair n m rows i (at l 0) (at l 1) (at l 2) (at l 3))
     (same-figures (r .reply) e)
     (record { member = r .member; exactly = r .reached; first = λ c′ w′ b′ p l same. omega (arith, r .before c′ w′ b′ p l, same) })
+
+-- with the limit m the combinations are all those from 1 to 2^m − 1
+pub covering-over-all : (n m : ℕ) (rows : List ℕ) (d : ℕ) (witness : List ℕ) → nonlinearityReply n m rows m ≡ figures (d ∷ witness)
+    → (2 * d ≤ 2 ^ n) × (2 ^ n ≤ gapSquared n d) × (gapSquared n d ≡ 2 ^ n ↔ ((c : ℕ) → 1 ≤ c → c < 2 ^ m → Bent n (component rows c)))
+covering-over-all n m rows d witness e =
+    let t = covering n m rows m d witness e in
+    (t .0, t .1, (λ g c lo hi. t .2 .0 g c (whole-within m c lo hi), λ h. t .2 .1 (λ c w. h c (w .low) (w .high))))

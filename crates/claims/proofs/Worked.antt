@@ -12,8 +12,9 @@ use Rattle.claims.specs.Outcomes.{Right}
 use Rattle.claims.specs.Worked.{workedTable}
 use Rattle.claims.proofs.Computed as computed
 
--- [01.bounds.1] [01.cases.1] [02.§2.8] [02.§6.5] [02.§9.4] "Each bound from both sides", "Proved in a single theorem over a table":
--- the ten cases in the document's order and the bounds of all calls (specs/Worked); of each line, what is asked is what is printed
+-- [01.bounds.1] [01.cases.1] [01.traps.1] [01.traps.3] [01.traps.4] [02.§2.8] [02.§6.5] [02.§9.4] "Each bound from both sides",
+-- "Proved in a single theorem over a table": the ten cases in the document's order and the bounds of all calls (specs/Worked); of each line,
+-- what is asked is what is printed
 pub worked : Right workedTable
 worked = computed.table-right
 

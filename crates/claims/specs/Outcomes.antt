@@ -3,7 +3,7 @@ use Prim.Native.Nat.{ℕ, _^_}
 use mathlib.Core.Path.{_≡_}
 use mathlib.Core.List.{List, [], _∷_}
 use lib.IntN.{ℤ}
-use lib.ListN.{length, take}
+use lib.ListN.{length}
 use Rattle.boolean.specs.Sums.{listBelow}
 use Rattle.boolean.specs.Functions.{at, valueAt, spectrum, inverse, normalForm}
 use Rattle.refusals.specs.Table.{Reply, first, replyAfter, after, tableCallChecks}
@@ -108,7 +108,7 @@ additionOf n m rows j w b old = holds (after (first (additionChecks n m rows j w
 
 -- ---- the later calls: a sum of the first `count` of four boxes, the raising swap, a catalogue, a design and a server
 abbrev pub sumOf : (count : ℕ) (handed : List Summand) (i : ℕ) → CallOutcome
-sumOf count handed i = says (sumReply count (take count handed) i)
+sumOf count handed i = says (sumReply count handed i)
 
 abbrev pub raisingOf : (n m : ℕ) (rows : List ℕ) → CallOutcome
 raisingOf n m rows = says (raisingReply n m rows)

@@ -1,5 +1,5 @@
--- A component's least count, beside the largest magnitude of its Walsh values. The nonlinearity d: the least distance, the first pair that has it, in
--- whichever order the pairs are visited; the covering bound, and where that is met; and all of it of what the call reports
+-- A component's least count, beside the largest magnitude of its Walsh values. The nonlinearity d: the least distance, the first pair that has it;
+-- the covering bound, and where that is met; and all of it of what the call reports
 -- (`nonlinearity-reported`).
 use mathlib.Core.Path.{_≡_, sym, ap, ap₂, _∙_}
 use mathlib.Core.Logic.{_↔_}
@@ -8,16 +8,14 @@ use Prim.Native.Nat.{ℕ, _+_, _*_, _-_, _^_, _<_, _≤_}
 use native.Mathlib.Nat.{le-trans, le-of-eq, zero-lt-suc, le-refl, mul-le-mul}
 use native.Mathlib.Omega.{arith}
 use lib.IntN.{natAbs}
-use Rattle.boolean.specs.Sums.{each}
-use Rattle.boolean.specs.Functions.{Bent, MaskWithin, at, component, components, distance, walsh, square}
-use Rattle.boolean.specs.Selection.{Candidate, shown, lower, firstBest, firstLeast, SameMembers, ranked}
+use Rattle.boolean.specs.Functions.{Bent, MaskWithin, at, component, distance, walsh, square}
+use Rattle.boolean.specs.Selection.{Candidate, shown, firstLeast}
 use Rattle.boolean.proofs.Components.{within-more}
 use Rattle.boolean.proofs.Digits.{component-lt}
 use Rattle.boolean.proofs.Dots.{bit-cases}
 use Rattle.boolean.proofs.Distances.{distance-walsh}
 use Rattle.boolean.proofs.Spectrum.{some-walsh-large}
 use Rattle.boolean.proofs.Bent.{bent-of-squares, bent-squares}
-use Rattle.boolean.proofs.Lists.{each-same}
 use Rattle.boolean.proofs.Selection.{firstLeast-chooses, first-ranked}
 use Rattle.refusals.specs.Table.{figures, limitChecks, first}
 use Rattle.refusals.specs.declared.Checked.the-variants.{Accepted}
@@ -63,20 +61,6 @@ module _ (n m : ℕ) (rows : List ℕ) (i : ℕ) where
   component-least c mask =
       let k = nearest-pair n rows c in
       omega (arith, nonlinearity-least c (k .0) (k .1) (record { mask = mask; w-high = k .2; b-high = k .3 }), ap (λ (p : Candidate). p .figure) (k .4))
-
-  -- "Combinations may be visited in any order without effect on any answer." Over any list with the members of `pairs`, in any order and some of
-  -- them more than once, the pair that differs at the fewest inputs, and of those the one of the lowest rank, is the nonlinearity with its witness.
-  pub nonlinearity-any-order : (visited : List Candidate) → SameMembers visited (pairs n m rows i)
-      → firstBest (ranked lower (pairRank n m)) visited ≡ nonlinearity n m rows i
-  unfolding nonlinearity
-  nonlinearity-any-order visited = firstLeast-chooses .visited (pairRank n m) (pairs n m rows i) visited (ascending-pairs n m rows i)
-
-  -- so where the components are visited in any order, each with its pairs
-  pub nonlinearity-any-component-order : (order : List ℕ) → SameMembers order (components m i)
-      → firstBest (ranked lower (pairRank n m)) (each order (pairsOf n rows)) ≡ nonlinearity n m rows i
-  unfolding pairs
-  nonlinearity-any-component-order order same =
-      nonlinearity-any-order (each order (pairsOf n rows)) (each-same order (components m i) (pairsOf n rows) same)
 
   module _ (m-low : 1 ≤ m) (i-low : 1 ≤ i) where
     -- a pair differs at exactly d

@@ -16,12 +16,12 @@ unfolding limitChecks nearestPairs
 pairsChecks n m rows i room = limitChecks n m rows i ++ ((ListTooShort unless leb (length (nearestPairs n m rows i)) room) ∷ [])
 
 -- what the answer says: the number of pairs, or the number of the refusal
-abbrev pub pairsReply : PairList → Reply
-pairsReply (Listed count) = figures (count ∷ [])
-pairsReply (Declined e) = refusal (number e)
+abbrev pub saidPairList : PairList → Reply
+saidPairList (Listed count) = figures (count ∷ [])
+saidPairList (Declined e) = refusal (number e)
 
 -- the outcome of a call of `nearest::nearest_pairs`: the number of pairs, and the list
 abbrev pub PairsCalled : (n m : ℕ) (rows : List ℕ) (i : ℕ) (lent : List ℕ) (answer : PairList) (left : List ℕ) → Type 0
 PairsCalled n m rows i lent answer left =
     Wrote (pairsChecks n m rows i (length lent)) (length (nearestPairs n m rows i) ∷ []) (listAfter (nearestPairs n m rows i) lent) lent
-    (pairsReply answer) left
+    (saidPairList answer) left

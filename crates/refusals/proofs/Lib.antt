@@ -1,6 +1,7 @@
 pub mod Bounds
 pub mod Checks
 pub mod Replies
+pub mod Numbers
 pub mod Outcomes
 pub mod Means
 pub mod Theorems

@@ -18,7 +18,7 @@ use Rattle.refusals.specs.declared.Checked.{Checked}
 use Rattle.refusals.specs.declared.Checked.the-variants.{Accepted, Refused}
 use Rattle.refusals.proofs.Bounds.{range-low, range-high, range-true}
 use Rattle.refusals.proofs.Replies.{no-figures}
-use Rattle.refusals.specs.Statements.{TableLine, _unless-that_, Given, NoneMet, Answers, Writes, Between, EachBelow, NoTwoEqual, boxLines}
+use Rattle.refusals.specs.Statements.{TableLine, _unless-that_, FirstMet, NoneMet, Answers, Writes, Between, EachBelow, NoTwoEqual, boxLines}
 use Rattle.refusals.specs.Statements.{tableLines}
 
 -- the checks are the lines, one by one; the tests of the later ones may use that the earlier ones hold
@@ -32,7 +32,7 @@ pub data Means : List Check → List TableLine → Type 1 where
 -- what the checks find
 abbrev Finds : Checked → List TableLine → Type 0
 Finds Accepted ls = NoneMet ls
-Finds (Refused e) ls = Given (number e) ls
+Finds (Refused e) ls = FirstMet (number e) ls
 
 finds-line : (ok : Bool) (e : Refusal) (P : Type 0) (cs : List Check) (ls : List TableLine) → (ok ≡ true) ↔ P → (P → Finds (first cs) ls)
     → Finds (first ((e unless ok) ∷ cs)) ((number e unless-that P) ∷ ls)
@@ -57,11 +57,11 @@ finds (line {e} {ok} {P} {cs} {ls} t more) = finds-line ok e P cs ls t (λ p. fi
 finds (void {e} {ok} {cs} {ls} t more) = finds-void ok e cs ls t (finds more)
 
 -- one line is the first that is met, or none is
-not-both : (ls : List TableLine) (k : ℕ) → NoneMet ls → Given k ls → ⊥
+not-both : (ls : List TableLine) (k : ℕ) → NoneMet ls → FirstMet k ls → ⊥
 not-both [] k n g = g
 not-both ((j unless-that P) ∷ ls) k n g = ⊎-elim (λ t. t .1 (n .0)) (λ t. not-both ls k (n .1) (t .1)) g
 
-one-number : (ls : List TableLine) (j k : ℕ) → Given j ls → Given k ls → j ≡ k
+one-number : (ls : List TableLine) (j k : ℕ) → FirstMet j ls → FirstMet k ls → j ≡ k
 one-number [] j k g h = absurd g
 one-number ((i unless-that P) ∷ ls) j k g h =
     ⊎-elim (λ a. ⊎-elim (λ b. a .0 ∙ sym (b .0)) (λ b. absurd (a .1 (b .0))) h)
@@ -79,7 +79,7 @@ answers-by Accepted given ls f = record {
 }
 answers-by (Refused r) given ls f = record {
   figures-exactly = (λ e. absurd (no-figures (sym e)), λ n. absurd (not-both ls (number r) n f));
-  refused-exactly = λ k. (λ e. subst (λ (j : ℕ). Given j ls) (ap the-number e) f, λ g. ap refusal (one-number ls (number r) k f g));
+  refused-exactly = λ k. (λ e. subst (λ (j : ℕ). FirstMet j ls) (ap the-number e) f, λ g. ap refusal (one-number ls (number r) k f g));
   one-of-them = inr (number r, refl);
 }
 

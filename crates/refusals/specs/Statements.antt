@@ -12,10 +12,10 @@ infix 5 _unless-that_
 pub data TableLine : Type 1 where
   _unless-that_ : ℕ → Type 0 → TableLine
 
--- number k is given: its condition is met, and that of no earlier line
-abbrev pub Given : (k : ℕ) (lines : List TableLine) → Type 0
-Given k [] = ⊥
-Given k ((j unless-that P) ∷ lines) = ((k ≡ j) × (¬ P)) ⊎ (P × Given k lines)
+-- number k is that of the first line that is met: its condition is met, and that of no earlier line
+abbrev pub FirstMet : (k : ℕ) (lines : List TableLine) → Type 0
+FirstMet k [] = ⊥
+FirstMet k ((j unless-that P) ∷ lines) = ((k ≡ j) × (¬ P)) ⊎ (P × FirstMet k lines)
 
 -- the condition of no line is met
 abbrev pub NoneMet : List TableLine → Type 0
@@ -26,7 +26,7 @@ NoneMet ((j unless-that P) ∷ lines) = P × NoneMet lines
 -- always the one or the other.
 pub record Answers (reply : Reply) (given : List ℕ) (lines : List TableLine) : Type 0 where
   pub figures-exactly : (reply ≡ figures given) ↔ NoneMet lines
-  pub refused-exactly : (k : ℕ) → (reply ≡ refusal k) ↔ Given k lines
+  pub refused-exactly : (k : ℕ) → (reply ≡ refusal k) ↔ FirstMet k lines
   pub one-of-them : (reply ≡ figures given) ⊎ ((k : ℕ) × (reply ≡ refusal k))
 
 -- What a call that writes replies, as in `Answers`, and leaves in the lent array: where no line is met the array holds the result, and
@@ -34,7 +34,7 @@ pub record Answers (reply : Reply) (given : List ℕ) (lines : List TableLine) :
 pub record Writes {A : Type 0} (said : Reply) (given : List ℕ) (lines : List TableLine) (result before left : List A) : Type 0 where
   pub answers : Answers said given lines
   pub result-left : NoneMet lines → left ≡ result
-  pub nothing-changed : (k : ℕ) → Given k lines → left ≡ before
+  pub nothing-changed : (k : ℕ) → FirstMet k lines → left ≡ before
 
 -- a number from lo to hi
 abbrev pub Between : (lo hi a : ℕ) → Type 0

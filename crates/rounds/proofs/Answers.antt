@@ -3,45 +3,13 @@ use mathlib.Core.Path.{_≡_, refl, sym, ap, _∙_}
 use mathlib.Core.List.{List, [], _∷_, _++_}
 use Prim.Native.Nat.{ℕ, zero, suc, _≤_}
 use native.Mathlib.Omega.{arith}
-use lib.ListN.{length, getD, take, drop}
-use Rattle.refusals.specs.Table.{Reply, number}
-use Rattle.refusals.specs.declared.Refusal.{Refusal}
-use Rattle.refusals.specs.declared.Refusal.the-variants.{InputWidth, OutputWidth, ReadLength, Value, Permutation, Parameter, WrittenLength, NoFunction, ListTooShort, FileLength}
-use Rattle.refusals.specs.declared.Refusal.the-variants.{BoxCount, OutputWidths, Catalogue, NoRoom, NoRecord, UnusedBit, UnsetMark, NoPlace, PlaceState}
+use lib.ListN.{length, take, drop}
+use Rattle.refusals.specs.Table.{Reply}
+use Rattle.refusals.proofs.Numbers.{number-one}
 use Rattle.rounds.specs.Round.{Summand, firstGiven, sumChecks, sumReply}
 use Rattle.rounds.specs.Calls.{SumAnswer}
 use Rattle.rounds.specs.declared.LeastSum.{LeastSum}
 use Rattle.rounds.specs.declared.LeastSum.the-variants.{Reached, Declined}
-
--- ---- no two refusals have one number
-abbrev by-number : List Refusal
-by-number =
-    InputWidth ∷ InputWidth ∷ OutputWidth ∷ ReadLength ∷ Value ∷ Permutation ∷ Parameter ∷ WrittenLength ∷ NoFunction ∷ ListTooShort ∷ FileLength
-    ∷ BoxCount ∷ OutputWidths ∷ Catalogue ∷ NoRoom ∷ NoRecord ∷ UnusedBit ∷ UnsetMark ∷ NoPlace ∷ PlaceState ∷ []
-
-found-again : (e : Refusal) → getD by-number (number e) InputWidth ≡ e
-found-again InputWidth = refl
-found-again OutputWidth = refl
-found-again ReadLength = refl
-found-again Value = refl
-found-again Permutation = refl
-found-again Parameter = refl
-found-again WrittenLength = refl
-found-again NoFunction = refl
-found-again ListTooShort = refl
-found-again FileLength = refl
-found-again BoxCount = refl
-found-again OutputWidths = refl
-found-again Catalogue = refl
-found-again NoRoom = refl
-found-again NoRecord = refl
-found-again UnusedBit = refl
-found-again UnsetMark = refl
-found-again NoPlace = refl
-found-again PlaceState = refl
-
-pub number-one : (e f : Refusal) → number e ≡ number f → e ≡ f
-number-one e f h = sym (found-again e) ∙ ap (λ (k : ℕ). getD by-number k InputWidth) h ∙ found-again f
 
 -- ---- one reply has one answer: no field of the answer is left open
 -- the masks up to the number and b, and the masks past it, are all of them

@@ -11,7 +11,6 @@ pub mod Entry
 pub mod Decided
 pub mod Boxes
 pub mod Reported
-pub mod Orders
 pub mod Answers
 pub mod Tops
 pub mod Terms

@@ -4,9 +4,7 @@ use mathlib.Core.Path.{_≡_}
 use mathlib.Core.Logic.{_⊎_}
 use mathlib.Core.List.{List, [], _∷_, _++_}
 use lib.IntN.{ℤ, pos, _*ℤ_}
-use lib.ListN.{length, drop}
-use Rattle.boolean.specs.Functions.{at, component, walsh, MaskWithin, MaskBefore, maskRank}
-use Rattle.boolean.specs.Selection.{Candidate}
+use Rattle.boolean.specs.Functions.{component, walsh, MaskWithin, MaskBefore}
 use Rattle.refusals.specs.Table.{figures}
 use Rattle.linear.specs.Nonlinearity.{nonlinearity}
 use Rattle.linear.specs.Statements.{IsPair}
@@ -45,17 +43,6 @@ Lex (v ∷ vs) (w ∷ ws) = (v < w) ⊎ ((v ≡ w) × Lex vs ws)
 -- (c′, ws′, b′) comes before (c, ws, b): by the components' order, then the masks', then b
 abbrev pub SumBefore : (c′ : ℕ) (ws′ : List ℕ) (b′ c : ℕ) (ws : List ℕ) (b : ℕ) → Type 0
 SumBefore c′ ws′ b′ c ws b = MaskBefore c′ c ⊎ (((c′ ≡ c) × Lex ws′ ws) ⊎ ((c′ ≡ c) × (ws′ ≡ ws) × (b′ < b)))
-
--- the number of the masks in that order: box 1's weighs most
-abbrev pub masksRank : (ss : List Summand) (ws : List ℕ) → ℕ
-masksRank [] ws = 0
-masksRank (s ∷ ss) [] = 0
-masksRank (s ∷ ss) (w ∷ ws) = w * 2 ^ inputsOf ss + masksRank ss ws
-
--- a pair's number in that order, of its witness: c, a mask for each box, b
-abbrev pub sumRank : (ss : List Summand) (m : ℕ) (p : Candidate) → ℕ
-sumRank ss m p =
-    maskRank m (at (p .witness) 0) * (2 * 2 ^ inputsOf ss) + masksRank ss (drop 1 (p .witness)) * 2 + at (p .witness) (1 + length ss)
 
 module _ (count : ℕ) (handed : List Summand) (i : ℕ) where
   -- the boxes that are given

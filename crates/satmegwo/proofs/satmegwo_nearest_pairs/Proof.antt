@@ -8,7 +8,7 @@ use lib.ListN.{length, set}
 use Rattle.refusals.specs.Table.{first, limitChecks}
 use Rattle.refusals.proofs.Outcomes.{wrote-by}
 use Rattle.nearest.specs.NearestPairs.{nearestPairs}
-use Rattle.nearest.specs.Calls.{pairsChecks, pairsReply}
+use Rattle.nearest.specs.Calls.{pairsChecks, saidPairList}
 use Rattle.border.specs.Border.{roomNumber}
 use Rattle.satmegwo.specs.Exports.{nearestChecks}
 use Rattle.border.proofs.Giving.{gives-all, out-refused, out-beside, out-figures, out-refusal, room-refused, room-passed}
@@ -49,7 +49,7 @@ returns-2 c =
     let a = else .before .before .before .before .args in
     let pairs = nearestPairs (a .n) (a .m) (a .rows .now) (a .i) in
     let wrote = wrote-by (sym (as-called else)) (called .nearest-pairs .ensures) in
-    let count = out-figures (length pairs ∷ []) (else .if1 .left) (sym (ap pairsReply (c .before .count .given .1)) ∙ wrote .reply)
+    let count = out-figures (length pairs ∷ []) (else .if1 .left) (sym (ap saidPairList (c .before .count .given .1)) ∙ wrote .reply)
     (gives-all (else .if1 .left) (one-written (a .figures .now) (c .before .count .given .0 .0) (else .if1 .left))) in
     (count, out-beside count wrote)
 
@@ -60,7 +60,7 @@ returns-3 c =
     let a = else .before .before .before .before .args in
     let pairs = nearestPairs (a .n) (a .m) (a .rows .now) (a .i) in
     let wrote = wrote-by (sym (as-called else)) (called .nearest-pairs .ensures) in
-    let count = out-refusal (length pairs ∷ []) (sym (ap pairsReply (c .before .before .e .given .1)) ∙ wrote .reply) (c .number-of .ensures) in
+    let count = out-refusal (length pairs ∷ []) (sym (ap saidPairList (c .before .before .e .given .1)) ∙ wrote .reply) (c .number-of .ensures) in
     (count, out-beside count wrote)
 
 pub satmegwo-nearest-pairs-spec : {M : Type 1} → statement M
