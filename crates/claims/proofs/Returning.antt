@@ -84,31 +84,34 @@ module _ {A : Type 0} {result old new : List A} {lines : List TableLine} where
       (o .number ∙ status-any (first checks) given) (o .content)
 
 -- ---- lines after lines
-none-before : (ls : List TableLine) {ks : List TableLine} → NoneMet (ls ++ ks) → NoneMet ls × NoneMet ks
-none-before [] n = (tt, n)
-none-before ((j unless-that P) ∷ ls) n = let t = none-before ls (n .1) in ((n .0, t .0), t .1)
+none-before : (ls ks : List TableLine) → NoneMet (ls ++ ks) → NoneMet ls × NoneMet ks
+none-before [] ks n = (tt, n)
+none-before ((j unless-that P) ∷ ls) ks n = let t = none-before ls ks (n .1) in ((n .0, t .0), t .1)
 
-none-both : (ls : List TableLine) {ks : List TableLine} → NoneMet ls → NoneMet ks → NoneMet (ls ++ ks)
-none-both [] n m = m
-none-both ((j unless-that P) ∷ ls) n m = (n .0, none-both ls (n .1) m)
+none-both : (ls ks : List TableLine) → NoneMet ls → NoneMet ks → NoneMet (ls ++ ks)
+none-both [] ks n m = m
+none-both ((j unless-that P) ∷ ls) ks n m = (n .0, none-both ls ks (n .1) m)
 
-met-before : (k : ℕ) (ls : List TableLine) {ks : List TableLine} → FirstMet k ls → FirstMet k (ls ++ ks)
-met-before k [] f = absurd f
-met-before k ((j unless-that P) ∷ ls) f = ⊎-elim (λ t. inl t) (λ t. inr (t .0, met-before k ls (t .1))) f
+met-before : (k : ℕ) (ls ks : List TableLine) → FirstMet k ls → FirstMet k (ls ++ ks)
+met-before k [] ks f = absurd f
+met-before k ((j unless-that P) ∷ ls) ks f = ⊎-elim (λ t. inl t) (λ t. inr (t .0, met-before k ls ks (t .1))) f
 
-met-behind : (k : ℕ) (ls : List TableLine) {ks : List TableLine} → NoneMet ls → FirstMet k ks → FirstMet k (ls ++ ks)
-met-behind k [] n f = f
-met-behind k ((j unless-that P) ∷ ls) n f = inr (n .0, met-behind k ls (n .1) f)
+met-behind : (k : ℕ) (ls ks : List TableLine) → NoneMet ls → FirstMet k ks → FirstMet k (ls ++ ks)
+met-behind k [] ks n f = f
+met-behind k ((j unless-that P) ∷ ls) ks n f = inr (n .0, met-behind k ls ks (n .1) f)
 
-met-either : (k : ℕ) (ls : List TableLine) {ks : List TableLine} → FirstMet k (ls ++ ks) → FirstMet k ls ⊎ (NoneMet ls × FirstMet k ks)
-met-either k [] f = inr (tt, f)
-met-either k ((j unless-that P) ∷ ls) f =
-    ⊎-elim (λ t. inl (inl t)) (λ t. ⊎-elim (λ g. inl (inr (t .0, g))) (λ u. inr ((t .0, u .0), u .1)) (met-either k ls (t .1))) f
+met-either : (k : ℕ) (ls ks : List TableLine) → FirstMet k (ls ++ ks) → FirstMet k ls ⊎ (NoneMet ls × FirstMet k ks)
+met-either k [] ks f = inr (tt, f)
+met-either k ((j unless-that P) ∷ ls) ks f =
+    ⊎-elim (λ t. inl (inl t)) (λ t. ⊎-elim (λ g. inl (inr (t .0, g))) (λ u. inr ((t .0, u .0), u .1)) (met-either k ls ks (t .1))) f
 
 -- ---- figures that go to a lent array: its length is looked at last
 module _ (given old : List ℕ) where
   abbrev fits : Type 0
   fits = length old ≡ length given
+
+  abbrev last : List TableLine
+  last = (7 unless-that fits) ∷ []
 
   lent-fits : fits → lent (figures given) (length old) ≡ figures given
   unfolding lent
@@ -127,28 +130,28 @@ module _ (given old : List ℕ) where
   unfolding status figuresAfter
   figures-out {reply} {lines} {new} {returned} a o = record {
     number = record {
-      done = λ n. let t = none-before lines n in o .number ∙ ap status (done t);
+      done = λ n. let t = none-before lines last n in o .number ∙ ap status (done t);
       refused = λ k f. o .number ∙ ap status (refused k f);
       one-of-them = ⊎-elim (λ s. in-time (a .figures-exactly .0 s) (ℕ-discrete (length old) (length given)))
-          (λ t. inr (t .0, met-before (t .0) lines (a .refused-exactly (t .0) .0 (t .1)))) (a .one-of-them);
+          (λ t. inr (t .0, met-before (t .0) lines last (a .refused-exactly (t .0) .0 (t .1)))) (a .one-of-them);
     };
-    result-left = λ n. let t = none-before lines n in o .content ∙ ap (λ (r : Reply). figuresAfter r old) (done t);
+    result-left = λ n. let t = none-before lines last n in o .content ∙ ap (λ (r : Reply). figuresAfter r old) (done t);
     nothing-changed = λ k f. o .content ∙ ap (λ (r : Reply). figuresAfter r old) (refused k f);
   }
     where
-      done : NoneMet lines × NoneMet ((7 unless-that fits) ∷ []) → lent reply (length old) ≡ figures given
+      done : NoneMet lines × NoneMet last → lent reply (length old) ≡ figures given
       done t = ap (λ (r : Reply). lent r (length old)) (a .figures-exactly .1 (t .0)) ∙ lent-fits (t .1 .0)
 
-      refused : (k : ℕ) → FirstMet k (lines ++ ((7 unless-that fits) ∷ [])) → lent reply (length old) ≡ refusal k
+      refused : (k : ℕ) → FirstMet k (lines ++ last) → lent reply (length old) ≡ refusal k
       refused k f =
           ⊎-elim (λ g. ap (λ (r : Reply). lent r (length old)) (a .refused-exactly k .1 g) ∙ lent-refused k)
           (λ t. ⊎-elim (λ u. ap (λ (r : Reply). lent r (length old)) (a .figures-exactly .1 (t .0)) ∙ lent-short (u .1) ∙ ap refusal (sym (u .0)))
-          (λ u. absurd (u .1)) (t .1)) (met-either k lines f)
+          (λ u. absurd (u .1)) (t .1)) (met-either k lines last f)
 
       in-time : NoneMet lines → Dec fits
-          → NoneMet (lines ++ ((7 unless-that fits) ∷ [])) ⊎ ((k : ℕ) × FirstMet k (lines ++ ((7 unless-that fits) ∷ [])))
-      in-time n (yes e) = inl (none-both lines n (e, tt))
-      in-time n (no e) = inr (7, met-behind 7 lines n (inl (refl, e)))
+          → NoneMet (lines ++ last) ⊎ ((k : ℕ) × FirstMet k (lines ++ last))
+      in-time n (yes e) = inl (none-both lines last n (e, tt))
+      in-time n (no e) = inr (7, met-behind 7 lines last n (inl (refl, e)))
 
 -- ---- the checks that only an export has
 pub cells-means : (n m : ℕ) (rows : List ℕ) (room listed : ℕ)
