@@ -29,11 +29,13 @@ use Rattle.texts.specs.Text.{decimalDigits, spaced, line}
 use Rattle.sheet.specs.Sheet.{sheetLimit, fileReply, sheetText}
 use Rattle.sheet.proofs.Example.{zero-sheet, bit-sheet}
 use Rattle.catalogue.specs.Format.{word, wordAt, accepted, count, placeAt, places, records, stands, stand, valid, placeBytes, directory, body, build}
-use Rattle.catalogue.specs.Calls.{catalogueChecks, indexChecks, recordAt, lowest, gapFor, offeredChecks, addChecks}
+use Rattle.catalogue.specs.Calls.{catalogueChecks, indexChecks, recordAt, lowest, gapFor, offeredChecks, addChecks, without, withoutGaps}
+use Rattle.nearest.specs.NearestPairs.{nearestPairs}
+use Rattle.nearest.specs.Calls.{pairsChecks}
 use Rattle.design.specs.Model as design
 use Rattle.server.specs.Model as server
 use Rattle.claims.specs.Outcomes.{Case, says, holds, _is_, Right}
-use Rattle.claims.specs.Worked.{cases, bounds, laterBounds, lengthBounds, tableCases, byteCases, sheetCases, recordCases, boundsTable, contentTable, workedTable}
+use Rattle.claims.specs.Worked.{cases, bounds, laterBounds, lengthBounds, tableCases, byteCases, sheetCases, recordCases, tiedCases, boundsTable, contentTable, workedTable}
 use Rattle.claims.proofs.Lengths.{zeros-taken, zeros-too-few, zeros-too-many}
 
 -- two tables, one after the other
@@ -94,5 +96,11 @@ content-table-right =
     joined-right tableCases (byteCases ++ (sheetCases ++ recordCases)) tables-right
     (joined-right byteCases (sheetCases ++ recordCases) bytes-right (joined-right sheetCases recordCases sheets-right records-right))
 
+tied-right : Right tiedCases
+unfolding parity dot affine ones onesIn one-if countBelow listFrom listBelow each every keep distance component components best firstLeast first limitChecks pairsOf pairs nonlinearity nearestPairs pairsChecks valid count places placeAt wordAt stand stands accepted fileFound fileChecks readChecks fileRows rowAt catalogueChecks indexChecks records without withoutGaps build directory body word placeBytes
+tied-right =
+    (refl, (refl, (refl, (refl, (refl, (refl, (refl, (refl, (refl, (refl, (refl, (refl, (refl, (refl, (refl, tt)))))))))))))))
+
 pub table-right : Right workedTable
-table-right = joined-right boundsTable contentTable bounds-table-right content-table-right
+table-right =
+    joined-right boundsTable (contentTable ++ tiedCases) bounds-table-right (joined-right contentTable tiedCases content-table-right tied-right)

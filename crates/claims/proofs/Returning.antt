@@ -38,7 +38,7 @@ use Rattle.claims.specs.Statements.{ReturnsNumber, Returns, progressFigu
 use Rattle.claims.proofs.Calls as calls
 
 -- ---- a number, from what is said
-numbered : (said : Reply) (given : List ℕ) (lines : List TableLine) (returned : ℕ) → Answers said given lines → returned ≡ status said
+pub numbered : (said : Reply) (given : List ℕ) (lines : List TableLine) (returned : ℕ) → Answers said given lines → returned ≡ status said
     → ReturnsNumber returned lines
 unfolding status
 numbered said given lines returned a e = record {

@@ -1,7 +1,7 @@
 -- What settles definitions that every other statement takes as they are: the bytes of a catalogue and of packed columns, which histories a
 -- theorem on histories speaks of, and what one call of a server does in numbers.
 use Prim.Native.Nat.{ℕ, _+_, _-_, _*_, _/_, _%_, _^_, _≤_, _<_}
-use mathlib.Core.Path.{_≡_, refl, subst}
+use mathlib.Core.Path.{_≡_, refl}
 use mathlib.Core.Logic.{_⊎_, _↔_}
 use mathlib.Core.Bool.{true, false}
 use mathlib.Core.List.{List, [], _∷_, _++_, List·Memᴰ}
@@ -13,11 +13,7 @@ use Rattle.refusals.specs.Table.{Box, figures}
 use Rattle.catalogue.specs.Format.{wordAt, count, placeAt}
 use Rattle.packing.specs.Packing.{columnBytes, packedValue, packed}
 use Rattle.packing.proofs.Theorems as packing
-use Rattle.design.specs.declared.Design.{Design}
-use Rattle.design.specs.Model.{begin}
-use Rattle.design.specs.Calls.{designOf}
-use Rattle.design.specs.Statements.{Operation, swaps, sets, afterOperations, onlySwaps, DesignMade}
-use Rattle.design.proofs.Theorems as designs
+use Rattle.design.specs.Statements.{Operation, swaps, sets, onlySwaps}
 use Rattle.design.proofs.Any as operations
 use Rattle.server.specs.declared.Place.{Place}
 use Rattle.server.specs.declared.Server.{Server}
@@ -26,6 +22,51 @@ use Rattle.server.specs.Calls.{stateOfServer, placeOf, ServerPut, ServerStepped
 use Rattle.server.specs.Statements.{Call, withdraws, steps, runs, stepCount, keeps, ServerMade}
 use Rattle.server.proofs.Any as calls
 use Rattle.server.proofs.OneCall as one
+use Prim.Native.Nat.{suc}
+use mathlib.Core.List.{map}
+use lib.ListN.{length, take, drop, replicate}
+use Rattle.refusals.specs.Table.{Reply, refusal, number, saidWritten, saidVerdict}
+use Rattle.refusals.specs.Statements.{TableLine, Answers}
+use Rattle.refusals.specs.declared.Refusal.{Refusal}
+use Rattle.refusals.specs.declared.Written.the-variants as written
+use Rattle.refusals.specs.declared.Verdict.the-variants as verdict
+use Rattle.linear.specs.Calls.{saidLeastPair}
+use Rattle.linear.specs.declared.LeastPair.the-variants as least-pair
+use Rattle.differential.specs.Calls.{saidLargestCell, saidCellList}
+use Rattle.differential.specs.declared.LargestCell.the-variants as largest-cell
+use Rattle.differential.specs.declared.CellList.the-variants as cell-list
+use Rattle.nearest.specs.Calls.{saidPairList}
+use Rattle.nearest.specs.declared.PairList.the-variants as pair-list
+use Rattle.avalanche.specs.Calls.{saidLargestChange}
+use Rattle.avalanche.specs.declared.LargestChange.the-variants as largest-change
+use Rattle.algebraic.specs.Calls.{saidDegreeFound}
+use Rattle.algebraic.specs.declared.DegreeFound.the-variants as degree-found
+use Rattle.boxfile.specs.File.{saidBoxFile}
+use Rattle.boxfile.specs.declared.BoxFile.the-variants as box-file
+use Rattle.catalogue.specs.Calls.{saidTold, saidFetched}
+use Rattle.catalogue.specs.declared.Told.the-variants as told
+use Rattle.catalogue.specs.declared.Fetched.the-variants as fetched
+use Rattle.swaps.specs.Calls.{saidRaisingSwap}
+use Rattle.swaps.specs.declared.RaisingSwap.the-variants as raising-swap
+use Rattle.rounds.specs.declared.Widths.{Widths}
+use Rattle.rounds.specs.declared.LeastSum.the-variants as least-sum
+use Rattle.rounds.specs.Calls.{summandsOf, SumAnswer}
+use Rattle.design.specs.declared.Design.{Design}
+use Rattle.design.specs.declared.BoxHeld.the-variants as box-held
+use Rattle.design.specs.Model.{DesignState}
+use Rattle.design.specs.Model as model
+use Rattle.design.specs.Calls.{snapshotOf, designOf, saidBoxHeld, DesignBegun}
+use Rattle.design.specs.Statements.{leaves, LastSet}
+use Rattle.design.proofs.Histories as histories
+use Rattle.server.specs.declared.Asked.the-variants as asked
+use Rattle.server.specs.Model.{Analysis, ServerState, empty, stillUnfinished, finished}
+use Rattle.server.specs.Calls.{saidAsked, serverOf, ServerRan}
+use Rattle.sheet.specs.Sheet.{sheetText}
+use Rattle.sheet.specs.Calls.{SheetWritten}
+use Rattle.satmegwo.specs.Exports.{version}
+use Rattle.satmegwo_design.specs.Exports.{numberSays}
+use Rattle.claims.specs.Statements.{ReturnsNumber}
+use Rattle.claims.proofs.Fields as fields
 
 -- [02.§7.1] "It begins with a count of two bytes, low byte first, .. then 64 places for pairs of offset and length, each two bytes, low
 -- byte first."
@@ -44,20 +85,10 @@ pub packed-bits : (n m : ℕ) (rows : List ℕ) → Box n m rows → (j x : ℕ)
 unfolding packedValue
 packed-bits = packing.column-packed
 
--- [02.§11.8] [02.§11.9] every list of operations with any arguments has such calls, so that no history is left out: they end with the
--- design that the operations make by definition
-pub operations-end : (n m : ℕ) (rows : List ℕ) (os : List Operation) → DesignMade n m rows os (designOf (afterOperations (begin n m rows) os))
-operations-end n m rows os =
-    let t = operations.any-made {n = n} {m = m} {rows = rows} os in subst (λ (d : Design). DesignMade n m rows os d) (designs.made-whole (t .1)) (t .1)
-
 -- [02.§11.9] "with only swaps": each of the operations is a swap or sets a mark
 pub only-swaps-exactly : (os : List Operation)
     → (onlySwaps os ≡ true) ↔ ((o : Operation) → List·Memᴰ o os → ((x y : ℕ) × (o ≡ swaps x y)) ⊎ ((k : ℕ) × (o ≡ sets k)))
 only-swaps-exactly = operations.only-swaps-exactly
-
--- [02.§14.9] "come or go what may on other places": every list of calls with any arguments is one that a server may have had
-pub server-calls-end : (calls : List Call) → (s : Server) × ServerMade calls s
-server-calls-end = calls.any-made
 
 -- [02.§14.9] "A box that isn't withdrawn": no call among them withdraws it
 pub keeps-exactly : (q : ℕ) (calls : List Call) → (keeps q calls ≡ true) ↔ (List·Memᴰ (withdraws q) calls → ⊥)
@@ -94,3 +125,96 @@ step-examines-one s r stepped k low some none = (
       (one.step-examines-one s r stepped k low some none d, same .0, same .1, same .2),
   one.step-leaves-others s r stepped k low some none,
 )
+
+-- [02.§14.9] a run is its steps, one after the other: of budget 0 none, and each one more a step
+pub run-is-steps : (s r : Server) → (ServerRan s 0 r → r ≡ s)
+    × ((k : ℕ) → ServerRan s (suc k) r → (t : Server) × ServerRan s k t × ServerStepped t r)
+run-is-steps s r = (fields.ran-none, λ k. fields.ran-last)
+
+-- [02.§14.7] what stands in which field of a server: place p is entry p − 1, and of a box it has the widths, the rows and then zeros, how many
+-- combinations were examined, and the count, c, w and b that are held of them; an empty place has zeros
+pub place-fields : ((s : ServerState) → (serverOf s .places ≡ map placeOf (s .spots)) × (serverOf s .last ≡ s .last))
+    × ((a : Analysis) → placeOf (holds a) ≡ record {
+      taken = 1;
+      n = a .n;
+      m = a .m;
+      rows = a .rows ++ drop (length (a .rows)) (replicate 256 0);
+      examined = a .examined;
+      found = record { count = a .found .figure; c = at (a .found .witness) 0; w = at (a .found .witness) 1; b = at (a .found .witness) 2 };
+    })
+    × (placeOf empty ≡ record {
+      taken = 0;
+      n = 0;
+      m = 0;
+      rows = replicate 256 0;
+      examined = 0;
+      found = record { count = 0; c = 0; w = 0; b = 0 };
+    })
+unfolding placeOf
+place-fields = (λ s. (fields.places-mapped (s .spots), refl), λ a. refl, refl)
+
+-- [02.§11.3] "A design is one box with marks 1 to 16": it begins with the box that it is given, in the first 2^n entries of its array; refused, it
+-- has no inputs
+pub design-begins-with : (n m : ℕ) (rows : List ℕ) (said : Reply) (d : Design) → DesignBegun n m rows said d
+    → (said ≡ figures [] → (d .n ≡ n) × (d .m ≡ m) × (take (2 ^ n) (d .rows) ≡ rows)) × ((k : ℕ) → said ≡ refusal k → d .n ≡ 0)
+design-begins-with n m rows said d c = (fields.begun-box n m rows said d c, fields.begun-none n m rows said d c)
+
+-- [02.§11.3] what stands in which field of a design: the widths, the rows and then zeros, and mark k as entry k − 1, with 1 and its rows so where
+-- it is set, and zeros where it is not
+pub design-fields : ((s : DesignState) → (designOf s .n ≡ s .n) × (designOf s .m ≡ s .m)
+    × (designOf s .rows ≡ s .rows ++ drop (length (s .rows)) (replicate 256 0)) × (designOf s .marks ≡ map snapshotOf (s .marks)))
+    × ((rows : List ℕ) → snapshotOf (model.keeps rows) ≡ record { taken = 1; rows = rows ++ drop (length rows) (replicate 256 0) })
+    × (snapshotOf model.unset ≡ record { taken = 0; rows = replicate 256 0 })
+unfolding designOf
+design-fields = (λ s. (refl, refl, refl, fields.marks-mapped (s .marks)), λ rows. refl, refl)
+
+-- [02.§11.6] "when that mark was last set": after any operations it was set by a last one, or by none
+pub last-set-or-none : (k : ℕ) (os : List Operation) → (leaves k os ≡ true) ⊎ LastSet k os
+last-set-or-none = histories.last-or-none
+
+-- [D1.2] what an operation on a design returns to C is by the lines of the call, whose contract it has with `numberSays` of that number
+pub design-number-out : (returned : ℕ) (lines : List TableLine) → Answers (numberSays returned) [] lines → ReturnsNumber returned lines
+design-number-out = fields.number-out
+
+-- [02.§4.1] the boxes of a sum, as the call takes them: of each the widths and the rows of its number
+pub sum-takes-boxes : (w : Widths) (rows1 rows2 rows3 rows4 : List ℕ) → summandsOf w rows1 rows2 rows3 rows4
+    ≡ record { inputs = w .n1; outputs = w .m1; rows = rows1 } ∷ record { inputs = w .n2; outputs = w .m2; rows = rows2 }
+    ∷ record { inputs = w .n3; outputs = w .m3; rows = rows3 } ∷ record { inputs = w .n4; outputs = w .m4; rows = rows4 } ∷ []
+sum-takes-boxes w rows1 rows2 rows3 rows4 = refl
+
+-- [01.sheet.2] the sheet stands at the start of the text, and behind it what was there
+pub sheet-at-start : (file old new : List ℕ) (answer : ℕ) → SheetWritten file old answer new → length old ≡ 332
+    → (answer ≡ length (sheetText file)) × (answer ≤ 332) × (new ≡ sheetText file ++ drop (length (sheetText file)) old)
+sheet-at-start file old new answer w long = (w .size, w .inside, fields.sheet-written file old new answer w long)
+
+-- [01.forms.10] what each answer says, its fields in the order of its declaration: yes is 1 and no is 0, and a figure comes before its witness
+pub answers-say : (d a c w b s : ℕ) (e : Refusal)
+    → ((saidWritten written.Done ≡ figures []) × (saidWritten (written.Declined e) ≡ refusal (number e)))
+    × ((saidVerdict verdict.Yes ≡ figures (1 ∷ [])) × (saidVerdict verdict.No ≡ figures (0 ∷ [])))
+    × (saidLeastPair (least-pair.Reached d c w b) ≡ figures (d ∷ c ∷ w ∷ b ∷ []))
+    × (saidLargestCell (largest-cell.Reached d a b) ≡ figures (d ∷ a ∷ b ∷ []))
+    × ((saidCellList (cell-list.Listed d) ≡ figures (d ∷ [])) × (saidPairList (pair-list.Listed d) ≡ figures (d ∷ [])))
+    × ((saidLargestChange (largest-change.Reached d c s) ≡ figures (d ∷ c ∷ s ∷ [])) × (saidDegreeFound (degree-found.Reached d c) ≡ figures (d ∷ c ∷ [])))
+    × ((saidBoxFile (box-file.Read a b) ≡ figures (a ∷ b ∷ [])) × (saidBoxHeld (box-held.Given a b) ≡ figures (a ∷ b ∷ [])))
+    × ((saidTold (told.Number d) ≡ figures (d ∷ [])) × (saidFetched (fetched.Lies a b) ≡ figures (a ∷ b ∷ [])))
+    × ((saidRaisingSwap (raising-swap.Raised a b d) ≡ figures (1 ∷ a ∷ b ∷ d ∷ [])) × (saidRaisingSwap raising-swap.NoSwap ≡ figures (0 ∷ 0 ∷ 0 ∷ 0 ∷ [])))
+    × ((saidAsked asked.Unfinished ≡ stillUnfinished) × (saidAsked (asked.Finished d c w b) ≡ finished (d ∷ c ∷ w ∷ b ∷ [])))
+answers-say d a c w b s e =
+    ((refl, refl), (refl, refl), refl, refl, (refl, refl), (refl, refl), (refl, refl), (refl, refl), (refl, refl), (refl, refl))
+
+-- [02.§4.6] and of a sum of so many boxes: the figure, c, a mask for each box and b; the masks past that number are 0
+pub sum-answer-says : (d c w1 w2 w3 w4 b : ℕ)
+    → SumAnswer 1 (least-sum.Reached d c w1 0 0 0 b) (figures (d ∷ c ∷ w1 ∷ b ∷ []))
+    × SumAnswer 2 (least-sum.Reached d c w1 w2 0 0 b) (figures (d ∷ c ∷ w1 ∷ w2 ∷ b ∷ []))
+    × SumAnswer 3 (least-sum.Reached d c w1 w2 w3 0 b) (figures (d ∷ c ∷ w1 ∷ w2 ∷ w3 ∷ b ∷ []))
+    × SumAnswer 4 (least-sum.Reached d c w1 w2 w3 w4 b) (figures (d ∷ c ∷ w1 ∷ w2 ∷ w3 ∷ w4 ∷ b ∷ []))
+sum-answer-says d c w1 w2 w3 w4 b = (
+  record { says = refl; past = refl },
+  record { says = refl; past = refl },
+  record { says = refl; past = refl },
+  record { says = refl; past = refl },
+)
+
+-- the version of the C library is 1.0.0: ten thousand for the first number, a hundred for the second, one for the third
+pub version-is : version ≡ 1 * 10000 + 0 * 100 + 0
+version-is = refl

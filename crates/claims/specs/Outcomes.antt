@@ -24,6 +24,9 @@ use Rattle.packing.specs.Packing.{packChecks, packed, unpackChecks, unpacked}
 use Rattle.texts.specs.Text.{numeral}
 use Rattle.sheet.specs.Sheet.{sheetLimit, sheetText}
 use Rattle.catalogue.specs.Calls.{checkReply, fetchReply, addChecks, gapFor, gapIndex, added}
+use Rattle.catalogue.specs.Calls.{catalogueChecks, indexChecks, removed, compacted}
+use Rattle.nearest.specs.NearestPairs.{nearestPairs}
+use Rattle.nearest.specs.Calls.{pairsChecks}
 use Rattle.design.specs.Model as design
 use Rattle.server.specs.Model as server
 
@@ -191,3 +194,19 @@ addReply catalogue file = says (replyAfter (first (addChecks catalogue file)) (g
 
 abbrev pub addedOf : (catalogue file : List ℕ) → CallOutcome
 addedOf catalogue file = holds (after (first (addChecks catalogue file)) (added catalogue file) catalogue)
+
+-- what removing and compacting leave
+abbrev pub removedOf : (catalogue : List ℕ) (index : ℕ) → CallOutcome
+removedOf catalogue index = holds (after (first (indexChecks catalogue index)) (removed catalogue index) catalogue)
+
+abbrev pub compactedOf : (catalogue : List ℕ) → CallOutcome
+compactedOf catalogue = holds (after (first (catalogueChecks catalogue)) (compacted catalogue) catalogue)
+
+-- ---- all nearest pairs within the limit i
+abbrev pub nearestReply : (n m : ℕ) (rows : List ℕ) (i : ℕ) (old : List ℕ) → CallOutcome
+nearestReply n m rows i old =
+    says (replyAfter (first (pairsChecks n m rows i (length old))) (length (nearestPairs n m rows i) ∷ []))
+
+abbrev pub nearestListed : (n m : ℕ) (rows : List ℕ) (i : ℕ) (old : List ℕ) → CallOutcome
+nearestListed n m rows i old =
+    holds (after (first (pairsChecks n m rows i (length old))) (listAfter (nearestPairs n m rows i) old) old)

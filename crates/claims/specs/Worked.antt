@@ -9,7 +9,7 @@ use Rattle.rounds.specs.Round.{Summand}
 use Rattle.texts.specs.Text.{bytes}
 use Rattle.sheet.specs.Statements.{zeroFile, bitFile}
 use Rattle.catalogue.specs.Format.{build}
-use Rattle.catalogue.specs.Statements.{smallFile, behindPlaces, twoRecords}
+use Rattle.catalogue.specs.Statements.{smallFile, longFile, behindPlaces, twoRecords}
 use Rattle.design.specs.Model as design
 use Rattle.server.specs.Model as server
 use Rattle.claims.specs.Outcomes.{Case, says, holds, holdsSigned, _is_}
@@ -21,7 +21,7 @@ use Rattle.claims.specs.Outcomes.{additionReply, additionOf, sumOf, rais
 use Rattle.claims.specs.Outcomes.{markReply, returnReply, swapReply, designAddReply, putReply, withdrawReply}
 use Rattle.claims.specs.Outcomes.{rowOf, cellsReply, cellsListed, formOf, bijectiveOf, readReply, readOf, writtenOf}
 use Rattle.claims.specs.Outcomes.{packReply, packedOf, unpackReply, unpackedOf, sheetOf, limitOf, numeralOf}
-use Rattle.claims.specs.Outcomes.{fetchOf, addReply, addedOf}
+use Rattle.claims.specs.Outcomes.{fetchOf, addReply, addedOf, removedOf, compactedOf, nearestReply, nearestListed}
 
 -- what stands in an array before a call
 abbrev pub sixteen : List ℕ
@@ -392,5 +392,36 @@ boundsTable = cases ++ (bounds ++ (laterBounds ++ lengthBounds))
 abbrev pub contentTable : List Case
 contentTable = tableCases ++ (byteCases ++ (sheetCases ++ recordCases))
 
+-- ---- what no line above tells apart: the numbers of nearest pairs, each rule of a catalogue, and what removing and compacting leave
+-- a catalogue with one place in use, of an offset from 256 on and a length below 256, and the bytes behind that place
+abbrev pub oneRecord : (low size : ℕ) (behind : List ℕ) → List ℕ
+oneRecord low size behind = 1 ∷ 0 ∷ low ∷ 1 ∷ size ∷ 0 ∷ behind
+
+abbrev pub tiedCases : List Case
+tiedCases =
+    -- an AND and an OR: the pairs that differ at one input, c × 512 + 2 × w + b; the entry past them stays; a list that is too short
+    (nearestReply 2 2 (0 ∷ 2 ∷ 2 ∷ 3 ∷ []) 1 (9 ∷ eightNines) is says (figures (8 ∷ [])))
+    ∷ (nearestListed 2 2 (0 ∷ 2 ∷ 2 ∷ 3 ∷ []) 1 (9 ∷ eightNines)
+    is holds (512 ∷ 514 ∷ 516 ∷ 519 ∷ 1025 ∷ 1026 ∷ 1028 ∷ 1030 ∷ 9 ∷ []))
+    ∷ (nearestReply 2 2 (0 ∷ 2 ∷ 2 ∷ 3 ∷ []) 1 (9 ∷ 9 ∷ 9 ∷ 9 ∷ 9 ∷ 9 ∷ 9 ∷ []) is says (refusal 9))
+    -- one record at 258; then the first and the last byte of the places that are not used
+    ∷ (checkOf (oneRecord 2 10 (replicate 252 0 ++ smallFile)) is says (figures (1 ∷ [])))
+    ∷ (checkOf (oneRecord 2 10 (1 ∷ (replicate 251 0 ++ smallFile))) is says (refusal 13))
+    ∷ (checkOf (oneRecord 2 10 (replicate 251 0 ++ (1 ∷ smallFile))) is says (refusal 13))
+    -- a byte before the record, and one behind it: zero, and not
+    ∷ (checkOf (oneRecord 3 10 (replicate 253 0 ++ smallFile)) is says (figures (1 ∷ [])))
+    ∷ (checkOf (oneRecord 3 10 (replicate 252 0 ++ (1 ∷ smallFile))) is says (refusal 13))
+    ∷ (checkOf (oneRecord 2 10 (replicate 252 0 ++ (smallFile ++ (0 ∷ [])))) is says (figures (1 ∷ [])))
+    ∷ (checkOf (oneRecord 2 10 (replicate 252 0 ++ (smallFile ++ (1 ∷ [])))) is says (refusal 13))
+    -- a record that is no accepted file, one that ends behind the buffer, and two that overlap
+    ∷ (checkOf (oneRecord 2 9 (replicate 252 0 ++ smallFile)) is says (refusal 13))
+    ∷ (checkOf (oneRecord 2 11 (replicate 252 0 ++ smallFile)) is says (refusal 13))
+    ∷ (checkOf (2 ∷ 0 ∷ 2 ∷ 1 ∷ 10 ∷ 0 ∷ 2 ∷ 1 ∷ 10 ∷ 0 ∷ (replicate 248 0 ++ smallFile)) is says (refusal 13))
+    -- the first of the two records removed, and both moved down to 258 and 516
+    ∷ (removedOf twoRecords 0 is holds (1 ∷ 0 ∷ 6 ∷ 5 ∷ 10 ∷ 0 ∷ (replicate 1280 0 ++ (smallFile ++ replicate 4 0))))
+    ∷ (compactedOf twoRecords
+    is holds (2 ∷ 0 ∷ 2 ∷ 1 ∷ 2 ∷ 1 ∷ 4 ∷ 2 ∷ 10 ∷ 0 ∷ (replicate 248 0 ++ (longFile ++ (smallFile ++ replicate 774 0)))))
+    ∷ []
+
 abbrev pub workedTable : List Case
-workedTable = boundsTable ++ contentTable
+workedTable = boundsTable ++ (contentTable ++ tiedCases)
