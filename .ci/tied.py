@@ -13,10 +13,11 @@ import re
 import sys
 
 import calls
+import names
 import sources
 import specs
 
-STATED = ("Demand1", "Demand2", "Demand3", "Document01", "Document02", "Worked", "Beside", "Tied")
+STATED = (*names.STATEMENTS, "Tied")
 BEHIND, NO_CALL, UNTIED = "behind the calls", "no call", "NOTHING"
 NESTED = re.compile(r"^ +(?:(?:unfoldable|abbrev) pub|pub (?:record|data)) ([^\s:({]+)", re.M)
 STARTS = re.compile(r"^ *(?:(?:unfoldable|abbrev) )?pub (?:(?:unfoldable|abbrev|record|data) )?([^\s:({]+)")
@@ -53,8 +54,8 @@ def bodies(text):
 
 def imported(text):
     """The names that a file brings in, and the names of whole files that it brings in under another name."""
-    names = {name.strip() for listed in IMPORT.findall(text) for name in listed.split(",")}
-    return names, {alias for _, alias in ALIAS.findall(text)}
+    brought = {name.strip() for listed in IMPORT.findall(text) for name in listed.split(",")}
+    return brought, {alias for _, alias in ALIAS.findall(text)}
 
 
 def named(text, visible, aliases, wanted):
@@ -149,11 +150,11 @@ def token_fault(held, token):
     return None if known else f"no statement, worked list or definition {token}"
 
 
-def row_faults(held, crate, names, tie):
-    place = f"{crate}: {', '.join(names)}"
+def row_faults(held, crate, defined, tie):
+    place = f"{crate}: {', '.join(defined)}"
     tokens = TICKED.findall(tie)
     found = [f"{place}: {fault}" for token in tokens if (fault := token_fault(held, token))]
-    found += [f"{place}: {name} is no definition of {crate}" for name in names if held.homes.get(name) != crate]
+    found += [f"{place}: {name} is no definition of {crate}" for name in defined if held.homes.get(name) != crate]
     if UNTIED in tie:
         found.append(f"{place}: nothing ties it")
     elif BEHIND not in tie and NO_CALL not in tie and not any(ties(held, token) for token in tokens):
@@ -163,13 +164,13 @@ def row_faults(held, crate, names, tie):
 
 def behind_faults(held, listed):
     """Definitions that are said to be behind the calls, and stand before a reader of a statement or of a call."""
-    behind = {name for _, names, tie in listed for name in names if tie.startswith(BEHIND)}
+    behind = {name for _, defined, tie in listed for name in defined if tie.startswith(BEHIND)}
     return sorted(f"{word} is said to be {BEHIND}, and {user} has it" for user, name, word in held.users(behind) if name not in behind)
 
 
 def faults(page, files):
     held, listed = Sources(files), rows(page)
-    seen = [name for _, names, _ in listed for name in names]
+    seen = [name for _, defined, _ in listed for name in defined]
     found = [fault for row in listed for fault in row_faults(held, *row)]
     found += [f"{home}: {name} has no row" for name, home in held.homes.items() if name not in seen]
     found += [f"{name} stands in two rows" for name in sorted(set(seen)) if seen.count(name) > 1]
