@@ -81,4 +81,5 @@ pub sheet-written : (file old new : List ℕ) (answer : ℕ) → SheetWritten fi
     → new ≡ sheetText file ++ drop (length (sheetText file)) old
 sheet-written file old new answer w long =
     let short : 0 + length (sheetText file) ≤ length old = omega (arith, w .size, w .inside) in
-    w .text ∙ sets-eq (sheetText file) old 0 short
+    let e : 0 + length (sheetText file) ≡ length (sheetText file) = omega arith in
+    w .text ∙ sets-eq (sheetText file) old 0 short ∙ ap (λ (k : ℕ). sheetText file ++ drop k old) e
