@@ -164,6 +164,8 @@ class Tied(unittest.TestCase):
     def test_a_field_of_the_same_name_is_no_use(self):
         self.assertEqual(tied.behind_faults(tied.Sources(FILES), tied.rows(PAGE)), [])
         brought = changed("crates/linear/specs/Topic.antt", "use Prim.Native.Nat.{ℕ}", "use Rattle.linear.specs.Laws.{rank}")
+        self.assertEqual(self.found(files=brought), [])
+        brought["crates/linear/specs/Topic.antt"] += "  best b = rank b\n"
         self.assertEqual(len(self.found(files=brought)), 1)
 
 

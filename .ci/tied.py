@@ -22,6 +22,7 @@ BEHIND, NO_CALL, UNTIED = "behind the calls", "no call", "NOTHING"
 NESTED = re.compile(r"^ +(?:(?:unfoldable|abbrev) pub|pub (?:record|data)) ([^\s:({]+)", re.M)
 STARTS = re.compile(r"^ *(?:(?:unfoldable|abbrev) )?pub (?:(?:unfoldable|abbrev|record|data) )?([^\s:({]+)")
 FIELD = re.compile(r"^ +(?:pub )?([^\s:(){}]+) :", re.M)
+DECLARES = re.compile(r"^ +(?:pub )?[^\s:(){}]+ :")  # a field or a constructor, whose name is no use of a definition
 LIST = re.compile(r"^abbrev pub (\S+) : List Case$", re.M)
 STATEMENT = re.compile(r"^( *)pub ([^\s:]+) :(.*)$")
 IMPORT = re.compile(r"^(?:ghost )?use \S+?specs\.\w+\.\{([^}]*)\};?$", re.M)
@@ -48,7 +49,7 @@ def bodies(text):
         if begins and begins[1] in held and (not line.startswith(" ") or NESTED.match(line)):
             name = begins[1]
         if name:
-            found[name] = found.get(name, "") + line + "\n"
+            found[name] = found.get(name, "") + (line if begins and begins[1] == name else DECLARES.sub(":", line)) + "\n"
     return found
 
 

@@ -132,7 +132,8 @@ pub run-is-steps : (s r : Server) → (ServerRan s 0 r → r ≡ s)
 run-is-steps s r = (fields.ran-none, λ k. fields.ran-last)
 
 -- [02.§14.7] what stands in which field of a server: place p is entry p − 1, and of a box it has the widths, the rows and then zeros, how many
--- combinations were examined, and the count, c, w and b that are held of them; an empty place has zeros
+-- combinations were examined, and the count, c, w and b that are held of them, which before the first are 2^n + 1 and zeros; an empty place
+-- has zeros
 pub place-fields : ((s : ServerState) → (serverOf s .places ≡ map placeOf (s .spots)) × (serverOf s .last ≡ s .last))
     × ((a : Analysis) → placeOf (holds a) ≡ record {
       taken = 1;
@@ -150,8 +151,9 @@ pub place-fields : ((s : ServerState) → (serverOf s .places ≡ map placeOf (s
       examined = 0;
       found = record { count = 0; c = 0; w = 0; b = 0 };
     })
-unfolding placeOf
-place-fields = (λ s. (fields.places-mapped (s .spots), refl), λ a. refl, refl)
+    × ((n m : ℕ) (rows : List ℕ) → placeOf (holds (analysisOf n m rows 0)) .found ≡ record { count = 2 ^ n + 1; c = 0; w = 0; b = 0 })
+unfolding placeOf analysisOf
+place-fields = (λ s. (fields.places-mapped (s .spots), refl), λ a. refl, refl, λ n m rows. refl)
 
 -- [02.§11.3] "A design is one box with marks 1 to 16": it begins with the box that it is given, in the first 2^n entries of its array; refused, it
 -- has no inputs
