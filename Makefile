@@ -1,8 +1,8 @@
 # What is made of the proved crates, and where it is put for others.
 #
-#   make                        the three archives and the program boxsheet, proved by `rt` where they are missing or a source of theirs was
+#   make                        the four archives and the program boxsheet, proved by `rt` where they are missing or a source of theirs was
 #                               changed, and the shared library
-#   make shared                 the shared library alone, target/lib/libsatmegwo.so: the calls of all three archives
+#   make shared                 the shared library alone, target/lib/libsatmegwo.so: the calls of all four archives
 #   make install PREFIX=/usr    headers, archives, shared library, boxsheet and the file satmegwo.pc for pkg-config (/usr/local if nothing is said)
 #   make stale                  says which of the archives and boxsheet are older than a source of theirs, and makes nothing
 #
@@ -13,7 +13,7 @@ CC = gcc
 PREFIX = /usr/local
 DESTDIR =
 
-LIBRARIES = satmegwo satmegwo_design satmegwo_server
+LIBRARIES = satmegwo satmegwo_parts satmegwo_design satmegwo_server
 ARCHIVES = $(LIBRARIES:%=target/staticlib/lib%.a)
 HEADERS = $(LIBRARIES:%=include/%.h)
 SHARED = target/lib/libsatmegwo.so
@@ -75,7 +75,7 @@ Description: A proved analyser of the substitution boxes of ciphers
 Version: $(VERSION)
 Cflags: -I$${includedir}
 Libs: -L$${libdir} -lsatmegwo
-Libs.private: -lsatmegwo_design -lsatmegwo_server
+Libs.private: -lsatmegwo_parts -lsatmegwo_design -lsatmegwo_server
 endef
 export PKG_CONFIG
 

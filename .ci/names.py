@@ -20,8 +20,8 @@ import re
 import sys
 
 LONGEST_PAGE = 350
-STATEMENTS = ("Demand1", "Demand2", "Demand3", "Document01", "Document02", "Worked", "Beside")
-KEY = r"(?:D[123]|01|02|beside)\.[^\]\s|,]+"
+STATEMENTS = ("Demand1", "Demand2", "Demand3", "Document01", "Document02", "Tied", "Worked", "Beside", "Parts")
+KEY = r"(?:(?:D[123]|01|02|beside)\.[^\]\s|,]+|parts\.\d+)"
 # Words of the languages and of the tools that the pages quote.
 WORDS = set(
     "rt cargo gcc g++ clang make ar objdump objcopy python3 git pip pkg-config rustc simp rw search requires ensures match pub fn use let else "

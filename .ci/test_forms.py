@@ -80,7 +80,7 @@ class Forms(unittest.TestCase):
 
     def test_a_table_that_is_no_constant(self):
         self.found("01.forms.5", FIXED, "const FIXED", "static FIXED", "no constant")
-        self.found("01.forms.5", FIXED, "const FIXED: [i32; 2048]", "const FIXED: [u32; 2048]", "no constant")
+        self.found("01.forms.5", FIXED, "const FIXED: [i16; 2048]", "const FIXED: [u16; 2048]", "no constant")
 
     def test_a_shorter_table(self):
         first = "    4, // function 0"
@@ -108,7 +108,7 @@ class Forms(unittest.TestCase):
         self.found("01.forms.7", SHEET, old, "    let sac_end = autocorrelation_end;\n", "sheet::write_lines")
 
     def test_sums_that_call_what_is_not_published(self):
-        self.found("01.forms.8", ROUNDS, "linear::component_count(", "linear::component_spectrum(", "does not list")
+        self.found("01.forms.8", ROUNDS, "linear::next_peak(", "linear::component_spectrum(", "does not list")
         self.found("02.§4.8", "docs/CALLS.md", "- `walsh`: `spectra`, `largest_magnitude`", "- `walsh`: `descend`, `spectra`, `largest_magnitude`", "do not call it")
 
     def test_an_analyser_that_stands_on_the_sums(self):

@@ -39,6 +39,12 @@ class Lent(unittest.TestCase):
     def test_each_array_is_named(self):
         self.assertEqual(faults(RIGHT), [])
 
+    def test_an_array_that_a_sweep_works_in(self):
+        functions = sources.functions("packing", "", sources.tokens(RIGHT.replace("(out .exit)) ⌝ }\n{\n    out", "(out .entry)) ⌝ }\n{\n    out")))
+        self.assertEqual(lent.faults(functions, {("packing::clear", "out")}), [])
+        (fault,) = lent.faults(functions, {("packing::clear", "out"), ("packing::fill", "out")})
+        self.assertIn("packing::fill is said to work in out", fault)
+
     def test_an_array_that_no_ensures_names(self):
         self.one_fault("now (out .exit) ≡ replicate k 0", "r ≡ r", "packing::fill is lent out")
         self.one_fault("    ensures { λ _. ⌜ AnyContent (now (out .entry)) (now (out .exit)) ⌝ }\n", "", "packing::clear is lent out")

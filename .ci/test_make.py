@@ -13,7 +13,7 @@ import time
 import unittest
 
 ROOT = pathlib.Path(__file__).resolve().parent.parent
-LIBRARIES = ("satmegwo", "satmegwo_design", "satmegwo_server")
+LIBRARIES = ("satmegwo", "satmegwo_parts", "satmegwo_design", "satmegwo_server")
 MADE = {**{name: f"target/staticlib/lib{name}.a" for name in LIBRARIES}, "boxsheet": "target/bin/boxsheet"}
 # An archive holds the sum of all sources, so that it is another for every other tree.
 RT = r"""#!/usr/bin/env bash

@@ -85,7 +85,7 @@ def statements(text):
             modules[-1] = (modules[-1][0], modules[-1][1] + line)
         elif name and (line.strip().startswith("unfolding ") or re.match(rf" *{re.escape(name)}(?: |$)", line)):
             name = None
-        elif name:
+        elif name in found:
             found[name] += line
     return found
 

@@ -1,6 +1,7 @@
 /* Every call but satmegwo_version, each with a reply that nobody looks at. It is not to be run:
  * `make compilers` looks that every compiler warns of each line. */
 #include "satmegwo.h"
+#include "satmegwo_parts.h"
 #include "satmegwo_design.h"
 #include "satmegwo_server.h"
 
@@ -39,6 +40,12 @@ void ignored(satmegwo_design design, satmegwo_server server)
     satmegwo_pack_columns(0, 0, NULL, 0, NULL, 0);
     satmegwo_unpack_columns(0, 0, NULL, 0, NULL, 0);
     satmegwo_raising_swap(0, 0, NULL, 0, NULL, 0);
+    satmegwo_nonlinearity_between(0, 0, NULL, 0, 0, 0, 0, NULL, 0);
+    satmegwo_autocorrelation_between(0, 0, NULL, 0, 0, 0, 0, NULL, 0);
+    satmegwo_dynamic_distance_between(0, 0, NULL, 0, 0, 0, 0, 0, NULL, 0);
+    satmegwo_sum_nonlinearity_between(0, 0, 0, NULL, 0, 0, 0, NULL, 0, 0, 0, NULL, 0, 0, 0, NULL, 0, 0, 0, 0, NULL, 0);
+    satmegwo_merge_least(NULL, 0, NULL, 0, NULL, 0);
+    satmegwo_merge_largest(NULL, 0, NULL, 0, NULL, 0);
     satmegwo_design_begin(0, 0, NULL, 0);
     satmegwo_design_swap(design, 0, 0);
     satmegwo_design_add(design, 0, 0, 0);

@@ -14,6 +14,7 @@
 #include <string.h>
 #include <sys/mman.h>
 #include "satmegwo.h"
+#include "satmegwo_parts.h"
 #include "satmegwo_design.h"
 #include "satmegwo_server.h"
 
@@ -23,7 +24,8 @@
 
 struct measured { const char *name; uint32_t (*call)(void); };
 
-static uint32_t rows[256], narrow_rows[256], square_rows[256], half_rows[128], out_rows[256], figures[4], sum_figures[7], standing[5];
+static uint32_t rows[256], narrow_rows[256], square_rows[256], half_rows[128], out_rows[256], figures[4], sum_figures[7], part[8], other_part[8] = {1}, merged_part[8],
+    standing[5];
 static uint16_t counts[65536];
 static uint8_t table[256], out_table[256], permutation[16], file[SATMEGWO_FILE_BYTES], catalogue[SATMEGWO_CATALOGUE_MOST];
 static int32_t values[256];
@@ -57,6 +59,13 @@ static uint32_t sheet(void) { return satmegwo_sheet(file, 1026, text, 332, figur
 static uint32_t version(void) { return satmegwo_version() == SATMEGWO_VERSION ? 0 : 1; }
 static uint32_t sum(void) { return satmegwo_sum_nonlinearity(4, 8, 32, rows, 256, 8, 32, rows, 256, 8, 32, rows, 256, 8, 32, rows, 256, 2, sum_figures, 7); }
 
+static uint32_t nonlinearity_between(void) { return satmegwo_nonlinearity_between(8, 32, rows, 256, 32, 4294967000u, 4294967295u, part, 5); }
+static uint32_t autocorrelation_between(void) { return satmegwo_autocorrelation_between(8, 32, rows, 256, 32, 4294967000u, 4294967295u, part, 4); }
+static uint32_t distance_between(void) { return satmegwo_dynamic_distance_between(8, 32, rows, 256, 32, 8, 4294967000u, 4294967295u, part, 4); }
+static uint32_t sum_between(void) { return satmegwo_sum_nonlinearity_between(4, 8, 32, rows, 256, 8, 32, rows, 256, 8, 32, rows, 256, 8, 32, rows, 256, 32, 4294967000u, 4294967295u, part, 8); }
+static uint32_t merge_least(void) { return satmegwo_merge_least(part, 8, other_part, 8, merged_part, 8); }
+static uint32_t merge_largest(void) { return satmegwo_merge_largest(part, 8, other_part, 8, merged_part, 8); }
+
 static uint32_t add_record(void) { return satmegwo_add_record(catalogue, 65535, file, 1026, figures, 1); }
 static uint32_t check_catalogue(void) { return satmegwo_check_catalogue(catalogue, 65535, figures, 1); }
 static uint32_t fetch_record(void) { return satmegwo_fetch_record(catalogue, 65535, 1, figures, 2); }
@@ -74,6 +83,9 @@ static const struct measured calls[] = {
     {"complete", complete}, {"bijective", bijective}, {"enlarge_column", enlarge_column}, {"enlarge_box", enlarge_box},
     {"bent_function", bent_function}, {"check_box", check_box}, {"write_box", write_box}, {"read_box", read_box}, {"sheet", sheet},
     {"version", version}, {"sum_nonlinearity", sum},
+    {"nonlinearity_between", nonlinearity_between}, {"autocorrelation_between", autocorrelation_between},
+    {"dynamic_distance_between", distance_between}, {"sum_nonlinearity_between", sum_between},
+    {"merge_least", merge_least}, {"merge_largest", merge_largest},
     {"add_record", add_record}, {"add_record", add_record},
     {"check_catalogue", check_catalogue}, {"fetch_record", fetch_record}, {"remove_record", remove_record},
     {"compact_catalogue", compact_catalogue},
@@ -148,7 +160,7 @@ static int within(uint8_t *stack, const struct measured *calls, size_t count, si
             printf("%s could not be run\n", calls[i].name);
             return 0;
         }
-        printf("%-20s %zu\n", calls[i].name, bytes);
+        printf("%-24s %zu\n", calls[i].name, bytes);
         if (largest < bytes) {
             largest = bytes;
             which = i;

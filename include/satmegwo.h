@@ -18,9 +18,10 @@
  * THE LIMIT. A combination within the limit i, from 1 to m, is one of at most i outputs:
  * c has 1 to i ones. With i = m these are all. A call over combinations visits each of
  * those within its limit: 41,448 at 32 outputs with i = 4, and 4,294,967,295 with i = 32.
- * It takes 0.3 to 0.5 microseconds for each at 8 inputs, so 21 to 36 minutes for the last
- * (autocorrelation and dynamic distance twice that, the degree far less), and cannot be
- * stopped. With i below m a combination of more outputs may be nearer: the nonlinearity
+ * The nonlinearity takes some 0.1 microseconds for each at 8 inputs, so 7 to 10 minutes
+ * for the last; autocorrelation and dynamic distance take six times that, the degree far
+ * less. A call cannot be stopped: satmegwo_parts.h has the same over a part of the
+ * combinations. With i below m a combination of more outputs may be nearer: the nonlinearity
  * and the degree over all are at most those within i, autocorrelation and dynamic
  * distance at least.
  *
@@ -124,7 +125,7 @@ enum satmegwo_refusal {
 
 /* STACK. No proof speaks of the machine's stack. Measured on x86-64 (examples/stack.c, at
  * the widest boxes), no call needs more than this many bytes of it. */
-#define SATMEGWO_STACK 40000u
+#define SATMEGWO_STACK 48000u
 
 /* What is looked at while a program is compiled, from C11 and C++11 on. */
 #if defined(__STDC_VERSION__) && __STDC_VERSION__ >= 201112L

@@ -1,10 +1,10 @@
-//! Finds the three archives of the proved library: in the directory that the environment variable
+//! Finds the four archives of the proved library: in the directory that the environment variable
 //! SATMEGWO_STATICLIB names, or else in target/staticlib of the repository that this package lies in.
 use std::env;
 use std::path::{Path, PathBuf};
 use std::process::ExitCode;
 
-const ARCHIVES: [&str; 3] = ["libsatmegwo.a", "libsatmegwo_design.a", "libsatmegwo_server.a"];
+const ARCHIVES: [&str; 4] = ["libsatmegwo.a", "libsatmegwo_parts.a", "libsatmegwo_design.a", "libsatmegwo_server.a"];
 
 fn main() -> ExitCode {
     println!("cargo:rerun-if-env-changed=SATMEGWO_STATICLIB");

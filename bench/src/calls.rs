@@ -72,6 +72,7 @@ impl Measure {
 }
 
 pub const NONLINEARITY: Measure = Measure { library: library_nonlinearity, second: second_nonlinearity, peer: peer_nonlinearity };
+pub const NONLINEARITY_PART: Measure = Measure { library: library_part, ..NONLINEARITY };
 pub const NONLINEARITY_16: Measure = Measure { second: second_nonlinearity_16, ..NONLINEARITY };
 pub const CELL: Measure = Measure { library: library_cell, second: second_cell, peer: peer_cell };
 pub const AUTOCORRELATION: Measure =
@@ -91,6 +92,14 @@ fn accepted(refusal: u32) {
 
 pub fn library_nonlinearity(job: &Job, figures: &mut Figures) {
     accepted(library::nonlinearity(job.n, job.m, first_box(job), job.i, &mut figures[..4]));
+}
+
+/// The nonlinearity as one part, from combination 1 to 2^m - 1.
+fn library_part(job: &Job, figures: &mut Figures) {
+    let mut part = [0; 5];
+    accepted(library::nonlinearity_between(job.n, job.m, first_box(job), job.i, 1, u32::MAX >> (32 - job.m), &mut part));
+    assert_eq!(part[0], 1, "there are combinations within every limit");
+    figures[..4].copy_from_slice(&part[1..]);
 }
 
 fn library_cell(job: &Job, figures: &mut Figures) {

@@ -1,6 +1,7 @@
 //! The figures of random boxes of a few sizes, and of boxes that are chosen for a figure.
-use crate::calls::{Job, AUTOCORRELATION, CELL, DEGREE, DEGREE_SOLVED, DISTANCE, NONLINEARITY, NONLINEARITY_16, SHEET, SUM};
-use crate::rows::{Row, Rows};
+use crate::calls::{library_nonlinearity, Job, AUTOCORRELATION, CELL, DEGREE, DEGREE_SOLVED, DISTANCE};
+use crate::calls::{NONLINEARITY, NONLINEARITY_16, NONLINEARITY_PART, SHEET, SUM};
+use crate::rows::{Other, Row, Rows};
 use crate::table::Bar;
 use second_model::boxes::{affine_columns, random_rows};
 use second_model::random::Random;
@@ -30,6 +31,8 @@ fn random_boxes(n: u32, m: u32, boxes: usize, random: &mut Random) -> Vec<Job> {
 
 fn of_random_boxes(jobs: &[Job], rows: &Rows) -> Result<(), String> {
     rows.measure(&NONLINEARITY.row("nonlinearity", jobs))?;
+    let plain = Other { name: "nonlinearity", call: &library_nonlinearity, same: true };
+    rows.measure(&Row { other: Some(plain), ..NONLINEARITY_PART.row("nonlinearity, as one part", jobs) })?;
     rows.measure(&NONLINEARITY_16.row("nonlinearity, second in 16 bits", jobs))?;
     let bar = (jobs[0].n == 8).then_some(Bar::Peer(1.15));
     rows.measure(&Row { bar, ..CELL.row("XOR cell", jobs) })?;

@@ -34,6 +34,7 @@ from .keeping import Catalogue, Design, Record, Server
 from .library import MissingLibrary, version
 from .reading import Unreadable
 from .refusals import Refusal
+from .states import UnusableState
 
 __version__ = "1.0.0"
 __all__ = [
@@ -60,6 +61,7 @@ __all__ = [
     "SumPair",
     "Swap",
     "Unreadable",
+    "UnusableState",
     "bent_function",
     "enlarge_column",
     "inverse_spectrum",

@@ -2,7 +2,9 @@
 from __future__ import annotations
 
 import operator
+import os
 import pathlib
+from concurrent.futures import Executor
 from typing import TYPE_CHECKING, Any, Iterable, NamedTuple, Optional, SupportsIndex, Union
 
 from . import functions, reading
@@ -10,7 +12,6 @@ from .library import (
     BYTES,
     CELLS,
     COUNTS,
-    MOST_BOXES,
     MOST_CELLS,
     SHEET_BYTES,
     SIGNED,
@@ -22,6 +23,7 @@ from .library import (
     room,
 )
 from .refusals import Refusal
+from .sweeping import Question, Told, swept
 
 if TYPE_CHECKING:
     from .explaining import Explanation
@@ -255,6 +257,10 @@ class Box:
     def __hash__(self) -> int:
         return hash((self._n, self._m, self._rows))
 
+    def __reduce__(self) -> tuple[Any, ...]:
+        """What pickle keeps, so that a box can be handed to another process."""
+        return Box, (self._rows, self._n, self._m, self.name)
+
     def __repr__(self) -> str:
         return f"Box([{', '.join(map(str, self._rows))}], n={self._n}, m={self._m})"
 
@@ -293,11 +299,28 @@ class Box:
         """The linear approximation values of combination c, for w from 0: the inputs where it equals w·x, less 2^(n-1)."""
         return list(self._write("component_spectrum", room(SIGNED, 2**self._n), number(c)))
 
-    def nonlinearity(self, i: Optional[SupportsIndex] = None) -> Nonlinearity:
-        """The nonlinearity over the combinations of at most i outputs; without i with the sheet's limit."""
+    def nonlinearity(
+        self,
+        i: Optional[SupportsIndex] = None,
+        *,
+        executor: Optional[Executor] = None,
+        progress: Union[None, bool, Told] = None,
+        state: Union[None, str, os.PathLike[str]] = None,
+        workers: Optional[int] = None,
+    ) -> Nonlinearity:
+        """The nonlinearity over the combinations of at most i outputs; without i with the sheet's limit.
+
+        Where there are many combinations they are swept in parts of about a second, and Ctrl-C is heard: on all cores, or on `workers`
+        threads, or by any `executor` of concurrent.futures, of processes or of a cluster. `progress` is True for a line on standard error,
+        or is called with the number done, the number of all, the best so far and the seconds left. `state` names a file that keeps what
+        was done, from which the same call goes on.
+        """
         limit = self._limit(i)
-        figure, *witness = self._write("nonlinearity", room(WORDS, 4), limit)
-        return Nonlinearity(figure, Pair(*witness), limit)
+
+        def shown(figure: int, *witness: int) -> Nonlinearity:
+            return Nonlinearity(figure, Pair(*witness), limit)
+
+        return swept(Question("nonlinearity", (self,), limit), shown, executor, progress, state, workers)
 
     def nearest_pairs(self, i: Optional[SupportsIndex] = None, most: Optional[int] = None) -> list[Pair]:
         """All pairs that reach the nonlinearity within the limit, in their order: fewest outputs, c, w, b.
@@ -347,17 +370,40 @@ class Box:
 
     # ---- autocorrelation and dynamic distance
 
-    def autocorrelation(self, i: Optional[SupportsIndex] = None) -> Autocorrelation:
-        """The autocorrelation over the combinations of at most i outputs; without i with the sheet's limit."""
+    def autocorrelation(
+        self,
+        i: Optional[SupportsIndex] = None,
+        *,
+        executor: Optional[Executor] = None,
+        progress: Union[None, bool, Told] = None,
+        state: Union[None, str, os.PathLike[str]] = None,
+        workers: Optional[int] = None,
+    ) -> Autocorrelation:
+        """The autocorrelation over the combinations of at most i outputs; without i with the sheet's limit. In parts as `nonlinearity`."""
         limit = self._limit(i)
-        figure, *witness = self._write("autocorrelation", room(WORDS, 3), limit)
-        return Autocorrelation(figure, Shift(*witness), limit)
 
-    def dynamic_distance(self, i: SupportsIndex, j: SupportsIndex) -> Distance:
-        """The dynamic distance of order (i, j), doubled: at most i outputs, at most j flipped inputs."""
+        def shown(figure: int, *witness: int) -> Autocorrelation:
+            return Autocorrelation(figure, Shift(*witness), limit)
+
+        return swept(Question("autocorrelation", (self,), limit), shown, executor, progress, state, workers)
+
+    def dynamic_distance(
+        self,
+        i: SupportsIndex,
+        j: SupportsIndex,
+        *,
+        executor: Optional[Executor] = None,
+        progress: Union[None, bool, Told] = None,
+        state: Union[None, str, os.PathLike[str]] = None,
+        workers: Optional[int] = None,
+    ) -> Distance:
+        """The dynamic distance of order (i, j), doubled: at most i outputs, at most j flipped inputs. In parts as `nonlinearity`."""
         limit, flips = number(i), number(j)
-        figure, *witness = self._write("dynamic_distance", room(WORDS, 3), limit, flips)
-        return Distance(figure, Change(*witness), limit, flips)
+
+        def shown(figure: int, *witness: int) -> Distance:
+            return Distance(figure, Change(*witness), limit, flips)
+
+        return swept(Question("distance", (self,), limit, flips), shown, executor, progress, state, workers)
 
     def sac(self) -> Distance:
         """The dynamic distance of order (1, 1): 0 exactly where the strict avalanche criterion holds."""
@@ -419,13 +465,23 @@ def sheet(data: bytes) -> str:
     return bytes(text[: length[0]]).decode("ascii")
 
 
-def sum_nonlinearity(boxes: Iterable[Box], i: Optional[SupportsIndex] = None) -> SumNonlinearity:
-    """The nonlinearity of one to four boxes added by XOR, each fed by its own input bits, box 1 by the lowest."""
-    boxes = list(boxes)
+def sum_nonlinearity(
+    boxes: Iterable[Box],
+    i: Optional[SupportsIndex] = None,
+    *,
+    executor: Optional[Executor] = None,
+    progress: Union[None, bool, Told] = None,
+    state: Union[None, str, os.PathLike[str]] = None,
+    workers: Optional[int] = None,
+) -> SumNonlinearity:
+    """The nonlinearity of one to four boxes added by XOR, each fed by its own input bits, box 1 by the lowest.
+
+    In parts as `Box.nonlinearity`.
+    """
+    boxes = tuple(boxes)
     limit = number(boxes[0].limit if boxes and i is None else i or 0)
-    arguments = [argument for box in boxes[:MOST_BOXES] for argument in box.arguments()]
-    arguments += (MOST_BOXES - len(boxes[:MOST_BOXES])) * [0, 0, room(WORDS, 0)]
-    figures = room(WORDS, 3 + len(boxes))
-    call("sum_nonlinearity", len(boxes), *arguments, limit, figures)
-    figure, c, *masks, b = figures
-    return SumNonlinearity(figure, SumPair(c, tuple(masks), b), limit)
+
+    def shown(figure: int, c: int, *masks_and_b: int) -> SumNonlinearity:
+        return SumNonlinearity(figure, SumPair(c, masks_and_b[:-1], masks_and_b[-1]), limit)
+
+    return swept(Question("sum", boxes, limit), shown, executor, progress, state, workers)

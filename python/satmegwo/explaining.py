@@ -191,14 +191,20 @@ def within(limit: int, m: int) -> str:
     )
 
 
-def over_all(kind: str, figure: int, limit: int, m: int, name: str) -> list[str]:
-    """With a limit below m: on which side of the figure that over all combinations lies."""
+# Why a figure within a limit is not enough: what examples/cast-s2.sheet and examples/cast-s2.whole have.
+CAST = "of the box S2 of CAST-128 the nonlinearity is 88 within four outputs, and 74 over all"
+
+
+def over_all(kind: str, figure: int, limit: int, m: int, name: str, command: str = "sheet FILE --limit all") -> list[str]:
+    """With a limit below m: on which side of the figure that over all combinations lies, and which command counts it."""
     if limit == m:
         return []
     side = "at most" if kind in ("nonlinearity", "degree") else "at least"
     return [
         f"Combinations of more than {limit} of the {m} outputs are not looked at here: over all combinations the {name} is {side} {figure}"
-        f" (proved: {theorems.LIMITS[kind]})."
+        f" (proved: {theorems.LIMITS[kind]}).",
+        f"The command {command} counts it over all {2**m - 1:,} combinations"
+        + (f", and that can matter: {CAST}." if kind == "nonlinearity" else "."),
     ]
 
 
@@ -333,7 +339,14 @@ def distance(box: Box, i: int, j: int) -> Explanation:
             f"f changes at {inputs(len(changing))}; half of all inputs are {half}, and the distance from them is {figure}.",
             f"That no {within(limit, box.m)} under {flipped} is further from half is proved ({theorems.BOUNDS['distance']}).",
             *verdict,
-            *over_all("distance", figure, limit, box.m, f"dynamic distance of order ({box.m}, {flips})"),
+            *over_all(
+                "distance",
+                figure,
+                limit,
+                box.m,
+                f"dynamic distance of order ({box.m}, {flips})",
+                f"distance FILE --order all,{flips}",
+            ),
         ],
     )
 

@@ -134,6 +134,12 @@ EXPORTS: dict[str, tuple[str, list[str]]] = {
     "server_step": (SERVER, [SERVER]),
     "server_run": (SERVER, [SERVER, NUMBER]),
     "server_ask": (NUMBER, [SERVER, NUMBER, WORDS]),
+    "nonlinearity_between": (NUMBER, BOX + [NUMBER, NUMBER, NUMBER, WORDS]),
+    "autocorrelation_between": (NUMBER, BOX + [NUMBER, NUMBER, NUMBER, WORDS]),
+    "dynamic_distance_between": (NUMBER, BOX + [NUMBER, NUMBER, NUMBER, NUMBER, WORDS]),
+    "sum_nonlinearity_between": (NUMBER, [NUMBER] + 4 * BOX + [NUMBER, NUMBER, NUMBER, WORDS]),
+    "merge_least": (NUMBER, [READ_WORDS, READ_WORDS, WORDS]),
+    "merge_largest": (NUMBER, [READ_WORDS, READ_WORDS, WORDS]),
 }
 ELEMENTS: dict[str, Any] = {
     BYTES: ctypes.c_uint8,

@@ -82,9 +82,12 @@ class Explained(unittest.TestCase):
                 f"over all combinations the {figure} is {side} {number} (proved: {theorem}).", str(explanation)
             )
             self.assertIn(f"{side} {number}", explanation.html())
+            self.assertIn("The command sheet FILE --limit all counts it over all 1,048,575 combinations", str(explanation))
+            self.assertEqual("88 within four outputs, and 74 over all." in str(explanation), figure == "nonlinearity")
             self.assertNotIn("over all combinations", str(example("aes").explain(figure)))
         self.assertIn("over all combinations the nonlinearity is at most 2", str(EXAMPLE.explain("nonlinearity", i=2)))
         self.assertIn("dynamic distance of order (3, 1) is at least 0", str(EXAMPLE.explain("sac")))
+        self.assertIn("distance FILE --order all,1 counts it over all 7 combinations.", str(EXAMPLE.explain("sac")))
 
     def test_refused_and_unknown(self):
         with self.assertRaises(Refusal):

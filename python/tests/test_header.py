@@ -8,7 +8,7 @@ from satmegwo import __version__, library, refusals
 
 from .places import PACKAGE, ROOT
 
-HEADERS = [ROOT / "include" / name for name in ("satmegwo.h", "satmegwo_design.h", "satmegwo_server.h")]
+HEADERS = [ROOT / "include" / name for name in ("satmegwo.h", "satmegwo_design.h", "satmegwo_server.h", "satmegwo_parts.h")]
 COMMENTED = "".join(path.read_text(encoding="utf-8") for path in HEADERS)
 TEXT = re.sub(r"/\*.*?\*/", "", COMMENTED, flags=re.DOTALL)
 PROTOTYPE = re.compile(r"^(\w+) satmegwo_(\w+)\(([^;{)]*)\);", re.MULTILINE)
@@ -54,7 +54,7 @@ class Headers(unittest.TestCase):
 
     def test_every_prototype(self):
         declared = {name: (result, kinds(arguments)) for result, name, arguments in PROTOTYPE.findall(TEXT)}
-        self.assertGreaterEqual(len(declared), 44)
+        self.assertGreaterEqual(len(declared), 50)
         self.assertEqual(declared, library.EXPORTS)
 
     def test_every_struct(self):

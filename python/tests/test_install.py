@@ -20,15 +20,18 @@ from satmegwo import (
     progress,
     reading,
     refusals,
+    states,
     svg,
+    sweeping,
     theorems,
+    writing,
 )
 
 from .places import PACKAGE, ROOT
 
 MODULES = (
     satmegwo.box, command, definitions, explaining, functions, satmegwo.keeping, library, page, pictures, progress, reading,
-    refusals, svg, theorems,
+    refusals, states, svg, sweeping, theorems, writing,
 )  # fmt: skip
 
 

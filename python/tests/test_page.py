@@ -115,6 +115,7 @@ class Page(unittest.TestCase):
                 self.assertEqual(fields, lines[sentence.word][: len(fields)])
                 if sentence.word in theorems.LIMITS:
                     self.assertEqual("over all combinations" in sentence.says, box.m > 16)
+                    self.assertEqual("The command sheet FILE --limit all counts it" in sentence.says, box.m > 16)
                     self.assertEqual("of at most 4 outputs" in sentence.says, box.m > 16)
 
     def test_many_outputs(self):

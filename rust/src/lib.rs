@@ -21,7 +21,9 @@
 //! [`Server`]) a method names the refusals that are left.
 //!
 //! Calls share nothing: several may run at once, in any threads. A call cannot be stopped; one over
-//! combinations takes about half a microsecond for each at 8 inputs.
+//! combinations takes about a tenth of a microsecond for each at 8 inputs. A long sweep is asked for in parts
+//! ([`Sbox::nonlinearity_between`]), in as many threads as there are cores, and what they find is
+//! [`merged`].
 //!
 //! The archives of the library must have been built: `make` in the root of its repository does it. They
 //! are looked for in `target/staticlib` there, or where the environment variable `SATMEGWO_STATICLIB`
@@ -31,6 +33,7 @@ mod catalogue;
 mod design;
 mod figures;
 mod lists;
+mod parts;
 pub mod raw;
 mod refusal;
 mod sbox;
@@ -42,6 +45,7 @@ pub use catalogue::Catalogue;
 pub use design::Design;
 pub use figures::{Autocorrelation, Degree, DynamicDistance, LargestCell, Nonlinearity, RaisingSwap, SumNonlinearity};
 pub use lists::{Cell, Cells, List, NearestPairs, Pair};
+pub use parts::{merged, sum_nonlinearity_between, Part};
 pub use refusal::Refusal;
 pub use sbox::{sheet_of_file, sum_nonlinearity, Sbox};
 pub use server::Server;

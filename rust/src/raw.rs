@@ -1,8 +1,9 @@
 //! The library's calls as the headers declare them, and nothing else: pointers, lengths and structs.
 //!
 //! What each of them reads and writes, and which refusals it gives, stands in `include/satmegwo.h`,
-//! `include/satmegwo_design.h` and `include/satmegwo_server.h`. [`crate::slices`] has the same calls
-//! without pointers, and [`crate::Sbox`] and its neighbours have them with results.
+//! `include/satmegwo_parts.h`, `include/satmegwo_design.h` and `include/satmegwo_server.h`.
+//! [`crate::slices`] has the same calls without pointers, and [`crate::Sbox`] and its neighbours have
+//! them with results.
 //!
 //! # Safety
 //!
@@ -207,6 +208,70 @@ extern "C" {
     pub fn satmegwo_pack_columns(n: u32, m: u32, rows: *const u32, rows_len: usize, packed: *mut u8, packed_len: usize) -> u32;
     pub fn satmegwo_unpack_columns(n: u32, m: u32, packed: *const u8, packed_len: usize, rows: *mut u32, rows_len: usize) -> u32;
     pub fn satmegwo_raising_swap(n: u32, m: u32, rows: *const u32, rows_len: usize, figures: *mut u32, figures_len: usize) -> u32;
+}
+
+#[link(name = "satmegwo_parts", kind = "static")]
+extern "C" {
+    pub fn satmegwo_nonlinearity_between(
+        n: u32,
+        m: u32,
+        rows: *const u32,
+        rows_len: usize,
+        i: u32,
+        first: u32,
+        last: u32,
+        part: *mut u32,
+        part_len: usize,
+    ) -> u32;
+    pub fn satmegwo_autocorrelation_between(
+        n: u32,
+        m: u32,
+        rows: *const u32,
+        rows_len: usize,
+        i: u32,
+        first: u32,
+        last: u32,
+        part: *mut u32,
+        part_len: usize,
+    ) -> u32;
+    pub fn satmegwo_dynamic_distance_between(
+        n: u32,
+        m: u32,
+        rows: *const u32,
+        rows_len: usize,
+        i: u32,
+        j: u32,
+        first: u32,
+        last: u32,
+        part: *mut u32,
+        part_len: usize,
+    ) -> u32;
+    pub fn satmegwo_sum_nonlinearity_between(
+        count: u32,
+        n1: u32,
+        m1: u32,
+        rows1: *const u32,
+        rows1_len: usize,
+        n2: u32,
+        m2: u32,
+        rows2: *const u32,
+        rows2_len: usize,
+        n3: u32,
+        m3: u32,
+        rows3: *const u32,
+        rows3_len: usize,
+        n4: u32,
+        m4: u32,
+        rows4: *const u32,
+        rows4_len: usize,
+        i: u32,
+        first: u32,
+        last: u32,
+        part: *mut u32,
+        part_len: usize,
+    ) -> u32;
+    pub fn satmegwo_merge_least(x: *const u32, x_len: usize, y: *const u32, y_len: usize, merged: *mut u32, merged_len: usize) -> u32;
+    pub fn satmegwo_merge_largest(x: *const u32, x_len: usize, y: *const u32, y_len: usize, merged: *mut u32, merged_len: usize) -> u32;
 }
 
 #[link(name = "satmegwo_design", kind = "static")]

@@ -11,7 +11,8 @@ const SHEET_BYTES: usize = 332;
 ///
 /// Bit 1 is the lowest. Combination c is the parity of the ones in (row AND c). A limit i, from 1 to m,
 /// is the most outputs that a combination may have; with i = m a call goes over all 2^m − 1 of them,
-/// which takes about half a microsecond each at 8 inputs, and cannot be stopped.
+/// which takes about a tenth of a microsecond each at 8 inputs, and cannot be stopped; a long sweep is asked for
+/// in parts ([`Sbox::nonlinearity_between`]).
 ///
 /// ```
 /// use satmegwo::{Nonlinearity, Sbox};

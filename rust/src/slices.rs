@@ -2,8 +2,8 @@
 //! returns 0, or the number of a refusal, and has written to no slice then.
 //!
 //! Nothing is allocated here and every argument may be wrong: this is what C callers have, with the
-//! lifetimes checked. `include/satmegwo.h` says what each reads and writes. [`crate::Sbox`] and its
-//! neighbours have the same calls with results in place of numbers.
+//! lifetimes checked. `include/satmegwo.h` and the headers beside it say what each reads and writes.
+//! [`crate::Sbox`] and its neighbours have the same calls with results in place of numbers.
 //!
 //! ```
 //! let mut figures = [0; 4];
@@ -199,6 +199,48 @@ pub fn unpack_columns(n: u32, m: u32, packed: &[u8], rows: &mut [u32]) -> u32 {
 #[inline]
 pub fn raising_swap(n: u32, m: u32, rows: &[u32], figures: &mut [u32]) -> u32 {
     unsafe { raw::satmegwo_raising_swap(n, m, rows.as_ptr(), rows.len(), figures.as_mut_ptr(), figures.len()) }
+}
+
+#[inline]
+pub fn nonlinearity_between(n: u32, m: u32, rows: &[u32], i: u32, first: u32, last: u32, part: &mut [u32]) -> u32 {
+    unsafe { raw::satmegwo_nonlinearity_between(n, m, rows.as_ptr(), rows.len(), i, first, last, part.as_mut_ptr(), part.len()) }
+}
+
+#[inline]
+pub fn autocorrelation_between(n: u32, m: u32, rows: &[u32], i: u32, first: u32, last: u32, part: &mut [u32]) -> u32 {
+    unsafe { raw::satmegwo_autocorrelation_between(n, m, rows.as_ptr(), rows.len(), i, first, last, part.as_mut_ptr(), part.len()) }
+}
+
+#[inline]
+#[allow(clippy::too_many_arguments)] // those of the call
+pub fn dynamic_distance_between(n: u32, m: u32, rows: &[u32], i: u32, j: u32, first: u32, last: u32, part: &mut [u32]) -> u32 {
+    unsafe { raw::satmegwo_dynamic_distance_between(n, m, rows.as_ptr(), rows.len(), i, j, first, last, part.as_mut_ptr(), part.len()) }
+}
+
+#[inline]
+#[rustfmt::skip]
+pub fn sum_nonlinearity_between(count: u32, boxes: [BoxLent; 4], i: u32, first: u32, last: u32, part: &mut [u32]) -> u32 {
+    let [(n1, m1, rows1), (n2, m2, rows2), (n3, m3, rows3), (n4, m4, rows4)] = boxes;
+    unsafe {
+        raw::satmegwo_sum_nonlinearity_between(
+            count,
+            n1, m1, rows1.as_ptr(), rows1.len(),
+            n2, m2, rows2.as_ptr(), rows2.len(),
+            n3, m3, rows3.as_ptr(), rows3.len(),
+            n4, m4, rows4.as_ptr(), rows4.len(),
+            i, first, last, part.as_mut_ptr(), part.len(),
+        )
+    }
+}
+
+#[inline]
+pub fn merge_least(x: &[u32], y: &[u32], merged: &mut [u32]) -> u32 {
+    unsafe { raw::satmegwo_merge_least(x.as_ptr(), x.len(), y.as_ptr(), y.len(), merged.as_mut_ptr(), merged.len()) }
+}
+
+#[inline]
+pub fn merge_largest(x: &[u32], y: &[u32], merged: &mut [u32]) -> u32 {
+    unsafe { raw::satmegwo_merge_largest(x.as_ptr(), x.len(), y.as_ptr(), y.len(), merged.as_mut_ptr(), merged.len()) }
 }
 
 /// The calls on a design, which goes in by value and comes out beside 0 or the number of a refusal.

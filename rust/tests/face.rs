@@ -1,6 +1,7 @@
 //! The crate on the stored boxes of examples/, and its refusals. (The figures themselves are compared with
 //! the second program in tests/, call by call; here it is what the types make of them.)
-use satmegwo::{sheet_of_file, sum_nonlinearity, Catalogue, Design, Pair, Refusal, Sbox, Server, TruthTable};
+use satmegwo::{merged, sheet_of_file, sum_nonlinearity, sum_nonlinearity_between};
+use satmegwo::{Catalogue, Design, Pair, Part, Refusal, Sbox, Server, TruthTable};
 use std::fs;
 use std::path::{Path, PathBuf};
 
@@ -202,6 +203,51 @@ fn designs_and_servers_own_their_value() {
     for (place, sbox) in (1..).zip(&boxes) {
         assert_eq!(server.ask(place), sbox.nonlinearity(sbox.outputs()).map(Some));
     }
+}
+
+/// What is found over 1 to 255 in several parts, merged from the last to the first.
+fn in_parts<P: Part>(part: impl Fn(std::ops::RangeInclusive<u32>) -> Result<Option<P>, Refusal>) -> Result<Option<P>, Refusal> {
+    let mut all = None;
+    for k in (0..8).rev() {
+        all = merged(&part(32 * k + 1..=(32 * k + 40).min(255))?, &all)?;
+    }
+    Ok(all)
+}
+
+/// Parts that overlap, and of which some have no combination within a limit, make the plain figures.
+#[test]
+fn parts_make_the_whole() {
+    let (sbox, other) = (stored().into_iter().find(|(path, _)| path.ends_with("aes.box")).unwrap().1, Sbox::new(1, 8, [77, 200]).unwrap());
+    for i in [1, 2, 8] {
+        assert_eq!(in_parts(|part| sbox.nonlinearity_between(i, part)), sbox.nonlinearity(i).map(Some));
+        assert_eq!(in_parts(|part| sbox.autocorrelation_between(i, part)), sbox.autocorrelation(i).map(Some));
+        assert_eq!(in_parts(|part| sbox.dynamic_distance_between(i, 2, part)), sbox.dynamic_distance(i, 2).map(Some));
+        let boxes = [&sbox, &other];
+        assert_eq!(in_parts(|part| sum_nonlinearity_between(&boxes, i, part)), sum_nonlinearity(&boxes, i).map(Some));
+    }
+    assert_eq!(sbox.autocorrelation_between(1, 255..=255), Ok(None));
+    assert_eq!(sum_nonlinearity_between(&[&sbox], 1, 255..=255), Ok(None));
+}
+
+#[test]
+fn parts_are_refused_and_merged_by_the_library() {
+    let sbox = example();
+    for range in [(0, 1), (1, 8), (8, 8), (5, 4)].map(|(first, last)| first..=last) {
+        assert_eq!(sbox.nonlinearity_between(1, range.clone()), Err(Refusal::Parameter), "{range:?}");
+        assert_eq!(sum_nonlinearity_between(&[&sbox], 1, range), Err(Refusal::Parameter));
+    }
+    assert_eq!(sbox.autocorrelation_between(4, 1..=7), Err(Refusal::Parameter));
+    assert_eq!(sbox.dynamic_distance_between(1, 4, 1..=7), Err(Refusal::Parameter));
+    assert_eq!(sum_nonlinearity_between(&[], 1, 1..=7), Err(Refusal::BoxCount));
+    assert_eq!(sum_nonlinearity_between(&[&sbox; 5], 1, 1..=7), Err(Refusal::BoxCount));
+    // Of equal figures 4 comes before 3: it has fewer ones.
+    let found = |c| Some(satmegwo::Nonlinearity { figure: 2, c, w: 0, b: 0 });
+    assert_eq!([merged(&found(3), &found(4)), merged(&found(4), &found(3))], [Ok(found(4)), Ok(found(4))]);
+    assert_eq!([merged(&None, &found(3)), merged(&found(3), &None)], [Ok(found(3)), Ok(found(3))]);
+    assert_eq!(merged::<satmegwo::Nonlinearity>(&None, &None), Ok(None));
+    let (one, two) = (sum_nonlinearity(&[&sbox], 1).ok(), sum_nonlinearity(&[&sbox; 2], 1).ok());
+    assert_eq!([merged(&one, &two), merged(&two, &one)], [Err(Refusal::ReadLength), Err(Refusal::ReadLength)]);
+    assert_eq!(merged(&None, &two), Ok(two));
 }
 
 /// Calls share nothing: the same from many threads at once.

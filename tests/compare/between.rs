@@ -1,10 +1,11 @@
 //! Figures over parts of the combinations: parts of every kind, cuttings merged in any order against the
-//! plain calls, and every refusal. The library's calls are handed in.
+//! plain calls, the merging of two parts, and every refusal. The library's calls are handed in, so that the
+//! tests below can hand in others.
 use crate::calls::Run;
 use crate::lent::Kept;
 use crate::rounds::four_of;
 use satmegwo::slices::{self as library, BoxLent};
-use second_model::between::{self, cut, gathered, written, Better, Ends, Part};
+use second_model::between::{self, cut, written, Better, Ends, Part};
 use second_model::boxes::{self, KINDS};
 use second_model::combinations::quick_limit;
 use second_model::model::{all_outputs, Answer};
@@ -19,17 +20,31 @@ type DistancePart = fn(u32, u32, &[u32], u32, u32, u32, u32, &mut [u32]) -> u32;
 /// The number of boxes, the boxes, i, first, last, and the array for the figures.
 type SumPart = fn(u32, [BoxLent; MOST], u32, u32, u32, &mut [u32]) -> u32;
 
-/// The library's calls over parts.
+/// Two parts, and the array for what they make.
+type Merge = fn(&[u32], &[u32], &mut [u32]) -> u32;
+
+/// The calls over parts.
 pub struct Calls {
     pub nonlinearity: LimitedPart,
     pub autocorrelation: LimitedPart,
     pub dynamic_distance: DistancePart,
     pub sum_nonlinearity: SumPart,
+    pub merge_least: Merge,
+    pub merge_largest: Merge,
 }
+
+pub const LIBRARY: Calls = Calls {
+    nonlinearity: library::nonlinearity_between,
+    autocorrelation: library::autocorrelation_between,
+    dynamic_distance: library::dynamic_distance_between,
+    sum_nonlinearity: library::sum_nonlinearity_between,
+    merge_least: library::merge_least,
+    merge_largest: library::merge_largest,
+};
 
 /// A figure of one box, with j where there is one.
 #[derive(Clone, Copy, Debug, PartialEq)]
-enum Figure {
+pub enum Figure {
     Nonlinearity,
     Autocorrelation,
     Distance(u32),
@@ -45,7 +60,7 @@ impl Figure {
     }
 
     /// How many figures there are behind the 1.
-    fn figures(self) -> usize {
+    pub fn figures(self) -> usize {
         if self == Figure::Nonlinearity {
             4
         } else {
@@ -53,7 +68,7 @@ impl Figure {
         }
     }
 
-    fn better(self) -> Better {
+    pub fn better(self) -> Better {
         if self == Figure::Nonlinearity {
             Better::Less
         } else {
@@ -76,16 +91,16 @@ fn told(written: Option<Vec<u32>>) -> Part {
 }
 
 /// A box that parts are asked of.
-struct Asked<'a> {
-    calls: &'a Calls,
-    n: u32,
-    m: u32,
-    rows: Vec<u32>,
+pub struct Asked<'a> {
+    pub calls: &'a Calls,
+    pub n: u32,
+    pub m: u32,
+    pub rows: Vec<u32>,
 }
 
 impl Asked<'_> {
     /// One part, of the library and of the model, compared. Gives what the library says of it.
-    fn part(&self, run: &mut Run, figure: Figure, i: u32, ends: Ends, figures_len: usize) -> Part {
+    pub fn part(&self, run: &mut Run, figure: Figure, i: u32, ends: Ends, figures_len: usize) -> Part {
         let Asked { calls, n, m, ref rows } = *self;
         run.calling(figure.name());
         let (read, mut figures) = (run.copy(rows), run.lend(figures_len));
@@ -112,21 +127,50 @@ impl Asked<'_> {
     fn makes_the_whole(&self, run: &mut Run, figure: Figure, i: u32) {
         let Asked { n, m, ref rows, .. } = *self;
         let parts = cut(m, &mut run.random);
-        let found: Vec<Answer<Part>> = parts.iter().map(|&ends| Ok(self.part(run, figure, i, ends, 1 + figure.figures()))).collect();
+        let found: Vec<Part> = parts.iter().map(|&ends| self.part(run, figure, i, ends, 1 + figure.figures())).collect();
         let mut whole = vec![0; figure.figures()];
         let code = match figure {
             Figure::Nonlinearity => library::nonlinearity(n, m, rows, i, &mut whole),
             Figure::Autocorrelation => library::autocorrelation(n, m, rows, i, &mut whole),
             Figure::Distance(j) => library::dynamic_distance(n, m, rows, i, j, &mut whole),
         };
-        let merged = gathered(figure.better(), found);
-        run.law("parts make the whole", code == 0 && merged == Ok(Some(whole.clone())), || {
+        let merged = merged_in_any_order(run, self.calls, figure.better(), figure.figures(), &found);
+        run.law("parts make the whole", code == 0 && merged.as_ref() == Some(&whole), || {
             format!("{figure:?} in the parts {parts:?}: {merged:?}, and whole {whole:?}, n = {n}, m = {m}, i = {i}, rows = {rows:?}")
         });
     }
 }
 
-pub fn all(run: &mut Run, calls: &Calls) {
+/// Two parts merged, by the library and by the model, compared. Gives what the library wrote.
+fn merge(run: &mut Run, calls: &Calls, better: Better, x: &[u32], y: &[u32], merged_len: usize) -> Option<Vec<u32>> {
+    let (name, call) = match better {
+        Better::Less => ("merge_least", calls.merge_least),
+        Better::Larger => ("merge_largest", calls.merge_largest),
+    };
+    run.calling(name);
+    let (one, other, mut both) = (run.copy(x), run.copy(y), run.lend(merged_len));
+    let code = call(one.content(), other.content(), both.part());
+    let wanted = between::merged_arrays(better, x, y, merged_len);
+    run.judge(code, &[&one, &other], &both, &wanted, || format!("{better:?}, x = {x:?}, y = {y:?}, merged_len = {merged_len}"))
+}
+
+/// The parts merged by the library, two at a time, whichever two, one of them perhaps twice.
+fn merged_in_any_order(run: &mut Run, calls: &Calls, better: Better, figures: usize, found: &[Part]) -> Part {
+    let mut left: Vec<Vec<u32>> = found.iter().map(|part| written(part, figures)).collect();
+    left.push(run.random.pick(&left.iter().collect::<Vec<_>>()).clone());
+    while left.len() > 1 {
+        run.random.shuffle(&mut left);
+        let (x, y) = (left.pop().expect("there are two"), left.pop().expect("there are two"));
+        left.push(merge(run, calls, better, &x, &y, 1 + figures)?);
+    }
+    told(left.pop())
+}
+
+pub fn all(run: &mut Run) {
+    with(run, &LIBRARY);
+}
+
+fn with(run: &mut Run, calls: &Calls) {
     every_part_of_few_outputs(run, calls);
     around_what_decides(run, calls);
     low_limits_of_many_outputs(run, calls);
@@ -134,6 +178,8 @@ pub fn all(run: &mut Run, calls: &Calls) {
     refusals(run, calls);
     sums(run, calls);
     refused_sums(run, calls);
+    mergings(run, calls);
+    refused_mergings(run, calls);
 }
 
 /// Every part at every limit of boxes of up to four outputs.
@@ -232,7 +278,7 @@ fn refusals(run: &mut Run, calls: &Calls) {
 }
 
 /// One part of a sum, compared.
-fn sum(run: &mut Run, calls: &Calls, number: u32, four: &[Summand; MOST], i: u32, ends: Ends, figures_len: usize) -> Part {
+pub fn sum(run: &mut Run, calls: &Calls, number: u32, four: &[Summand; MOST], i: u32, ends: Ends, figures_len: usize) -> Part {
     run.calling("sum_nonlinearity_between");
     let read = four.each_ref().map(|one| run.copy(&one.rows));
     let mut figures = run.lend(figures_len);
@@ -264,11 +310,11 @@ fn sums(run: &mut Run, calls: &Calls) {
         }
         let i = run.random.between(1, quick_limit(8, m));
         let parts = cut(m, &mut run.random);
-        let found: Vec<Answer<Part>> = parts.iter().map(|&ends| Ok(sum(run, calls, number as u32, &four, i, ends, 4 + number))).collect();
-        let (merged, mut whole) = (gathered(Better::Less, found), vec![0; 3 + number]);
+        let found: Vec<Part> = parts.iter().map(|&ends| sum(run, calls, number as u32, &four, i, ends, 4 + number)).collect();
+        let (merged, mut whole) = (merged_in_any_order(run, calls, Better::Less, 3 + number, &found), vec![0; 3 + number]);
         let lent = four.each_ref().map(|one| (one.n, one.m, &one.rows[..]));
         let code = library::sum_nonlinearity(number as u32, lent, i, &mut whole);
-        run.law("parts of a sum make the whole", code == 0 && merged == Ok(Some(whole.clone())), || {
+        run.law("parts of a sum make the whole", code == 0 && merged.as_ref() == Some(&whole), || {
             format!("{parts:?}: {merged:?}, and whole {whole:?}, i = {i}, {read:?}")
         });
     }
@@ -294,12 +340,68 @@ fn refused_sums(run: &mut Run, calls: &Calls) {
     }
 }
 
+const BOTH: [Better; 2] = [Better::Less, Better::Larger];
+
+/// Figures that are near each other or far apart, combinations with as many ones or more, and flags 0,
+/// behind which anything may stand.
+fn mergings(run: &mut Run, calls: &Calls) {
+    for (better, len) in BOTH.into_iter().flat_map(|better| (3..=9).map(move |len| (better, len))) {
+        for _ in 0..60 {
+            let mut part = || {
+                let mut array: Vec<u32> = (0..len).map(|_| run.random.draw() as u32).collect();
+                array[0] = run.random.pick(&[0, 1, 1, 1]);
+                array[1] = run.random.pick(&[0, 1, 1, 2, u32::MAX - 1, u32::MAX]);
+                array[2] = run.random.pick(&[1, 3, 4, 5, 6, 7, 8, 0x8000_0000, 0x7fff_ffff, u32::MAX]);
+                array
+            };
+            let (x, y) = (part(), part());
+            merge(run, calls, better, &x, &y, len);
+        }
+    }
+}
+
+/// 3, 3, 4, 4, 7: at first everything is wrong, then one after the other is put right; every length, and
+/// each flag from both sides.
+fn refused_mergings(run: &mut Run, calls: &Calls) {
+    for (better, right) in BOTH.into_iter().flat_map(|better| (0..=5).map(move |right| (better, right))) {
+        let flag = |is_right: bool| if is_right { 1 } else { 2 };
+        let x = [flag(right >= 3), 9, 1, 0];
+        let y = [flag(right >= 4), 9, 2, 0];
+        let x = if right >= 1 { &x[..] } else { &x[..2] };
+        let y = if right >= 2 { &y[..] } else { &y[..3] };
+        merge(run, calls, better, x, y, if right >= 5 { 4 } else { 5 });
+    }
+    for (better, x, y) in BOTH.into_iter().flat_map(|better| (0..7).flat_map(move |x| (0..7).map(move |y| (better, x, y)))) {
+        for merged_len in [x, y, 0] {
+            let one: Vec<u32> = [1, 5, 3, 0, 0, 0, 0][..x].to_vec();
+            merge(run, calls, better, &one, &[1, 5, 4, 0, 0, 0, 0][..y], merged_len);
+        }
+        for len in [0, x, x + 1, x + 2] {
+            merge(run, calls, better, &vec![1; x + 1], &vec![1; x + 1], len);
+        }
+    }
+    for (better, (x, y)) in BOTH.into_iter().flat_map(|better| flags().map(move |flags| (better, flags))) {
+        merge(run, calls, better, &[x, 7, 3], &[y, 7, 4], 3);
+        merge(run, calls, better, &[x, 7, 3], &[y, 7, 4], 4);
+    }
+}
+
+/// Every pair of these flags.
+fn flags() -> impl Iterator<Item = (u32, u32)> {
+    const FLAGS: [u32; 6] = [0, 1, 2, 256, 65536, u32::MAX];
+    FLAGS.into_iter().flat_map(|x| FLAGS.map(|y| (x, y)))
+}
+
+/// The model in the library's place.
+#[cfg(test)]
+pub const MODEL: Calls = tests::MODEL;
+
 #[cfg(test)]
 mod tests {
     use super::*;
 
     /// The model in the library's place.
-    const MODEL: Calls = Calls {
+    pub const MODEL: Calls = Calls {
         nonlinearity: |n, m, rows, i, first, last, figures| {
             give(between::nonlinearity(n, m, rows, i, (first, last), figures.len()), figures)
         },
@@ -313,21 +415,28 @@ mod tests {
             let four = lent.map(|(n, m, rows)| Summand { n, m, rows: rows.to_vec() });
             give(between::sum_nonlinearity(number, &four, i, (first, last), figures.len()), figures)
         },
+        merge_least: |x, y, merged| take(between::merged_arrays(Better::Less, x, y, merged.len()), merged),
+        merge_largest: |x, y, merged| take(between::merged_arrays(Better::Larger, x, y, merged.len()), merged),
     };
 
-    fn give(reply: Answer<Part>, figures: &mut [u32]) -> u32 {
+    fn take(reply: Answer<Vec<u32>>, array: &mut [u32]) -> u32 {
         match reply {
-            Ok(part) => {
-                figures.copy_from_slice(&written(&part, figures.len() - 1));
+            Ok(content) => {
+                array.copy_from_slice(&content);
                 0
             }
             Err(number) => number,
         }
     }
 
+    fn give(reply: Answer<Part>, figures: &mut [u32]) -> u32 {
+        let room = figures.len().max(1) - 1;
+        take(reply.map(|part| written(&part, room)), figures)
+    }
+
     fn differences(calls: &Calls) -> u64 {
         let mut run = Run::new("a test", 1);
-        all(&mut run, calls);
+        with(&mut run, calls);
         run.tally.differences
     }
 
@@ -384,6 +493,44 @@ mod tests {
             (MODEL.dynamic_distance)(n, m, rows, i, j, first, last, figures)
         };
         assert!(differences(&Calls { dynamic_distance, ..MODEL }) > 0);
+    }
+
+    /// The smaller c is preferred to fewer ones; the second part is dropped; nothing is not neutral.
+    #[test]
+    fn another_merging_is_noticed() {
+        let differences = |calls: &Calls| {
+            let mut run = Run::new("a test", 1);
+            mergings(&mut run, calls);
+            refused_mergings(&mut run, calls);
+            run.tally.differences
+        };
+        assert_eq!(differences(&MODEL), 0);
+        fn worse(x: &[u32], y: &[u32]) -> bool {
+            x[0] == 1 && y[0] == 1 && x[1] == y[1] && x[2] > y[2]
+        }
+        let smaller_first: Merge = |x, y, merged| {
+            let code = (MODEL.merge_least)(x, y, merged);
+            if code == 0 && worse(x, y) {
+                merged.copy_from_slice(y);
+            }
+            code
+        };
+        assert!(differences(&Calls { merge_least: smaller_first, ..MODEL }) > 0);
+        let drops: Merge = |x, y, merged| (MODEL.merge_largest)(x, if y.len() == x.len() && y.first() == Some(&1) { x } else { y }, merged);
+        assert!(differences(&Calls { merge_largest: drops, ..MODEL }) > 0);
+        let nothing_wins: Merge = |x, y, merged| {
+            let code = (MODEL.merge_largest)(x, y, merged);
+            if code == 0 && y[0] == 0 {
+                merged.copy_from_slice(y);
+            }
+            code
+        };
+        assert!(differences(&Calls { merge_largest: nothing_wins, ..MODEL }) > 0);
+        let any_flag: Merge = |x, y, merged| match (MODEL.merge_least)(x, y, merged) {
+            4 => (MODEL.merge_least)(x, x, merged),
+            code => code,
+        };
+        assert!(differences(&Calls { merge_least: any_flag, ..MODEL }) > 0);
     }
 
     #[test]

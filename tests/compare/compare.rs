@@ -1,7 +1,9 @@
 //! `second compare`: every call of the library against the model.
 use crate::calls::{Run, AUTOCORRELATION, DEGREE, FIGURE_CALLS, LIMITED_CALLS, NONLINEARITY};
 use crate::parts::Work;
-use crate::{additions, bounds, damage, far, limits, maximal, meeting, nearest, nowhere, orders, packing, rounds, swaps, written};
+use crate::{
+    additions, between, bounds, damage, far, limits, maximal, meeting, nearest, nowhere, orders, packing, rounds, swaps, whole, written,
+};
 use second_model::boxes::{self, KINDS};
 use second_model::combinations::quick_limit;
 use second_model::model::{self, all_outputs};
@@ -19,6 +21,8 @@ pub const PARTS: &[(&str, Work)] = &[
     ("lists of column additions", &lists_of_additions),
     ("sums of boxes", &rounds::all),
     ("inputs of sums", &rounds::every_number_of_inputs),
+    ("parts of combinations", &between::all),
+    ("figures over all combinations", &whole::all),
     ("packed columns", &packing::all),
     ("nearest pairs", &nearest::all),
     ("raising swaps", &swaps::all),

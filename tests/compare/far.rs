@@ -20,6 +20,7 @@ pub fn all(run: &mut Run) {
         boxes_written_and_sheets(run, more);
         packed_columns(run, more);
         sums(run, more);
+        parts(run, more);
         designs_and_servers(run, more);
         long_lists(run, more);
     }
@@ -187,6 +188,37 @@ fn sums(run: &mut Run, more: usize) {
         rows,
         figures
     );
+}
+
+fn parts(run: &mut Run, more: usize) {
+    let (mut rows, mut five, mut four) = (random_box(run, 3, 5), run.lend::<u32>(5), run.lend::<u32>(4));
+    let (r, f5, f4) = (at(&mut rows), at(&mut five), at(&mut four));
+    refused!(run, "nonlinearity_between", 3, raw::satmegwo_nonlinearity_between(3, 5, r, 8 + more, 5, 1, 31, f5, 5), rows, five);
+    refused!(run, "nonlinearity_between", 7, raw::satmegwo_nonlinearity_between(3, 5, r, 8, 5, 1, 31, f5, 5 + more), rows, five);
+    refused!(run, "autocorrelation_between", 3, raw::satmegwo_autocorrelation_between(3, 5, r, 8 + more, 5, 1, 31, f4, 4), rows, four);
+    refused!(run, "autocorrelation_between", 7, raw::satmegwo_autocorrelation_between(3, 5, r, 8, 5, 1, 31, f4, 4 + more), rows, four);
+    refused!(run, "dynamic_distance_between", 3, raw::satmegwo_dynamic_distance_between(3, 5, r, 8 + more, 5, 3, 1, 31, f4, 4), rows, four);
+    refused!(run, "dynamic_distance_between", 7, raw::satmegwo_dynamic_distance_between(3, 5, r, 8, 5, 3, 1, 31, f4, 4 + more), rows, four);
+    let (mut narrow, mut eight) = (random_box(run, 2, 3), run.lend::<u32>(8));
+    let (b, f8) = (at(&mut narrow), at(&mut eight));
+    for place in 0..5 {
+        let length = |k: usize| if k == place { 4 + more } else { 4 };
+        let part_len = if place == 4 { 8 + more } else { 8 };
+        let [l1, l2, l3, l4] = [0, 1, 2, 3].map(length);
+        run.calling("sum_nonlinearity_between");
+        let code =
+            unsafe { raw::satmegwo_sum_nonlinearity_between(4, 2, 3, b, l1, 2, 3, b, l2, 2, 3, b, l3, 2, 3, b, l4, 1, 1, 7, f8, part_len) };
+        let same = code == if place == 4 { 7 } else { 3 } && narrow.untouched() && eight.untouched();
+        run.compared(true, same, || format!("sum_nonlinearity_between with array {place} too long by {more}: {code}"));
+    }
+    let (mut x, mut y, mut merged) = (run.copy(&[1u32, 5, 1]), run.copy(&[1u32, 5, 2]), run.lend::<u32>(3));
+    let (p, q, o) = (at(&mut x), at(&mut y), at(&mut merged));
+    refused!(run, "merge_least", 3, raw::satmegwo_merge_least(p, 3 + more, q, 3, o, 3), x, y, merged);
+    refused!(run, "merge_least", 3, raw::satmegwo_merge_least(p, 3, q, 3 + more, o, 3), x, y, merged);
+    refused!(run, "merge_least", 7, raw::satmegwo_merge_least(p, 3, q, 3, o, 3 + more), x, y, merged);
+    refused!(run, "merge_largest", 3, raw::satmegwo_merge_largest(p, 3 + more, q, 3, o, 3), x, y, merged);
+    refused!(run, "merge_largest", 3, raw::satmegwo_merge_largest(p, 3, q, 3 + more, o, 3), x, y, merged);
+    refused!(run, "merge_largest", 7, raw::satmegwo_merge_largest(p, 3, q, 3, o, 3 + more), x, y, merged);
 }
 
 fn designs_and_servers(run: &mut Run, more: usize) {

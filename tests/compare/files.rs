@@ -29,6 +29,7 @@ fn all() -> Result<Vec<File>, String> {
         ("examples/example.stdout", printed::example()),
         ("examples/catalogue.stdout", printed::catalogue(2, &boxes)),
         ("examples/pairs.stdout", printed::pairs(4, "des-s4")),
+        ("examples/parts.stdout", printed::parts(1, "des-s1")),
         ("examples/packing.stdout", printed::packing("aes")),
         ("examples/improve.stdout", printed::improve("des-s1")),
         ("examples/design.stdout", printed::design()),

@@ -1,7 +1,5 @@
 //! The second program beside the library. See the usage text below.
 mod additions;
-// Held to stand-ins until the library has these calls.
-#[cfg(test)]
 mod between;
 mod bounds;
 mod by_value;
@@ -30,6 +28,7 @@ mod rounds;
 mod server;
 mod sheets;
 mod swaps;
+mod whole;
 mod written;
 
 use std::path::Path;

@@ -79,6 +79,15 @@ fn figures(run: &mut Run, rows: &Two) {
     meet(run, "complete", |k| told::<1>(|figures| library::complete(8, 8, unlike[k], figures)));
     meet(run, "bijective", |k| told::<1>(|figures| library::bijective(8, 8, unlike[k], figures)));
     meet(run, "raising_swap", |k| told::<4>(|figures| library::raising_swap(4, 8, &rows[k][..16], figures)));
+    meet(run, "nonlinearity_between", |k| told::<5>(|part| library::nonlinearity_between(8, 8, &rows[k], 3, 20, 90, part)));
+    meet(run, "autocorrelation_between", |k| told::<4>(|part| library::autocorrelation_between(8, 8, &rows[k], 3, 20, 60, part)));
+    meet(run, "dynamic_distance_between", |k| told::<4>(|part| library::dynamic_distance_between(8, 8, &rows[k], 3, 3, 20, 60, part)));
+    meet(run, "sum_nonlinearity_between", |k| {
+        told::<8>(|part| library::sum_nonlinearity_between(4, [(8, 8, &rows[k]); 4], 3, 20, 40, part))
+    });
+    let found = [[1, 7, 3, 9, 1], [1, 7, 4, 200, 0]];
+    meet(run, "merge_least", |k| told::<5>(|merged| library::merge_least(&found[k], &[1, 7, 5, 1, 1], merged)));
+    meet(run, "merge_largest", |k| told::<5>(|merged| library::merge_largest(&found[k], &[1, 7, 5, 1, 1], merged)));
     meet(run, "sum_nonlinearity", |k| told::<7>(|figures| library::sum_nonlinearity(4, [(8, 8, &rows[k]); 4], 2, figures)));
 }
 

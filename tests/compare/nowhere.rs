@@ -15,6 +15,7 @@ pub fn all(run: &mut Run) {
     files(run);
     catalogues(run);
     sums(run);
+    parts(run);
     designs_and_servers(run);
 }
 
@@ -148,6 +149,39 @@ fn sums(run: &mut Run) {
     let nothing = Summand { n: 0, m: 0, rows: Vec::new() };
     let wanted = rounds::sum_nonlinearity(2, &[one.clone(), one, nothing.clone(), nothing], 3, 5);
     run.judge(code, &[&rows], &figures, &wanted, || "a sum of two boxes and nothing".to_string());
+}
+
+fn parts(run: &mut Run) {
+    let (mut rows, mut five, mut four) = (random_box(run, 3, 5), run.lend::<u32>(5), run.lend::<u32>(4));
+    let (r, f5, f4) = (at(&mut rows), at(&mut five), at(&mut four));
+    refused!(run, "nonlinearity_between", 3, raw::satmegwo_nonlinearity_between(3, 5, null(), 0, 5, 1, 31, f5, 5), five);
+    refused!(run, "nonlinearity_between", 7, raw::satmegwo_nonlinearity_between(3, 5, r, 8, 5, 1, 31, null_mut(), 0), rows);
+    refused!(run, "autocorrelation_between", 3, raw::satmegwo_autocorrelation_between(3, 5, null(), 0, 5, 1, 31, f4, 4), four);
+    refused!(run, "autocorrelation_between", 7, raw::satmegwo_autocorrelation_between(3, 5, r, 8, 5, 1, 31, null_mut(), 0), rows);
+    refused!(run, "dynamic_distance_between", 3, raw::satmegwo_dynamic_distance_between(3, 5, null(), 0, 5, 3, 1, 31, f4, 4), four);
+    refused!(run, "dynamic_distance_between", 7, raw::satmegwo_dynamic_distance_between(3, 5, r, 8, 5, 3, 1, 31, null_mut(), 0), rows);
+    let (mut narrow, mut eight) = (random_box(run, 2, 3), run.lend::<u32>(8));
+    let (b, f8) = (at(&mut narrow), at(&mut eight));
+    for place in 0..5 {
+        let lent = |k: usize| if k == place { (null(), 0) } else { (b.cast_const(), 4) };
+        let [(r1, l1), (r2, l2), (r3, l3), (r4, l4)] = [0, 1, 2, 3].map(lent);
+        let (f, len) = if place == 4 { (null_mut(), 0) } else { (f8, 8) };
+        run.calling("sum_nonlinearity_between");
+        let code =
+            unsafe { raw::satmegwo_sum_nonlinearity_between(4, 2, 3, r1, l1, 2, 3, r2, l2, 2, 3, r3, l3, 2, 3, r4, l4, 1, 1, 7, f, len) };
+        let same = code == if place == 4 { 7 } else { 3 } && narrow.untouched() && eight.untouched();
+        run.compared(true, same, || format!("sum_nonlinearity_between without array {place}: {code}"));
+    }
+    let (mut x, mut y, mut merged) = (run.copy(&[1u32, 5, 1]), run.copy(&[1u32, 5, 2]), run.lend::<u32>(3));
+    let (p, q, o) = (at(&mut x), at(&mut y), at(&mut merged));
+    refused!(run, "merge_least", 3, raw::satmegwo_merge_least(null(), 0, q, 3, o, 3), y, merged);
+    refused!(run, "merge_least", 3, raw::satmegwo_merge_least(p, 3, null(), 0, o, 3), x, merged);
+    refused!(run, "merge_least", 3, raw::satmegwo_merge_least(null(), 0, null(), 0, null_mut(), 0), x);
+    refused!(run, "merge_least", 7, raw::satmegwo_merge_least(p, 3, q, 3, null_mut(), 0), x, y);
+    refused!(run, "merge_largest", 3, raw::satmegwo_merge_largest(null(), 0, q, 3, o, 3), y, merged);
+    refused!(run, "merge_largest", 3, raw::satmegwo_merge_largest(p, 3, null(), 0, o, 3), x, merged);
+    refused!(run, "merge_largest", 3, raw::satmegwo_merge_largest(null(), 0, null(), 0, null_mut(), 0), x);
+    refused!(run, "merge_largest", 7, raw::satmegwo_merge_largest(p, 3, q, 3, null_mut(), 0), x, y);
 }
 
 fn designs_and_servers(run: &mut Run) {

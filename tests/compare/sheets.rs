@@ -26,7 +26,7 @@ pub const PARTS: &[(&str, Work)] = &[
 const MADE: u32 = 800;
 
 /// At least so many boxes are stored: all that were published.
-const STORED: usize = 24;
+const STORED: usize = 32;
 
 /// Where the program lies. The environment names another one where a wrong one is tried.
 fn program() -> PathBuf {

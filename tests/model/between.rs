@@ -120,6 +120,26 @@ pub fn merged(better: Better, one: &Answer<Part>, other: &Answer<Part>) -> Answe
     Ok(if is_better { other } else { one })
 }
 
+/// What two written parts make, in an array of this length: they are of one length, 3 or more, and each
+/// begins with 0 or 1.
+pub fn merged_arrays(better: Better, x: &[u32], y: &[u32], merged_len: usize) -> Answer<Vec<u32>> {
+    if x.len() < 3 || y.len() != x.len() {
+        return Err(model::READ_LENGTH);
+    }
+    if x[0] > 1 || y[0] > 1 {
+        return Err(model::READ_VALUE);
+    }
+    check_written(merged_len, x.len())?;
+    let part = |array: &[u32]| (array[0] == 1).then(|| array[1..].to_vec());
+    // Where the flag is 0 the array is told as it is, whatever stands behind the flag.
+    let (one, other) = (part(x), part(y));
+    Ok(match (&one, &other) {
+        (_, None) => x.to_vec(),
+        (None, _) => y.to_vec(),
+        _ => written(&merged(better, &Ok(one), &Ok(other))?, x.len() - 1),
+    })
+}
+
 /// Several replies merged, one after the other.
 pub fn gathered(better: Better, replies: impl IntoIterator<Item = Answer<Part>>) -> Answer<Part> {
     let mut so_far = Ok(None);

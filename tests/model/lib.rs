@@ -24,6 +24,7 @@
 pub mod additions;
 pub mod between;
 pub mod boxes;
+pub mod cast;
 pub mod catalogue;
 pub mod combinations;
 pub mod counted;

@@ -1,6 +1,7 @@
 //! What the example programs and the programs of the crates `published` and `spectra` print, from
 //! the model: their texts are stored, and are made here a second time.
 use crate::additions::Addition;
+use crate::between::{self, Better, Part};
 use crate::catalogue;
 use crate::design::{Design, Operation};
 use crate::model::{self, Answer};
@@ -105,6 +106,31 @@ pub fn pairs(i: u32, name: &str) -> String {
     let pairs = told(model::nearest_pairs(n, m, &rows, i, usize::MAX, 1));
     let line = |pair: &u64| format!("combination {} against w = {}, b = {}\n", pair / 512, pair / 2 % 256, pair % 2);
     format!("nonlinearity {d}; pairs that reach it: {}\n", pairs.len()) + &pairs.iter().map(line).collect::<String>()
+}
+
+/// examples/parts.c.
+pub fn parts(i: u32, name: &str) -> String {
+    let Published { n, m, rows, .. } = box_named(name);
+    let most = model::all_outputs(m);
+    let ends = [0, 1, 2, 3].map(|k| (1 + k * (most / 4), if k == 3 { most } else { (k + 1) * (most / 4) }));
+    let found = ends.map(|ends| between::nonlinearity(n, m, &rows, i, ends, 5));
+    let said = |name: String, part: &Part| match part.as_deref() {
+        Some([d, c, w, b]) => format!("{name}: nonlinearity {d}, combination {c} against w = {w}, b = {b}\n"),
+        _ => format!("{name}: nothing\n"),
+    };
+    let each = ends.iter().zip(&found).map(|(ends, part)| said(format!("{} to {}", ends.0, ends.1), &told(part.clone())));
+    let each: String = each.collect();
+    let merged = told(between::gathered(Better::Less, [2, 0, 3, 1, 0].map(|k: usize| found[k].clone())));
+    let refused = [(0, 1), (1, most + 1), (2, 1)].map(|ends| {
+        let number = between::nonlinearity(n, m, &rows, 1, ends, 5).expect_err("it is no part");
+        format!("{} to {}: refused {number}\n", ends.0, ends.1)
+    });
+    let both = |x: &[u32], y: &[u32]| between::merged_arrays(Better::Less, x, y, 5).expect_err("they are no two parts");
+    let (lengths, flag) = (both(&[1, 0, 1, 0, 0], &[1, 0, 1, 0]), both(&[1, 0, 1, 0, 0], &[2, 0, 1, 0, 0]));
+    each + &said("merged".to_string(), &merged)
+        + "the plain call gives the same\n"
+        + &refused.concat()
+        + &format!("parts of 5 and of 4 elements: refused {lengths}\na part that begins with 2: refused {flag}\n")
 }
 
 /// A tuning run as it is printed.

@@ -1,5 +1,5 @@
 /* Wrong calls on boxes and catalogues. */
-#include <sched.h>
+#include <unistd.h>
 #include "satmegwo.h"
 #include "wrong.h"
 
@@ -86,6 +86,7 @@ uint32_t satmegwo_largest_cell(uint32_t n, uint32_t m, const uint32_t *rows, siz
     static uint32_t buffer[256];
     if (is_wrong("one-buffer-for-cells") && rows_len <= 256) {
         memcpy(buffer, rows, rows_len * sizeof rows[0]);
+        usleep(100); /* so that another thread comes in between */
         return right_satmegwo_largest_cell(n, m, buffer, rows_len, figures, figures_len);
     }
     uint32_t number = right_satmegwo_largest_cell(n, m, rows, rows_len, figures, figures_len);
@@ -152,7 +153,7 @@ uint32_t satmegwo_add_to_column(uint32_t n, uint32_t m, const uint32_t *rows, si
     if (!is_wrong("one-buffer-for-all") || rows_len > 256)
         return right_satmegwo_add_to_column(n, m, rows, rows_len, j, w, b, out, out_len);
     memcpy(buffer, rows, rows_len * sizeof rows[0]);
-    sched_yield();
+    usleep(100); /* so that another thread comes in between */
     return right_satmegwo_add_to_column(n, m, buffer, rows_len, j, w, b, out, out_len);
 }
 
@@ -228,6 +229,7 @@ uint32_t satmegwo_write_box(uint32_t n, uint32_t m, const uint32_t *rows, size_t
     static uint32_t buffer[256];
     if (is_wrong("one-buffer-for-files") && rows_len <= 256) {
         memcpy(buffer, rows, rows_len * sizeof rows[0]);
+        usleep(100); /* so that another thread comes in between */
         return right_satmegwo_write_box(n, m, buffer, rows_len, file, file_len);
     }
     uint32_t number = right_satmegwo_write_box(n, m, rows, rows_len, file, file_len);

@@ -100,8 +100,10 @@ module _ (words : List ℕ) {m i : ℕ} {start found : Candidate} {c : ℕ} (s :
   pub sweep-passes : (degree mask threshold : ℕ) {met : Met} → found ≡ degreeAt degree mask → threshold ≡ thresholdOf degree mask → FirstBelow m words i threshold c met
       → Sweeping m words i start found (met .c)
   sweep-passes degree mask threshold {met} is limited first = record {
+    part = s .part;
     walk = record { limit = s .walk .limit; c-low = omega (arith, s .walk .c-low, first .low); c-high = first .high; few = first .few };
-    so-far = best-passes (ranked lower outputs) (withRule (degreeOfWords words)) start found i c (met .c) (s .walk .c-low) (first .low) stays (s .so-far);
+    past = λ x l k. absurd (omega (arith, first .high));
+    so-far = best-passes (ranked lower outputs) (withRule (degreeOfWords words)) start found i 1 c (met .c) (s .walk .c-low) (first .low) stays (s .so-far);
   }
     where
       stays : (x : ℕ) → c ≤ x → x < met .c → ones x ≤ i → (p : Candidate) → List·Memᴰ p (withRule (degreeOfWords words) x) → ranked lower outputs p found ≡ false

@@ -63,6 +63,17 @@ module _ (n j : ℕ) (figure : ℕ → ℕ → ℕ) (c : ℕ) where
       let ss = shifts-first n j ln lj in
       (each (ss .0) (λ s. change figure c s ∷ []), ap (λ (l : List ℕ). each l (λ s. change figure c s ∷ [])) (ss .1))
 
+-- ---- the changes of components in their order
+pub ascending-over : (n m j : ℕ) (figure : ℕ → ℕ → ℕ) (cs : List ℕ) → Ascending (maskRank m) cs
+    → Ascending (changeRank n m) (each cs (changesOf n j figure))
+ascending-over n m j figure cs rises =
+    ascending-blocks 0 (2 ^ n) (maskRank m) (changeRank n m) cs (changesOf n j figure) rises
+    (λ c k. ascending-changesOf n j figure c m) (λ c k p h. inside c p (mem-changesOf n j figure c p h))
+  where
+    inside : (c : ℕ) (p : Candidate) → (s : ℕ) × MaskWithin j (2 ^ n) s × (p ≡ change figure c s)
+        → (0 + maskRank m c * 2 ^ n ≤ changeRank n m p) × (changeRank n m p < 0 + suc (maskRank m c) * 2 ^ n)
+    inside c p t = omega (arith, ap (changeRank n m) (t .2), t .1 .high, suc-mul (maskRank m c) (2 ^ n))
+
 -- ---- all changes
 module _ (n m i j : ℕ) (figure : ℕ → ℕ → ℕ) where
   pub measured-is : measured n m i j figure ≡ each (components m i) (changesOf n j figure)
@@ -82,13 +93,7 @@ module _ (n m i j : ℕ) (figure : ℕ → ℕ → ℕ) where
 
   pub ascending-measured : Ascending (changeRank n m) (measured n m i j figure)
   unfolding measured changesOf
-  ascending-measured =
-      ascending-blocks 0 (2 ^ n) (maskRank m) (changeRank n m) (components m i) (changesOf n j figure) (ascending-components m i)
-      (λ c k. ascending-changesOf n j figure c m) (λ c k p h. inside c p (mem-changesOf n j figure c p h))
-    where
-      inside : (c : ℕ) (p : Candidate) → (s : ℕ) × MaskWithin j (2 ^ n) s × (p ≡ change figure c s)
-          → (0 + maskRank m c * 2 ^ n ≤ changeRank n m p) × (changeRank n m p < 0 + suc (maskRank m c) * 2 ^ n)
-      inside c p t = omega (arith, ap (changeRank n m) (t .2), t .1 .high, suc-mul (maskRank m c) (2 ^ n))
+  ascending-measured = ascending-over n m j figure (components m i) (ascending-components m i)
 
   -- (1, 1) is the first
   pub measured-first : 1 ≤ n → 1 ≤ m → 1 ≤ i → 1 ≤ j → (rest : List Candidate) × (measured n m i j figure ≡ change figure 1 1 ∷ rest)

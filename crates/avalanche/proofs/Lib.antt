@@ -9,3 +9,7 @@ pub mod Distance
 pub mod Reports
 pub mod Criteria
 pub mod Theorems
+pub mod NoChange
+pub mod Ranges
+pub mod Gathering
+pub mod PartReports

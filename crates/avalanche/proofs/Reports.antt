@@ -18,7 +18,7 @@ use Rattle.avalanche.specs.Statements.{IsChange, ChangeBefore, LargestRe
 use Rattle.avalanche.proofs.Changes.{in-measured, mem-measured, ascending-measured, measured-first}
 
 -- a change before another has a lower number
-before-rank : (n m c′ s′ c s : ℕ) → c′ < 2 ^ m → s′ < 2 ^ n → ChangeBefore c′ s′ c s → maskRank m c′ * 2 ^ n + s′ < maskRank m c * 2 ^ n + s
+pub before-rank : (n m c′ s′ c s : ℕ) → c′ < 2 ^ m → s′ < 2 ^ n → ChangeBefore c′ s′ c s → maskRank m c′ * 2 ^ n + s′ < maskRank m c * 2 ^ n + s
 before-rank n m c′ s′ c s hc hs (inl l) =
     omega (arith, suc-mul (maskRank m c′) (2 ^ n), mul-le-mul-right (2 ^ n) (rank-of-before m c′ c hc l))
 before-rank n m c′ s′ c s hc hs (inr l) = omega (arith, ap (λ (z : ℕ). maskRank m z * 2 ^ n) (l .0))

@@ -28,10 +28,10 @@ use Rattle.avalanche.specs.Statements.{changeRank}
 use Rattle.avalanche.proofs.Changes.{in-changesOf, mem-changesOf, changesOf-some, ascending-changesOf}
 
 -- the changes come in blocks, one for each component, and the loop keeps the first best of each
-pub blocks : (n : ℕ) (rows : List ℕ) (j : ℕ) → 1 ≤ n → 1 ≤ j → Blocks (changesOf n j (correlated n rows))
-blocks n rows j ln lj = record {
-  some = λ c. changesOf-some n j (correlated n rows) c ln lj;
-  names = λ c p k. ap (λ (p : Candidate). at (p .witness) 0) (mem-changesOf n j (correlated n rows) c p k .2);
+pub blocks : (n j : ℕ) (figure : ℕ → ℕ → ℕ) → 1 ≤ n → 1 ≤ j → Blocks (changesOf n j figure)
+blocks n j figure ln lj = record {
+  some = λ c. changesOf-some n j figure c ln lj;
+  names = λ c p k. ap (λ (p : Candidate). at (p .witness) 0) (mem-changesOf n j figure c p k .2);
 }
 
 -- what is not preferred for a figure is not preferred for a lower one
@@ -89,7 +89,7 @@ module _ (n : ℕ) (rows : List ℕ) (c j : ℕ) {values : List ℤ} (e : values
         let v = firstLargest (changesOf n j (correlated n rows) c) in
         let few : v .figure ≤ figure = le-trans (most-of v (largest-mem n-low j-low)) (le-of-eq (sym share)) in
         sym (best-keeps (ranked higher outputs) b v []
-        (sym (higher-test v b refl (sym (largest-names (blocks n rows j n-low j-low) c))) ∙ less-preferred (b .figure) (v .figure) figure c (at (b .witness) 0) few h))
+        (sym (higher-test v b refl (sym (largest-names (blocks n j (correlated n rows) n-low j-low) c))) ∙ less-preferred (b .figure) (v .figure) figure c (at (b .witness) 0) few h))
 
   module _ {largest : ℕ} (top : LargestWithin values j largest) where
     -- no change has more than the largest's share
@@ -111,30 +111,14 @@ module _ (n : ℕ) (rows : List ℕ) (c j : ℕ) {values : List ℤ} (e : values
 
       module _ {figure : ℕ} (share : figure ≡ largest / 2 ^ n) (b : Candidate) where
         test : preferred (b .figure) figure c (at (b .witness) 0) ≡ ranked higher outputs (firstLargest (changesOf n j (correlated n rows) c)) b
-        test = higher-test (firstLargest (changesOf n j (correlated n rows) c)) b (share ∙ sym largest-figure) (sym (largest-names (blocks n rows j n-low j-low) c))
+        test = higher-test (firstLargest (changesOf n j (correlated n rows) c)) b (share ∙ sym largest-figure) (sym (largest-names (blocks n j (correlated n rows) n-low j-low) c))
 
         -- the best so far is kept
         pub stays : preferred (b .figure) figure c (at (b .witness) 0) ≡ false → b ≡ best (ranked higher outputs) b (firstLargest (changesOf n j (correlated n rows) c) ∷ [])
         unfolding best
         stays h = sym (best-keeps (ranked higher outputs) b (firstLargest (changesOf n j (correlated n rows) c)) [] (sym test ∙ h))
 
-        -- or the first that has the largest takes its place; then it is not 0, for at the figure 0 no component has fewer outputs than the best
-        pub largest-some : 1 ≤ c → (b .figure ≡ 0 → outputs b ≤ 1) → preferred (b .figure) figure c (at (b .witness) 0) ≡ true → 0 < largest
-        largest-some c-low single h = pick (decLt 0 figure)
-          where
-            pick : Dec (0 < figure) → 0 < largest
-            pick (yes l) = omega (arith, div-le-self largest (2 ^ n))
-            pick (no l) = absurd (wrong (ltb (b .figure) figure) (eqb (b .figure) figure) (ltb (ones c) (outputs b)) refl refl refl h)
-              where
-                wrong : (x y z : Bool) → ltb (b .figure) figure ≡ x → eqb (b .figure) figure ≡ y → ltb (ones c) (outputs b) ≡ z → (x || (y && z)) ≡ true → ⊥
-                wrong true y z p q r t = omega (arith, ltb-true (b .figure) figure p)
-                wrong false true true p q r t =
-                    let e = eqb-true (b .figure) figure q in
-                    let few = single (omega arith) in
-                    omega (arith, ltb-true (ones c) (outputs b) r, ones-pos c c-low)
-                wrong false true false p q r t = false≢true t
-                wrong false false z p q r t = false≢true t
-
+        -- or the first that has the largest takes its place
         pub replaced : preferred (b .figure) figure c (at (b .witness) 0) ≡ true → {s : ℕ} → FirstWithin values j largest s
             → record { figure = figure; witness = c ∷ s ∷ [] } ≡ best (ranked higher outputs) b (firstLargest (changesOf n j (correlated n rows) c) ∷ [])
         unfolding best firstLargest

@@ -7,7 +7,8 @@ use lib.Dec.{eqb, leb}
 use lib.IntN.{pos, _-ℤ_, natAbs}
 use Rattle.boolean.specs.Sums.{listFrom, each, keep, every}
 use Rattle.boolean.specs.Functions.{autocorrelation, changes, component, components, column}
-use Rattle.boolean.specs.Selection.{Candidate, firstLargest}
+use Rattle.boolean.specs.Selection.{Candidate, higher, firstLargest}
+use Rattle.masks.specs.Parts.{componentsBetween, bestBetween}
 
 -- the nonzero input changes, in ascending order: 1, 2, .., 2^n − 1
 unfoldable pub shifts : ℕ → List ℕ
@@ -34,6 +35,11 @@ unfoldable pub measured : (n m i j : ℕ) (figure : ℕ → ℕ → ℕ) → Lis
 unfolding each components changesOf
 measured n m i j figure = each (components m i) (λ c. changesOf n j figure c)
 
+-- the same over the components whose masks lie from `low` to `high`
+unfoldable pub measuredBetween : (n m i j low high : ℕ) (figure : ℕ → ℕ → ℕ) → List Candidate
+unfolding each componentsBetween changesOf
+measuredBetween n m i j low high figure = each (componentsBetween m i low high) (λ c. changesOf n j figure c)
+
 -- |r(s)| of component c
 abbrev pub correlated : (n : ℕ) (rows : List ℕ) (c s : ℕ) → ℕ
 correlated n rows c s = natAbs (autocorrelation n (component rows c) s)
@@ -44,6 +50,11 @@ unfoldable pub boxAutocorrelation : (n m : ℕ) (rows : List ℕ) (i : ℕ) → 
 unfolding firstLargest measured
 boxAutocorrelation n m rows i = firstLargest (measured n m i n (λ c s. correlated n rows c s))
 
+-- over the components whose masks lie from `low` to `high`, as a reply gives it: no figure where none within the limit lies there
+unfoldable pub autocorrelationBetween : (n m : ℕ) (rows : List ℕ) (i low high : ℕ) → List ℕ
+unfolding bestBetween changesOf
+autocorrelationBetween n m rows i low high = bestBetween higher m i low high (changesOf n n (λ c s. correlated n rows c s))
+
 -- |2^(n−1) − the count of x where f changes under d|: twice document 001's figure, which is a half at n = 1
 unfoldable pub imbalance : (n : ℕ) (f : ℕ → ℕ) (d : ℕ) → ℕ
 unfolding changes
@@ -53,6 +64,11 @@ imbalance n f d = natAbs (pos (2 ^ (n - 1)) -ℤ pos (changes n f d))
 unfoldable pub dynamicDistance : (n m : ℕ) (rows : List ℕ) (i j : ℕ) → Candidate
 unfolding firstLargest measured imbalance
 dynamicDistance n m rows i j = firstLargest (measured n m i j (λ c d. imbalance n (component rows c) d))
+
+-- over the components whose masks lie from `low` to `high`, as a reply gives it
+unfoldable pub distanceBetween : (n m : ℕ) (rows : List ℕ) (i j low high : ℕ) → List ℕ
+unfolding bestBetween changesOf imbalance
+distanceBetween n m rows i j low high = bestBetween higher m i low high (changesOf n j (λ c d. imbalance n (component rows c) d))
 
 -- complete: every input bit changes every column at some x
 unfoldable pub complete : (n m : ℕ) (rows : List ℕ) → Bool

@@ -1,4 +1,5 @@
 pub mod Avalanche
 pub mod Calls
+pub mod Parts
 pub mod Work
 pub mod Statements

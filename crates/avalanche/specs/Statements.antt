@@ -8,7 +8,9 @@ use Rattle.boolean.specs.Functions.{at, autocorrelation, changes, component, Ma
 use Rattle.boolean.specs.Selection.{Candidate}
 use Rattle.refusals.specs.Table.{Reply, figures}
 use Rattle.avalanche.specs.Avalanche.{imbalance}
+use Rattle.masks.specs.Statements.{Cut, MaskBetween}
 use Rattle.avalanche.specs.Calls.{autocorrelationReply, distanceReply}
+use Rattle.avalanche.specs.Parts.{autocorrelationBetweenReply, distanceBetweenReply}
 
 -- a combination within the limit i, and an input change of at most j ones
 pub record IsChange (n m i j c s : ℕ) : Type 0 where
@@ -41,6 +43,34 @@ AutocorrelationReported n m rows i =
 abbrev pub DistanceReported : (n m : ℕ) (rows : List ℕ) (i j : ℕ) → Type 0
 DistanceReported n m rows i j = LargestReported n m i j (λ c s. imbalance n (component rows c) s) (distanceReply n m rows i j)
 
+-- a combination within the limit i whose mask lies from `low` to `high`, and an input change of at most j ones
+pub record IsChangeBetween (n m i j low high c s : ℕ) : Type 0 where
+  pub mask : MaskBetween m i low high c
+  pub shift : MaskWithin j (2 ^ n) s
+
+-- What is reported of such a figure over a part in which a combination within the limit lies: the largest of the part, d, and the first c
+-- and s of the part that have it.
+pub record LargestBetweenReported (n m i j low high : ℕ) (figure : (c s : ℕ) → ℕ) (said : Reply) : Type 0 where
+  pub d : ℕ
+  pub c : ℕ
+  pub s : ℕ
+  pub reply : said ≡ figures (d ∷ c ∷ s ∷ [])
+  pub largest : (c′ s′ : ℕ) → IsChangeBetween n m i j low high c′ s′ → figure c′ s′ ≤ d
+  pub member : IsChangeBetween n m i j low high c s
+  pub reached : figure c s ≡ d
+  pub before : (c′ s′ : ℕ) → IsChangeBetween n m i j low high c′ s′ → ChangeBefore c′ s′ c s → figure c′ s′ < d
+
+-- the autocorrelation over a part: the largest |r(s)|, s from 1
+abbrev pub AutocorrelationBetweenReported : (n m : ℕ) (rows : List ℕ) (i low high : ℕ) → Type 0
+AutocorrelationBetweenReported n m rows i low high =
+    LargestBetweenReported n m i n low high (λ c s. natAbs (autocorrelation n (component rows c) s))
+    (autocorrelationBetweenReply n m rows i low high)
+
+-- the dynamic distance of order (i, j) over a part
+abbrev pub DistanceBetweenReported : (n m : ℕ) (rows : List ℕ) (i j low high : ℕ) → Type 0
+DistanceBetweenReported n m rows i j low high =
+    LargestBetweenReported n m i j low high (λ c s. imbalance n (component rows c) s) (distanceBetweenReply n m rows i j low high)
+
 -- f changes at half of the inputs when input bit k is flipped
 abbrev pub ChangesAtHalf : (n : ℕ) (f : ℕ → ℕ) (k : ℕ) → Type 0
 ChangesAtHalf n f k = changes n f (2 ^ (k - 1)) ≡ 2 ^ (n - 1)
@@ -52,3 +82,10 @@ changeRank n m p = maskRank m (at (p .witness) 0) * 2 ^ n + at (p .witness) 1
 -- the figure of the dynamic distance, at a component and a change
 abbrev pub distanceOf : (n : ℕ) (rows : List ℕ) (c d : ℕ) → ℕ
 distanceOf n rows c d = imbalance n (component rows c) d
+
+-- what the calls reply of a part
+abbrev pub autocorrelationCut : (n m : ℕ) (rows : List ℕ) (i : ℕ) (c : Cut m) → Reply
+autocorrelationCut n m rows i c = autocorrelationBetweenReply n m rows i (c .low) (c .high)
+
+abbrev pub distanceCut : (n m : ℕ) (rows : List ℕ) (i j : ℕ) (c : Cut m) → Reply
+distanceCut n m rows i j c = distanceBetweenReply n m rows i j (c .low) (c .high)

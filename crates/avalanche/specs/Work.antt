@@ -27,14 +27,11 @@ truthTable n rows c = listBelow (2 ^ n) (λ x. component rows c x)
 unfoldable pub correlations : (n : ℕ) (rows : List ℕ) (c : ℕ) → List ℤ
 correlations n rows c = listBelow (2 ^ n) (λ s. pos (2 ^ n) *ℤ autocorrelation n (component rows c) s)
 
--- the correlations of component c, to be compared with the best so far. A best of figure 0 has a single output, so that no component is
--- preferred to it for fewer outputs.
+-- the correlations of component c, to be compared with the best so far
 pub record Compared (n m : ℕ) (rows : List ℕ) (j : ℕ) (found : FoundChange) (c : ℕ) (values : List ℤ) : Type 0 where
   pub box : Box n m rows
   pub j-low : 1 ≤ j
-  pub c-low : 1 ≤ c
   pub values-are : values ≡ correlations n rows c
-  pub single : found .figure ≡ 0 → ones (found .c) ≤ 1
 
 -- the largest magnitude at a change within the limit j, and 0 where there is none
 pub record LargestWithin (values : List ℤ) (j largest : ℕ) : Type 0 where

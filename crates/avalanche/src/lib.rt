@@ -17,11 +17,13 @@ ghost use Rattle.refusals.specs.Table.{first, saidVerdict, Box};
 ghost use Rattle.walsh.specs.FixedTable.{Spectra};
 ghost use Rattle.walsh.specs.Magnitudes.{largestMagnitude};
 ghost use Rattle.masks.specs.Masks.{outputs};
-ghost use Rattle.masks.specs.Work.{stepTables, Stepping};
-ghost use Rattle.linear.specs.Lent.{PairsSwept};
-ghost use Rattle.avalanche.specs.Avalanche.{measured, correlated, changesOf};
+ghost use Rattle.masks.specs.Steps.{stepTables, Stepping};
+ghost use Rattle.masks.specs.Parts.{above, mergedReply};
+ghost use Rattle.linear.specs.Lent.{PairsSwept, PartSwept};
+ghost use Rattle.avalanche.specs.Avalanche.{measuredBetween, correlated, changesOf};
 ghost use Rattle.avalanche.specs.Avalanche as spec;
 ghost use Rattle.avalanche.specs.Calls.{distanceChecks, saidLargestChange, autocorrelationReply, distanceReply, completeReply};
+ghost use Rattle.avalanche.specs.Parts.{saidPartChange, distancePartChecks, autocorrelationBetweenReply, distanceBetweenReply};
 ghost use Rattle.avalanche.specs.Work.{changeCandidate, truthTable, correlations, Compared, LargestWithin};
 ghost use Rattle.avalanche.specs.Work.{FirstWithin, Listed, ChangesInside, LargestListed, FirstListed, beatenAtOnce};
 
@@ -35,6 +37,13 @@ pub struct FoundChange {
 // The answer of the autocorrelation and of the dynamic distance.
 pub enum LargestChange {
     Reached { figure: u32, c: u32, s: u32 },
+    Declined(Refusal),
+}
+
+// The answer of the two over a part of the combinations: the same, or that none within the limit lies in the part.
+pub enum PartChange {
+    Reached { figure: u32, c: u32, s: u32 },
+    Nothing,
     Declined(Refusal),
 }
 
@@ -52,6 +61,24 @@ pub fn check_distance(n: u32, m: u32, rows: &[u32], i: u32, j: u32) -> Checked
         return Checked::Refused(Refusal::Parameter);
     }
     Checked::Accepted
+}
+
+// The checks of the dynamic distance over a part: the plain call's, then that the part lies from 1 to 2^m − 1.
+pub fn check_distance_part(
+    n: u32,
+    m: u32,
+    rows: &[u32],
+    i: u32,
+    j: u32,
+    low: u32,
+    high: u32,
+) -> Checked
+    ensures { λ r. ⌜ r ≡ first (distancePartChecks n m (now (rows .entry)) i j low high) ⌝ }
+{
+    if let Checked::Refused(e) = check_distance(n, m, rows, i, j) {
+        return Checked::Refused(e);
+    }
+    masks::check_part(m, low, high)
 }
 
 // Each value is replaced by the square of its double.
@@ -73,7 +100,7 @@ fn square_all(values: &mut [i32])
 // 2^n times the autocorrelation of component c at every s, from its truth table. The squares of the Walsh values, which are
 // twice the spectrum's, are the transform of the autocorrelation, so that their transform gives it back, 2^n times.
 fn correlate(
-    fixed: &[i32; 2048],
+    fixed: &[i16; 2048],
     n: u32,
     m: u32,
     rows: &[u32],
@@ -91,7 +118,7 @@ fn correlate(
 
 // 2^n times the autocorrelation of component c at every s, from the truth table of component `last`, the mask before c.
 fn next_correlation(
-    fixed: &[i32; 2048],
+    fixed: &[i16; 2048],
     n: u32,
     m: u32,
     rows: &[u32],
@@ -217,6 +244,18 @@ fn first_within(n: u32, values: &[i32], j: u32, list: &[u32], largest: u32) -> u
     }
 }
 
+// The first s from 1 with at most j ones that has the largest magnitude: 1 where that is 0.
+fn first_change(n: u32, values: &[i32], j: u32, list: &[u32], largest: u32) -> u32
+    requires { ⌜ (1 ≤ n) × (n ≤ 8) × (1 ≤ j) × (length (now values) ≡ 2 ^ n) × (j < n → Listed j (2 ^ n) (now list))
+        × LargestWithin (now values) j largest ⌝ }
+    ensures { λ r. ⌜ FirstWithin (now (values .entry)) j largest r ⌝ }
+{
+    if largest == 0 {
+        return 1;
+    }
+    first_within(n, values, j, list, largest)
+}
+
 // Whether the largest magnitude at all changes shows already that component c is no better than the best so far. It is found by vector
 // instructions, several values at a time, and a list is gone through one by one: it is asked where half of the changes or more are listed.
 fn is_beaten(
@@ -263,56 +302,69 @@ fn with_correlation(
     let largest = largest_within(n, values, j, list);
     let figure = largest / rows.len() as u32;
     if masks::is_preferred(found.figure, figure, c, found.c) {
-        let s = first_within(n, values, j, list, largest);
+        let s = first_change(n, values, j, list, largest);
         FoundChange { figure, c, s }
     } else {
         found
     }
 }
 
-// Every component within the limit i in turn, each from the one before, from the component 0 on. It starts from the figure 0 with the
-// first candidate's witness.
+// Every component within the limit i from `first`, which is one of them, to `last` in turn, each from the one before. It starts from the
+// figure 0 with the first candidate's witness, and from the component of the number before `first`.
 fn sweep(
-    fixed: &[i32; 2048],
+    fixed: &[i16; 2048],
     n: u32,
     m: u32,
     rows: &[u32],
     i: u32,
     j: u32,
     list: &[u32],
+    first: u32,
+    last: u32,
     steps: &mut [u8],
     table: &mut [u8],
     values: &mut [i32],
 ) -> FoundChange
     requires { ⌜ PairsSwept n m (now rows) (now table) (now values) × Spectra (now fixed)
-        × (length (now steps) ≡ m * length (now rows)) × (1 ≤ i) × (1 ≤ j) × (j < n → Listed j (2 ^ n) (now list)) ⌝ }
-    ensures { λ r. ⌜ (changeCandidate r ≡ firstLargest (measured n m i j (correlated n (now (rows .entry)))))
+        × (length (now steps) ≡ m * length (now rows)) × (1 ≤ i) × (1 ≤ j) × (j < n → Listed j (2 ^ n) (now list))
+        × PartSwept m i first last ⌝ }
+    ensures { λ r. ⌜ (changeCandidate r ≡ firstLargest (measuredBetween n m i j first last (correlated n (now (rows .entry)))))
         × (now (steps .exit) ≡ stepTables m (now (rows .entry)))
         × AnyContent (now (table .entry)) (now (table .exit)) × AnyContent (now (values .entry)) (now (values .exit)) ⌝ }
 {
     masks::write_steps(m, rows, steps);
-    masks::write_component(rows, 0, table);
-    let masks = boolean::power_of_two(m) as u64;
+    let prior = first - 1;
+    masks::write_component(rows, prior, table);
+    let end = last as u64 + 1;
     let mut found = FoundChange {
         figure: 0,
-        c: 1,
+        c: first,
         s: 1,
     };
-    let mut last: u64 = 0;
-    let mut c: u64 = 1;
-    while c < masks {
-        next_correlation(fixed, n, m, rows, steps, last, c, table, values);
+    let mut before = prior as u64;
+    let mut c = first as u64;
+    while c < end {
+        next_correlation(fixed, n, m, rows, steps, before, c, table, values);
         found = with_correlation(found, n, m, rows, j, list, c as u32, values);
-        last = c;
+        before = c;
         c = masks::next_mask(i, c);
     }
     found
 }
 
-// The largest |r(s)| over components with at most i ones and s with 1 to j ones, for an accepted box.
-fn largest_correlation(n: u32, m: u32, rows: &[u32], i: u32, j: u32) -> FoundChange
-    requires { ⌜ Box n m (now rows) × (1 ≤ i) × (1 ≤ j) ⌝ }
-    ensures { λ r. ⌜ changeCandidate r ≡ firstLargest (measured n m i j (correlated n (now (rows .entry)))) ⌝ }
+// The largest |r(s)| over components with at most i ones, from `first`, which is one of them, to `last`, and s with 1 to j ones, for an
+// accepted box.
+fn largest_correlation(
+    n: u32,
+    m: u32,
+    rows: &[u32],
+    i: u32,
+    j: u32,
+    first: u32,
+    last: u32,
+) -> FoundChange
+    requires { ⌜ Box n m (now rows) × (1 ≤ i) × (1 ≤ j) × PartSwept m i first last ⌝ }
+    ensures { λ r. ⌜ changeCandidate r ≡ firstLargest (measuredBetween n m i j first last (correlated n (now (rows .entry)))) ⌝ }
 {
     let fixed = walsh::spectra();
     let mut list = [0u32; 256];
@@ -330,6 +382,8 @@ fn largest_correlation(n: u32, m: u32, rows: &[u32], i: u32, j: u32) -> FoundCha
         i,
         j,
         &list[..count],
+        first,
+        last,
         &mut steps[..total],
         &mut table[..size],
         &mut values[..size],
@@ -396,11 +450,90 @@ pub fn autocorrelation(n: u32, m: u32, rows: &[u32], i: u32) -> LargestChange
     if let Checked::Refused(e) = refusals::check_limited(n, m, rows, i) {
         return LargestChange::Declined(e);
     }
-    let found = largest_correlation(n, m, rows, i, n);
+    let masks = (boolean::power_of_two(m) - 1) as u32;
+    let found = largest_correlation(n, m, rows, i, n, 1, masks);
     LargestChange::Reached {
         figure: found.figure,
         c: found.c,
         s: found.s,
+    }
+}
+
+// The autocorrelation over the combinations of at most i outputs whose masks lie from `first` to `last`: a part of a sweep.
+pub fn autocorrelation_between(
+    n: u32,
+    m: u32,
+    rows: &[u32],
+    i: u32,
+    first: u32,
+    last: u32,
+) -> PartChange
+    ensures { λ r. ⌜ saidPartChange r ≡ autocorrelationBetweenReply n m (now (rows .entry)) i first last ⌝ }
+{
+    if let Checked::Refused(e) = linear::check_part(n, m, rows, i, first, last) {
+        return PartChange::Declined(e);
+    }
+    let start = masks::first_mask(i, first as u64);
+    if (last as u64) < start {
+        return PartChange::Nothing;
+    }
+    let widest = largest_correlation(n, m, rows, i, n, start as u32, last);
+    PartChange::Reached {
+        figure: widest.figure,
+        c: widest.c,
+        s: widest.s,
+    }
+}
+
+// The dynamic distance of order (i, j) over the combinations whose masks lie from `first` to `last`: a part of a sweep.
+pub fn dynamic_distance_between(
+    n: u32,
+    m: u32,
+    rows: &[u32],
+    i: u32,
+    j: u32,
+    first: u32,
+    last: u32,
+) -> PartChange
+    ensures { λ r. ⌜ saidPartChange r ≡ distanceBetweenReply n m (now (rows .entry)) i j first last ⌝ }
+{
+    if let Checked::Refused(e) = check_distance_part(n, m, rows, i, j, first, last) {
+        return PartChange::Declined(e);
+    }
+    let start = masks::first_mask(i, first as u64);
+    if (last as u64) < start {
+        return PartChange::Nothing;
+    }
+    let widest = largest_correlation(n, m, rows, i, j, start as u32, last);
+    PartChange::Reached {
+        figure: widest.figure / 2,
+        c: widest.c,
+        s: widest.s,
+    }
+}
+
+// Two parts' answers of one of these calls as one: the larger figure, then the fewer outputs, then the smaller mask; a refusal stays one.
+pub fn merge_changes(x: PartChange, y: PartChange) -> PartChange
+    ensures { λ r. ⌜ saidPartChange r ≡ mergedReply above (saidPartChange x) (saidPartChange y) ⌝ }
+{
+    match x {
+        PartChange::Declined(e) => PartChange::Declined(e),
+        PartChange::Nothing => y,
+        PartChange::Reached { figure, c, s: _ } => match y {
+            PartChange::Declined(e) => PartChange::Declined(e),
+            PartChange::Nothing => x,
+            PartChange::Reached {
+                figure: other,
+                c: mask,
+                s: _,
+            } => {
+                if masks::is_sooner(figure, other, mask, c) {
+                    y
+                } else {
+                    x
+                }
+            }
+        },
     }
 }
 
@@ -411,7 +544,8 @@ pub fn dynamic_distance(n: u32, m: u32, rows: &[u32], i: u32, j: u32) -> Largest
     if let Checked::Refused(e) = check_distance(n, m, rows, i, j) {
         return LargestChange::Declined(e);
     }
-    let found = largest_correlation(n, m, rows, i, j);
+    let masks = (boolean::power_of_two(m) - 1) as u32;
+    let found = largest_correlation(n, m, rows, i, j, 1, masks);
     LargestChange::Reached {
         figure: found.figure / 2,
         c: found.c,

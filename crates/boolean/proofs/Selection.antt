@@ -197,14 +197,21 @@ by-largest = omega arith
 
 module _ {beats : Candidate → Candidate → Bool} {R S : Candidate → Candidate → Type 0} (o : Ordered beats R S) (f : ByFigure R S) (rank : Candidate → ℕ) where
   -- better, or of the same figure and no higher rank
-  abbrev Lex : Candidate → Candidate → Type 0
+  abbrev pub Lex : Candidate → Candidate → Type 0
   Lex a b = S a b ⊎ ((a .figure ≡ b .figure) × (rank a ≤ rank b))
 
-  lex-trans : (a b c : Candidate) → Lex a b → Lex b c → Lex a c
+  pub lex-trans : (a b c : Candidate) → Lex a b → Lex b c → Lex a c
   lex-trans a b c (inl p) (inl q) = inl (o .right a b c p (o .weak b c q))
   lex-trans a b c (inl p) (inr q) = inl (o .right a b c p (f .equal b c (q .0)))
   lex-trans a b c (inr p) (inl q) = inl (o .left a b c (f .equal a b (p .0)) q)
   lex-trans a b c (inr p) (inr q) = inr (omega arith)
+
+  -- each as good as the other: they are one, where no two are of one rank
+  pub lex-both : (r s : Candidate) → (rank r ≡ rank s → r ≡ s) → Lex r s → Lex s r → r ≡ s
+  lex-both r s e (inl h) (inl k) = absurd (f .strict r s h (o .weak s r k))
+  lex-both r s e (inl h) (inr k) = absurd (f .strict r s h (f .equal s r (k .0)))
+  lex-both r s e (inr h) (inl k) = absurd (f .strict s r k (f .equal r s (h .0)))
+  lex-both r s e (inr h) (inr k) = e (omega arith)
 
   lex-wins : (c b : Candidate) → ranked beats rank c b ≡ true → Lex c b
   lex-wins c b = go (beats c b) (eqb (c .figure) (b .figure)) (ltb (rank c) (rank b)) (o .wins c b) (eqb-true _ _) (ltb-true _ _)
@@ -251,15 +258,9 @@ module _ {beats : Candidate → Candidate → Bool} {R S : Candidate → Candida
       let by : Candidate → Candidate → Bool = ranked beats rank in
       let r = best by c cs in
       let s = best by d ds in
-      anti r s (one r s (best-mem by c cs) (same s .1 (best-mem by d ds)))
+      lex-both r s (one r s (best-mem by c cs) (same s .1 (best-mem by d ds)))
       (best-below ranked-ordered c cs d ds (λ y m. (y, same y .1 m, ranked-ordered .same y)))
       (best-below ranked-ordered d ds c cs (λ x m. (x, same x .0 m, ranked-ordered .same x)))
-    where
-      anti : (r s : Candidate) → (rank r ≡ rank s → r ≡ s) → Lex r s → Lex s r → r ≡ s
-      anti r s e (inl h) (inl k) = absurd (f .strict r s h (o .weak s r k))
-      anti r s e (inl h) (inr k) = absurd (f .strict r s h (f .equal s r (k .0)))
-      anti r s e (inr h) (inl k) = absurd (f .strict s r k (f .equal r s (h .0)))
-      anti r s e (inr h) (inr k) = e (omega arith)
 
   -- candidates with rising ranks, visited in any order: the ranked choice is the first best
   pub any-order : (cs visited : List Candidate) → Ascending rank cs → SameMembers visited cs → firstBest (ranked beats rank) visited ≡ firstBest beats cs

@@ -105,7 +105,7 @@ fn lacks_byte(bytes: &[u8], byte: u8) -> bool
     true
 }
 
-// Whether no two bytes are equal, as of rows: a slice has one type of entries.
+// Whether no two bytes are equal: `rows_distinct` for bytes, since a function takes slices of one type.
 pub fn bytes_distinct(bytes: &[u8]) -> bool
     ensures { λ r. ⌜ r ≡ distinct (now (bytes .entry)) ⌝ }
 {

@@ -55,8 +55,8 @@ fn largest_row(file: &[u8], size: usize) -> u32
     most
 }
 
-// Whether every row of a file of n inputs is below the limit. A box has a row, and the largest alone is compared: a loop without a way out
-// looks at many rows at a time.
+// Whether every row of a file of n inputs is below the limit. A box has a row, and the largest alone is compared: a loop without an early
+// exit compiles to vector instructions, which look at several rows at a time.
 fn rows_below(file: &[u8], n: u32, size: usize, limit: usize) -> bool
     requires { ⌜ (size ≡ 2 ^ n) × (length (now file) ≡ 2 + 4 * size) ⌝ }
     ensures { λ r. ⌜ r ≡ allBelow limit (fileRows (now (file .entry)) n) ⌝ }

@@ -174,7 +174,7 @@ design-fields = (λ s. (refl, refl, refl, fields.marks-mapped (s .marks)), λ ro
 pub last-set-or-none : (k : ℕ) (os : List Operation) → (leaves k os ≡ true) ⊎ LastSet k os
 last-set-or-none = histories.last-or-none
 
--- [D1.2] what an operation on a design returns to C is by the lines of the call, whose contract it has with `numberSays` of that number
+-- [D1.2] [D1.4] what an operation on a design returns to C is by the lines of the call, whose contract it has with `numberSays` of that number
 pub design-number-out : (returned : ℕ) (lines : List TableLine) → Answers (numberSays returned) [] lines → ReturnsNumber returned lines
 design-number-out = fields.number-out
 
@@ -217,6 +217,6 @@ sum-answer-says d c w1 w2 w3 w4 b = (
   record { says = refl; past = refl },
 )
 
--- the version of the C library is 1.0.0: ten thousand for the first number, a hundred for the second, one for the third
+-- [beside.5] the version of the C library is 1.0.0: ten thousand for the first number, a hundred for the second, one for the third
 pub version-is : version ≡ 1 * 10000 + 0 * 100 + 0
 version-is = refl

@@ -66,7 +66,7 @@ pub record LastSet (k : ℕ) (os : List Operation) : Type 0 where
   pub splits : os ≡ earlier ++ (sets k ∷ later)
   pub left : leaves k later ≡ true
 
--- what a call of an operation does: the contract of `swapInputs`, `add`, `setMark` or `return_to`
+-- what a call of an operation does: the contract of `Design::swap`, `Design::add`, `Design::mark` or `Design::return_to`
 abbrev pub OperationCalled : (o : Operation) (old : Design) (said : Reply) (new : Design) → Type 0
 OperationCalled (swaps x y) old said new = DesignSwapped old x y said new
 OperationCalled (adds j w b) old said new = DesignAdded old j w b said new

@@ -24,10 +24,11 @@ use Rattle.walsh.proofs.Magnitudes.{Largest, place-inside}
 use Rattle.masks.specs.Masks.{outputs}
 use Rattle.masks.specs.Work.{preferred}
 use Rattle.masks.specs.Statements.{Blocks}
-use Rattle.masks.proofs.Fewest.{least-names, lower-test, least-swept}
-use Rattle.masks.proofs.Sweeps.{Sweeping, choosing-ends, table-size}
-use Rattle.linear.specs.Nonlinearity.{pair, pairsOf, pairs, nonlinearity}
-use Rattle.linear.specs.Lent.{PairsSwept}
+use Rattle.masks.proofs.Fewest.{least-names, lower-test, least-visited}
+use Rattle.masks.proofs.Parts.{visit-part}
+use Rattle.masks.proofs.Sweeps.{SweepingFrom, sweep-ends, table-size}
+use Rattle.linear.specs.Nonlinearity.{pair, pairsOf, pairsBetween}
+use Rattle.linear.specs.Lent.{PairsSwept, PartSwept}
 use Rattle.linear.specs.Statements.{pairRank}
 use Rattle.linear.proofs.Pairs.{in-pairsOf, mem-pairsOf, pairsOf-some, ascending-pairsOf}
 
@@ -178,13 +179,17 @@ pub least-le : (n : ℕ) (rows : List ℕ) (c : ℕ) → firstLeast (pairsOf n r
 least-le n rows c =
     le-trans (firstLeast-chooses .all (pairsOf n rows c) (pair n rows c 0 0) (in-pairsOf n rows c 0 0 (pow-pos n) (zero-lt-suc 1))) (distance-le n (component rows c) 0 0)
 
-module _ {n m : ℕ} {rows : List ℕ} {i : ℕ} {start found : Candidate} {table : List ℕ} {values : List ℤ} {last c : ℕ} where
+module _ {n m : ℕ} {rows : List ℕ} {i first : ℕ} {start found : Candidate} {table : List ℕ} {values : List ℤ} {before c : ℕ} where
   -- the arrays of a sweep are as long as the box
-  pub arrays : {beats : Candidate → Candidate → Bool} {block : ℕ → List Candidate} → Sweeping beats block n m rows i start found table values last c → PairsSwept n m rows table values
+  pub arrays : {end : ℕ} {beats : Candidate → Candidate → Bool} {block : ℕ → List Candidate}
+      → SweepingFrom first end beats block n m rows i start found table values before c → PairsSwept n m rows table values
   arrays t = record { box = t .box; table-size = table-size t; out-size = t .values-size }
 
-  -- from a count that no pair has, it ends with the first of the nearest pairs
-  pub nearest-swept : Sweeping (ranked lower outputs) (nearestOf n rows) n m rows i start found table values last c → 2 ^ m ≤ c → 2 ^ n < start .figure → found ≡ nonlinearity n m rows i
-  unfolding nonlinearity pairs
-  nearest-swept t h l =
-      choosing-ends (t .choosing) h ∙ least-swept (blocks n rows) m i (t .box .m-low) (t .choosing .walk .limit) start (omega (arith, least-le n rows 1))
+  -- from a count that no pair has, it ends with the first of the nearest pairs of its part
+  pub nearest-swept : {last : ℕ} → PartSwept m i first last
+      → SweepingFrom first (last + 1) (ranked lower outputs) (nearestOf n rows) n m rows i start found table values before c
+      → last + 1 ≤ c → 2 ^ n < start .figure → found ≡ firstLeast (pairsBetween n m rows i first last)
+  unfolding pairsBetween
+  nearest-swept {last} p t h l =
+      sweep-ends t h
+      ∙ least-visited (blocks n rows) (visit-part m i first last (t .choosing .part) (p .few) (p .some)) start (omega (arith, least-le n rows first))

@@ -6,7 +6,7 @@ use Prim.Native.Nat.{ℕ, suc, _+_, _*_, _-_, _^_, _<_, _≤_}
 use native.Mathlib.Nat.{zero-lt-suc, le-refl, mul-le-mul-right, suc-mul}
 use native.Mathlib.Omega.{arith}
 use lib.Pow.{pow-pos}
-use Rattle.boolean.specs.Sums.{listBelow}
+use Rattle.boolean.specs.Sums.{each, listBelow}
 use Rattle.boolean.specs.Functions.{components, maskRank}
 use Rattle.boolean.specs.Selection.{Candidate, Ascending}
 use Rattle.boolean.proofs.Dots.{bit-cases}
@@ -75,6 +75,16 @@ module _ (n : ℕ) (rows : List ℕ) (c : ℕ) where
       inside : (w : ℕ) (p : Candidate) → Of w p → (start + w * 2 ≤ pairRank n m p) × (pairRank n m p < start + suc w * 2)
       inside w p t = omega (arith, ap (pairRank n m) (t .2), t .1)
 
+-- ---- the pairs of components in their order
+pub ascending-over : (n m : ℕ) (rows cs : List ℕ) → Ascending (maskRank m) cs → Ascending (pairRank n m) (each cs (pairsOf n rows))
+ascending-over n m rows cs rises =
+    ascending-blocks 0 (2 * 2 ^ n) (maskRank m) (pairRank n m) cs (pairsOf n rows)
+    rises (λ c k. ascending-pairsOf n rows c m) (λ c k p j. inside c p (mem-pairsOf n rows c p j))
+  where
+    inside : (c : ℕ) (p : Candidate) → (w b : ℕ) × (w < 2 ^ n) × (b < 2) × (p ≡ pair n rows c w b)
+        → (0 + maskRank m c * (2 * 2 ^ n) ≤ pairRank n m p) × (pairRank n m p < 0 + suc (maskRank m c) * (2 * 2 ^ n))
+    inside c p t = omega (arith, ap (pairRank n m) (t .4), t .2, t .3, suc-mul (maskRank m c) (2 * 2 ^ n))
+
 -- ---- all pairs within the limit
 module _ (n m : ℕ) (rows : List ℕ) (i : ℕ) where
   pub in-pairs : (c w b : ℕ) → IsPair n m i c w b → List·Memᴰ (pair n rows c w b) (pairs n m rows i)
@@ -91,13 +101,7 @@ module _ (n m : ℕ) (rows : List ℕ) (i : ℕ) where
 
   pub ascending-pairs : Ascending (pairRank n m) (pairs n m rows i)
   unfolding pairs
-  ascending-pairs =
-      ascending-blocks 0 (2 * 2 ^ n) (maskRank m) (pairRank n m) (components m i) (pairsOf n rows)
-      (ascending-components m i) (λ c k. ascending-pairsOf n rows c m) (λ c k p j. inside c p (mem-pairsOf n rows c p j))
-    where
-      inside : (c : ℕ) (p : Candidate) → (w b : ℕ) × (w < 2 ^ n) × (b < 2) × (p ≡ pair n rows c w b)
-          → (0 + maskRank m c * (2 * 2 ^ n) ≤ pairRank n m p) × (pairRank n m p < 0 + suc (maskRank m c) * (2 * 2 ^ n))
-      inside c p t = omega (arith, ap (pairRank n m) (t .4), t .2, t .3, suc-mul (maskRank m c) (2 * 2 ^ n))
+  ascending-pairs = ascending-over n m rows (components m i) (ascending-components m i)
 
   pub pairs-nonempty : 1 ≤ m → 1 ≤ i → (p : Candidate) × (ps : List Candidate) × (pairs n m rows i ≡ p ∷ ps)
   pairs-nonempty h l = some-member (pairs n m rows i) (in-pairs 1 0 0 (first-pair n m i h l))

@@ -5,18 +5,21 @@ use refusals::Written;
 ghost use mathlib.Core.Path.{_≡_};
 ghost use mathlib.Core.List.{[], _∷_};
 ghost use Prim.Native.Nat.{_*_, _^_, _≤_, _<_};
+ghost use lib.Dec.{ltb};
 ghost use lib.ListN.{length};
 ghost use Rattle.boolean.specs.Sums.{listBelow, AnyContent};
 ghost use Rattle.boolean.specs.Functions.{component, spectrum};
 ghost use Rattle.boolean.specs.Selection.{best, lower, firstLeast, ranked};
 ghost use Rattle.refusals.specs.Table.{first, Box};
 ghost use Rattle.walsh.specs.FixedTable.{Spectra};
+ghost use Rattle.walsh.specs.Magnitudes.{largestMagnitude};
 ghost use Rattle.masks.specs.Masks.{outputs};
-ghost use Rattle.masks.specs.Work.{stepTables, Stepping};
-ghost use Rattle.linear.specs.Nonlinearity.{pairsOf, nonlinearityReply};
-ghost use Rattle.linear.specs.Nonlinearity as spec;
+ghost use Rattle.masks.specs.Steps.{stepTables, Stepping};
+ghost use Rattle.masks.specs.Parts.{mergedReply};
+ghost use Rattle.linear.specs.Nonlinearity.{pairsOf, pairsBetween, nonlinearityReply, nonlinearityBetweenReply, partChecks};
 ghost use Rattle.linear.specs.Calls.{componentChecks, ComponentCalled, saidLeastPair, pairCandidate};
-ghost use Rattle.linear.specs.Lent.{PairsSwept};
+ghost use Rattle.linear.specs.Parts.{saidPart};
+ghost use Rattle.linear.specs.Lent.{PairsSwept, PartSwept};
 
 // The best pair so far. It stands in a server, which crosses to C by value: so its fields lie as C lays them.
 #[repr(C)]
@@ -33,9 +36,16 @@ pub enum LeastPair {
     Declined(Refusal),
 }
 
+// The answer of the nonlinearity call over a part of the combinations: the same, or that none within the limit lies in the part.
+pub enum PartPair {
+    Reached { count: u32, c: u32, w: u32, b: u32 },
+    Nothing,
+    Declined(Refusal),
+}
+
 // The spectrum of component c, with the fixed table and an array for the truth table lent.
 pub fn component_spectrum(
-    fixed: &[i32; 2048],
+    fixed: &[i16; 2048],
     n: u32,
     m: u32,
     rows: &[u32],
@@ -51,9 +61,9 @@ pub fn component_spectrum(
     walsh::descend(fixed, n, table, out);
 }
 
-// The spectrum of component c, from the truth table of component `last`, the mask before it.
-fn next_spectrum(
-    fixed: &[i32; 2048],
+// The largest magnitude in the spectrum of component c, from the truth table of component `last`, the mask before it.
+pub fn next_peak(
+    fixed: &[i16; 2048],
     n: u32,
     m: u32,
     rows: &[u32],
@@ -61,15 +71,15 @@ fn next_spectrum(
     last: u64,
     c: u64,
     table: &mut [u8],
-    out: &mut [i32],
-)
-    requires { ⌜ PairsSwept n m (now rows) (now table) (now out) × Spectra (now fixed)
+    work: &mut [i16],
+) -> u32
+    requires { ⌜ PairsSwept n m (now rows) (now table) (now work) × Spectra (now fixed)
         × Stepping m (now rows) (now steps) last c (now table) ⌝ }
-    ensures { λ _. ⌜ (now (out .exit) ≡ spectrum n (component (now (rows .entry)) c))
+    ensures { λ r. ⌜ (r ≡ largestMagnitude (spectrum n (component (now (rows .entry)) c)))
         × (now (table .exit) ≡ listBelow (2 ^ n) (λ x. component (now (rows .entry)) c x)) ⌝ }
 {
     masks::next_component(m, rows, steps, last, c, table);
-    walsh::descend(fixed, n, table, out);
+    walsh::peak(fixed, n, table, work)
 }
 
 // The checks of the component's spectrum.
@@ -106,7 +116,7 @@ pub fn spectrum_of_component(n: u32, m: u32, rows: &[u32], c: u32, out: &mut [i3
 // The fewest inputs at which component c differs from an affine function, with the fixed table and two arrays to work in lent: they are
 // left with the component's truth table and spectrum.
 pub fn component_count(
-    fixed: &[i32; 2048],
+    fixed: &[i16; 2048],
     n: u32,
     m: u32,
     rows: &[u32],
@@ -148,41 +158,102 @@ pub fn with_spectrum(found: Found, n: u32, m: u32, rows: &[u32], c: u32, values:
     }
 }
 
-// Every component within the limit in turn, each from the one before, from the component 0 on. It starts from a count that no pair has.
+// The best pair so far, or the first nearest pair of component c, whose truth table and largest magnitude are given: its spectrum is made
+// only where the pair is taken.
+fn with_peak(
+    fixed: &[i16; 2048],
+    found: Found,
+    n: u32,
+    m: u32,
+    rows: &[u32],
+    c: u32,
+    largest: u32,
+    table: &[u8],
+    values: &mut [i32],
+) -> Found
+    requires { ⌜ PairsSwept n m (now rows) (now table) (now values) × Spectra (now fixed)
+        × (largest ≡ largestMagnitude (spectrum n (component (now rows) c)))
+        × (now table ≡ listBelow (2 ^ n) (λ x. component (now rows) c x)) ⌝ }
+    ensures { λ r. ⌜ pairCandidate r
+        ≡ best (ranked lower outputs) (pairCandidate found) (firstLeast (pairsOf n (now (rows .entry)) c) ∷ []) ⌝ }
+{
+    let near = rows.len() as u32 / 2 - largest;
+    if masks::is_preferred(near, found.count, c, found.c) {
+        walsh::descend(fixed, n, table, values);
+        with_spectrum(found, n, m, rows, c, values)
+    } else {
+        found
+    }
+}
+
+// Every component within the limit from `first`, which is one of them, to `last` in turn, each from the one before. It starts from a count
+// that no pair has, and from the component of the number before `first`.
 fn sweep(
-    fixed: &[i32; 2048],
+    fixed: &[i16; 2048],
     n: u32,
     m: u32,
     rows: &[u32],
     i: u32,
+    first: u32,
+    last: u32,
     steps: &mut [u8],
     table: &mut [u8],
+    work: &mut [i16],
     values: &mut [i32],
 ) -> Found
-    requires { ⌜ PairsSwept n m (now rows) (now table) (now values) × Spectra (now fixed)
-        × (length (now steps) ≡ m * length (now rows)) × (1 ≤ i) ⌝ }
-    ensures { λ r. ⌜ (pairCandidate r ≡ spec.nonlinearity n m (now (rows .entry)) i)
+    requires { ⌜ PairsSwept n m (now rows) (now table) (now work) × Spectra (now fixed)
+        × (length (now steps) ≡ m * length (now rows)) × (1 ≤ i) × PartSwept m i first last × (length (now values) ≡ 2 ^ n) ⌝ }
+    ensures { λ r. ⌜ (pairCandidate r ≡ firstLeast (pairsBetween n m (now (rows .entry)) i first last))
         × (now (steps .exit) ≡ stepTables m (now (rows .entry)))
-        × AnyContent (now (table .entry)) (now (table .exit)) × AnyContent (now (values .entry)) (now (values .exit)) ⌝ }
+        × AnyContent (now (table .entry)) (now (table .exit)) × AnyContent (now (work .entry)) (now (work .exit))
+        × AnyContent (now (values .entry)) (now (values .exit)) ⌝ }
 {
     masks::write_steps(m, rows, steps);
-    masks::write_component(rows, 0, table);
-    let masks = boolean::power_of_two(m) as u64;
+    let prior = first - 1;
+    masks::write_component(rows, prior, table);
+    let end = last as u64 + 1;
     let mut found = Found {
         count: rows.len() as u32 + 1,
         c: 0,
         w: 0,
         b: 0,
     };
-    let mut last: u64 = 0;
-    let mut c: u64 = 1;
-    while c < masks {
-        next_spectrum(fixed, n, m, rows, steps, last, c, table, values);
-        found = with_spectrum(found, n, m, rows, c as u32, values);
-        last = c;
+    let mut before = prior as u64;
+    let mut c = first as u64;
+    while c < end {
+        let largest = next_peak(fixed, n, m, rows, steps, before, c, table, work);
+        found = with_peak(fixed, found, n, m, rows, c as u32, largest, table, values);
+        before = c;
         c = masks::next_mask(i, c);
     }
     found
+}
+
+// The first nearest pair of the components within the limit from `first`, which is one of them, to `last`.
+fn least_between(n: u32, m: u32, rows: &[u32], i: u32, first: u32, last: u32) -> Found
+    requires { ⌜ Box n m (now rows) × (1 ≤ i) × PartSwept m i first last ⌝ }
+    ensures { λ r. ⌜ pairCandidate r ≡ firstLeast (pairsBetween n m (now (rows .entry)) i first last) ⌝ }
+{
+    let fixed = walsh::spectra();
+    let mut steps = [0u8; 8192];
+    let mut table = [0u8; 256];
+    let mut work = [0i16; 256];
+    let mut values = [0i32; 256];
+    let size = rows.len();
+    let total = m as usize * size;
+    sweep(
+        &fixed,
+        n,
+        m,
+        rows,
+        i,
+        first,
+        last,
+        &mut steps[..total],
+        &mut table[..size],
+        &mut work[..size],
+        &mut values[..size],
+    )
 }
 
 // The nonlinearity of a box over its combinations of at most i outputs, with the first pair that reaches it.
@@ -192,26 +263,73 @@ pub fn nonlinearity(n: u32, m: u32, rows: &[u32], i: u32) -> LeastPair
     if let Checked::Refused(e) = refusals::check_limited(n, m, rows, i) {
         return LeastPair::Declined(e);
     }
-    let fixed = walsh::spectra();
-    let mut steps = [0u8; 8192];
-    let mut table = [0u8; 256];
-    let mut values = [0i32; 256];
-    let size = rows.len();
-    let total = m as usize * size;
-    let found = sweep(
-        &fixed,
-        n,
-        m,
-        rows,
-        i,
-        &mut steps[..total],
-        &mut table[..size],
-        &mut values[..size],
-    );
+    let masks = (boolean::power_of_two(m) - 1) as u32;
+    let found = least_between(n, m, rows, i, 1, masks);
     LeastPair::Reached {
         count: found.count,
         c: found.c,
         w: found.w,
         b: found.b,
+    }
+}
+
+// The checks of a part: the plain call's, then that it lies from 1 to 2^m − 1.
+pub fn check_part(n: u32, m: u32, rows: &[u32], limit: u32, low: u32, high: u32) -> Checked
+    ensures { λ r. ⌜ r ≡ first (partChecks n m (now (rows .entry)) limit low high) ⌝ }
+{
+    if let Checked::Refused(e) = refusals::check_limited(n, m, rows, limit) {
+        return Checked::Refused(e);
+    }
+    masks::check_part(m, low, high)
+}
+
+// The nonlinearity over the combinations of at most i outputs whose masks lie from `first` to `last`: a part of a sweep.
+pub fn nonlinearity_between(n: u32, m: u32, rows: &[u32], i: u32, first: u32, last: u32) -> PartPair
+    ensures { λ r. ⌜ saidPart r ≡ nonlinearityBetweenReply n m (now (rows .entry)) i first last ⌝ }
+{
+    if let Checked::Refused(e) = check_part(n, m, rows, i, first, last) {
+        return PartPair::Declined(e);
+    }
+    let start = masks::first_mask(i, first as u64);
+    if (last as u64) < start {
+        return PartPair::Nothing;
+    }
+    let nearest = least_between(n, m, rows, i, start as u32, last);
+    PartPair::Reached {
+        count: nearest.count,
+        c: nearest.c,
+        w: nearest.w,
+        b: nearest.b,
+    }
+}
+
+// Two parts' answers as one: the fewer inputs, then the fewer outputs, then the smaller mask; a refusal stays one.
+pub fn merge(x: PartPair, y: PartPair) -> PartPair
+    ensures { λ r. ⌜ saidPart r ≡ mergedReply ltb (saidPart x) (saidPart y) ⌝ }
+{
+    match x {
+        PartPair::Declined(e) => PartPair::Declined(e),
+        PartPair::Nothing => y,
+        PartPair::Reached {
+            count,
+            c,
+            w: _,
+            b: _,
+        } => match y {
+            PartPair::Declined(e) => PartPair::Declined(e),
+            PartPair::Nothing => x,
+            PartPair::Reached {
+                count: other,
+                c: mask,
+                w: _,
+                b: _,
+            } => {
+                if masks::is_sooner(other, count, mask, c) {
+                    y
+                } else {
+                    x
+                }
+            }
+        },
     }
 }

@@ -43,7 +43,7 @@ module _ (v b : Candidate) {figure c : ℕ} (p : figure ≡ v .figure) (q : c �
       turned (no e) = ne-eqb _ _ e ∙ sym (ne-eqb _ _ (λ d. e (sym d)))
 
 -- the masks within a limit are visited so
-pub visit-within : (m i : ℕ) → 1 ≤ m → 1 ≤ i → Visit m (masksBelow i (2 ^ m)) (components m i)
+pub visit-within : (m i : ℕ) → 1 ≤ m → 1 ≤ i → Visit m 1 (masksBelow i (2 ^ m)) (components m i)
 visit-within m i m-low i-low =
     let t = first-masksBelow i m m-low i-low in
     record {
@@ -55,13 +55,12 @@ visit-within m i m-low i-low =
       same = same-masks m i;
     }
 
-module _ {beats : Candidate → Candidate → Bool} {R S : Candidate → Candidate → Type 0} (o : Ordered beats R S) (f : ByFigure R S)
-    {m : ℕ} {visited ordered : List ℕ} (visit : Visit m visited ordered) {rule : ℕ → Candidate} (named : Named rule) where
-  abbrev one : ℕ → List Candidate
+-- one candidate for each mask: along the masks, ranks of masks are ranks of candidates
+module _ {rule : ℕ → Candidate} (named : Named rule) where
+  abbrev pub one : ℕ → List Candidate
   one c = rule c ∷ []
 
-  -- along the masks, ranks of masks are ranks of candidates
-  ascending-rule : (rank : ℕ → ℕ) (cs : List ℕ) → Ascending rank cs → Ascending (λ p. rank (mask p)) (each cs one)
+  pub ascending-rule : (rank : ℕ → ℕ) (cs : List ℕ) → Ascending rank cs → Ascending (λ p. rank (mask p)) (each cs one)
   ascending-rule rank cs a =
       ascending-each rank (λ p. rank (mask p)) cs one a (λ c k. (λ p j. absurd (List·Memᴰ·not-nil j), tt))
       (λ b c k j l p q u v. omega (arith, is b p u, is c q v))
@@ -69,15 +68,21 @@ module _ {beats : Candidate → Candidate → Bool} {R S : Candidate → Candida
       is : (c : ℕ) (p : Candidate) → List·Memᴰ p (one c) → rank (mask p) ≡ rank c
       is c p k = ap (λ (p : Candidate). rank (mask p)) (List·Memᴰ·eq-of-singleton k) ∙ ap rank (named .names c)
 
+  -- and the masks are those of the list
+  pub high-rule : {end : ℕ} (cs : List ℕ) → ((c : ℕ) → List·Memᴰ c cs → c < end) → (p : Candidate) → List·Memᴰ p (each cs one) → mask p < end
+  high-rule cs high p k =
+      let t = mem-each cs one p k in
+      omega (arith, ap mask (List·Memᴰ·eq-of-singleton (t .2)), named .names (t .0), high (t .0) (t .1))
+
+module _ {beats : Candidate → Candidate → Bool} {R S : Candidate → Candidate → Type 0} (o : Ordered beats R S) (f : ByFigure R S)
+    {m first : ℕ} {visited ordered : List ℕ} (visit : Visit m first visited ordered) {rule : ℕ → Candidate} (named : Named rule) where
   -- of a mask that comes later, fewer ones decide as the rank does
-  same-test : (x y : Candidate) → List·Memᴰ y (each visited one) → mask x < mask y
+  same-test : (x y : Candidate) → List·Memᴰ y (each visited (one named)) → mask x < mask y
       → ranked beats outputs y x ≡ ranked beats (λ p. maskRank m (mask p)) y x
   same-test x y k l = ap (λ (t : Bool). beats y x || (eqb (y .figure) (x .figure) && t)) (go (decLt (outputs y) (outputs x)))
     where
       high : mask y < 2 ^ m
-      high =
-          let t = mem-each visited one y k in
-          omega (arith, ap mask (List·Memᴰ·eq-of-singleton (t .2)), named .names (t .0), visit .high (t .0) (t .1))
+      high = high-rule named visited (visit .high) y k
 
       go : Dec (outputs y < outputs x) → ltb (outputs y) (outputs x) ≡ ltb (maskRank m (mask y)) (maskRank m (mask x))
       go (yes h) = lt-ltb _ _ h ∙ sym (lt-ltb _ _ (rank-of-before m (mask y) (mask x) high (inl h)))
@@ -85,17 +90,17 @@ module _ {beats : Candidate → Candidate → Bool} {R S : Candidate → Candida
           let fewer : ones (mask x) ≤ ones (mask y) = omega arith in
           le-ltb (outputs y) (outputs x) fewer ∙ sym (le-ltb (maskRank m (mask y)) (maskRank m (mask x)) (omega (arith, mul-le-mul-right (2 ^ m) fewer)))
 
-  pub swept : {start : Candidate} → (start ≡ rule 1) ⊎ (ranked beats outputs (rule 1) start ≡ true)
-      → best (ranked beats outputs) start (each visited one) ≡ firstBest beats (each ordered one)
+  pub swept : {start : Candidate} → (start ≡ rule first) ⊎ (ranked beats outputs (rule first) start ≡ true)
+      → best (ranked beats outputs) start (each visited (one named)) ≡ firstBest beats (each ordered (one named))
   unfolding each
   swept {start} h =
-      let from : best (ranked beats outputs) start (each visited one) ≡ firstBest (ranked beats outputs) (each visited one)
-      = ap (λ (l : List ℕ). best (ranked beats outputs) start (each l one)) (visit .starts)
-      ∙ best-from (ranked beats outputs) start (rule 1) (each (visit .rest) one) h
-      ∙ ap (λ (l : List ℕ). firstBest (ranked beats outputs) (each l one)) (sym (visit .starts)) in
-      from ∙ agrees (each visited one) (λ x y. same-test x y) (ascending-rule (λ c. c) visited (visit .rises))
-      ∙ any-order o f (λ p. maskRank m (mask p)) (each ordered one) (each visited one)
-      (ascending-rule (maskRank m) ordered (visit .in-order)) (each-same visited ordered one (visit .same))
+      let from : best (ranked beats outputs) start (each visited (one named)) ≡ firstBest (ranked beats outputs) (each visited (one named))
+      = ap (λ (l : List ℕ). best (ranked beats outputs) start (each l (one named))) (visit .starts)
+      ∙ best-from (ranked beats outputs) start (rule first) (each (visit .rest) (one named)) h
+      ∙ ap (λ (l : List ℕ). firstBest (ranked beats outputs) (each l (one named))) (sym (visit .starts)) in
+      from ∙ agrees (each visited (one named)) (λ x y. same-test x y) (ascending-rule named (λ c. c) visited (visit .rises))
+      ∙ any-order o f (λ p. maskRank m (mask p)) (each ordered (one named)) (each visited (one named))
+      (ascending-rule named (maskRank m) ordered (visit .in-order)) (each-same visited ordered (one named) (visit .same))
     where
       agrees : (cs : List Candidate) → ((x y : Candidate) → List·Memᴰ y cs → mask x < mask y → ranked beats outputs y x ≡ ranked beats (λ p. maskRank m (mask p)) y x)
           → Ascending mask cs → firstBest (ranked beats outputs) cs ≡ firstBest (ranked beats (λ p. maskRank m (mask p))) cs
@@ -105,7 +110,7 @@ module _ {beats : Candidate → Candidate → Bool} {R S : Candidate → Candida
 -- ---- candidates in blocks, one for each mask
 module _ {f : ℕ → List Candidate} (b : Blocks f) where
   -- the first best of a block is one of it
-  leader-names : (beats : Candidate → Candidate → Bool) (c : ℕ) → mask (firstBest beats (f c)) ≡ c
+  pub leader-names : (beats : Candidate → Candidate → Bool) (c : ℕ) → mask (firstBest beats (f c)) ≡ c
   leader-names beats c =
       let s = b .some c in
       b .names c (firstBest beats (f c)) (subst (λ (l : List Candidate). List·Memᴰ (firstBest beats l) l) (sym (s .2)) (best-mem beats (s .0) (s .1)))
@@ -119,30 +124,35 @@ module _ {f : ℕ → List Candidate} (b : Blocks f) where
   largest-names = leader-names higher
 
   -- from a figure that is higher than the first block's, the least of any masks so visited
-  pub least-visited : {m : ℕ} {visited ordered : List ℕ} → Visit m visited ordered → (start : Candidate) → firstLeast (f 1) .figure < start .figure
+  pub least-visited : {m first : ℕ} {visited ordered : List ℕ} → Visit m first visited ordered → (start : Candidate) → firstLeast (f first) .figure < start .figure
       → best (ranked lower outputs) start (each visited (λ c. firstLeast (f c) ∷ [])) ≡ firstLeast (each ordered f)
   unfolding firstLeast
-  least-visited {ordered = ordered} visit start h =
-      swept least by-least visit (record { names = leader-names lower }) (inr (ranked-wins lower outputs (firstLeast (f 1)) start (lt-ltb _ _ h)))
+  least-visited {first = first} {ordered = ordered} visit start h =
+      swept least by-least visit (record { names = leader-names lower }) (inr (ranked-wins lower outputs (firstLeast (f first)) start (lt-ltb _ _ h)))
       ∙ sym (first-blocks least by-least f (b .some) ordered)
 
+  -- from the figure 0 with the first block's witness, the largest
+  pub largest-visited : {m first : ℕ} {visited ordered : List ℕ} → Visit m first visited ordered → (start : Candidate) → start .figure ≡ 0
+      → (firstLargest (f first) .figure ≡ 0 → firstLargest (f first) ≡ start)
+      → best (ranked higher outputs) start (each visited (λ c. firstLargest (f c) ∷ [])) ≡ firstLargest (each ordered f)
+  unfolding firstLargest
+  largest-visited {first = first} {ordered = ordered} visit start z none =
+      swept largest by-largest visit (record { names = leader-names higher }) (from (firstLargest (f first) .figure) refl)
+      ∙ sym (first-blocks largest by-largest f (b .some) ordered)
+    where
+      from : (k : ℕ) → firstLargest (f first) .figure ≡ k → (start ≡ firstLargest (f first)) ⊎ (ranked higher outputs (firstLargest (f first)) start ≡ true)
+      from zero e = inl (sym (none e))
+      from (suc k) e = inr (ranked-wins higher outputs (firstLargest (f first)) start (lt-ltb (start .figure) (firstLargest (f first) .figure) (omega arith)))
+
+  -- and both of the masks within the limit
   module _ (m i : ℕ) (m-low : 1 ≤ m) (i-low : 1 ≤ i) (start : Candidate) where
-    -- and of the masks within the limit
     pub least-swept : firstLeast (f 1) .figure < start .figure
         → best (ranked lower outputs) start (each (masksBelow i (2 ^ m)) (λ c. firstLeast (f c) ∷ [])) ≡ firstLeast (each (components m i) f)
     least-swept h = least-visited (visit-within m i m-low i-low) start h
 
-    -- from the figure 0 with the first block's witness, the largest
     pub largest-swept : start .figure ≡ 0 → (firstLargest (f 1) .figure ≡ 0 → firstLargest (f 1) ≡ start)
         → best (ranked higher outputs) start (each (masksBelow i (2 ^ m)) (λ c. firstLargest (f c) ∷ [])) ≡ firstLargest (each (components m i) f)
-    unfolding firstLargest
-    largest-swept z none =
-        swept largest by-largest (visit-within m i m-low i-low) (record { names = leader-names higher }) (from (firstLargest (f 1) .figure) refl)
-        ∙ sym (first-blocks largest by-largest f (b .some) (components m i))
-      where
-        from : (k : ℕ) → firstLargest (f 1) .figure ≡ k → (start ≡ firstLargest (f 1)) ⊎ (ranked higher outputs (firstLargest (f 1)) start ≡ true)
-        from zero e = inl (sym (none e))
-        from (suc k) e = inr (ranked-wins higher outputs (firstLargest (f 1)) start (lt-ltb (start .figure) (firstLargest (f 1) .figure) (omega arith)))
+    largest-swept = largest-visited (visit-within m i m-low i-low) start
 
 -- where the figure is still that of the start, the outputs are no more than the start's
 pub few-outputs : (start : Candidate) (cs : List Candidate) {found : Candidate} → found ≡ best (ranked higher outputs) start cs

@@ -7,3 +7,6 @@ pub mod Walk
 pub mod Fewest
 pub mod Boxes
 pub mod Sweeps
+pub mod FirstMask
+pub mod Parts
+pub mod Gathering

@@ -13,7 +13,7 @@ use Rattle.boolean.specs.Sums.{listBelow}
 use Rattle.boolean.specs.Functions.{at, component}
 use Rattle.boolean.proofs.Digits.{component-xor}
 use Rattle.boolean.proofs.Lists.{length-listBelow, getD-listBelow, listBelow-cong}
-use Rattle.masks.specs.Work.{maskOfOnes, stepTables, Steps, Stepping}
+use Rattle.masks.specs.Steps.{maskOfOnes, stepTables, Steps, Stepping}
 use Rattle.masks.proofs.Runs.{raised-differs, raised-above, place-short, place-is, run-short}
 
 -- ---- one step table

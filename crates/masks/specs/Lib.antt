@@ -1,3 +1,5 @@
 pub mod Masks
+pub mod Steps
 pub mod Statements
 pub mod Work
+pub mod Parts

@@ -15,6 +15,12 @@ pub record Next (i c r : ℕ) : Type 0 where
   pub few : ones r ≤ i
   pub between : (x : ℕ) → c < x → x < r → i < ones x
 
+-- r is the least number from c on with at most i ones
+pub record FirstFrom (i c r : ℕ) : Type 0 where
+  pub low : c ≤ r
+  pub few : ones r ≤ i
+  pub between : (x : ℕ) → c ≤ x → x < r → i < ones x
+
 -- r is c with a power of two added that divides c
 pub record PowerAdded (c r : ℕ) : Type 0 where
   pub place : ℕ

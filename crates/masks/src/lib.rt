@@ -1,4 +1,6 @@
 // The masks of components within a limit, one after the other, and their truth tables.
+use refusals::Checked;
+use refusals::Refusal;
 ghost use mathlib.Core.Path.{_≡_};
 ghost use Prim.Native.Nat.{_*_, _^_, _≤_, _<_};
 ghost use lib.Bits.{bitXor};
@@ -7,8 +9,11 @@ ghost use lib.ListN.{length};
 ghost use Rattle.boolean.specs.Bits.{dot};
 ghost use Rattle.boolean.specs.Sums.{listBelow};
 ghost use Rattle.boolean.specs.Functions.{at, component};
-ghost use Rattle.masks.specs.Masks.{Next, PowerAdded};
-ghost use Rattle.masks.specs.Work.{preferred, maskOfOnes, Steps, Stepping};
+ghost use Rattle.masks.specs.Masks.{FirstFrom, Next, PowerAdded};
+ghost use Rattle.masks.specs.Steps.{maskOfOnes, Steps, Stepping};
+ghost use Rattle.masks.specs.Work.{preferred};
+ghost use Rattle.refusals.specs.Table.{first};
+ghost use Rattle.masks.specs.Parts.{partLines, sooner};
 
 // The next mask with at most `limit` ones: c + 1 where c has fewer, and else c with its lowest one added.
 pub fn next_mask(limit: u32, c: u64) -> u64
@@ -20,6 +25,18 @@ pub fn next_mask(limit: u32, c: u64) -> u64
     } else {
         c + (1u64 << u64::trailing_zeros(c))
     }
+}
+
+// The first mask from c on with at most `limit` ones: while it has more, its lowest one is added.
+pub fn first_mask(limit: u32, c: u64) -> u64
+    requires { ⌜ (1 ≤ limit) × (c < 4294967296) ⌝ }
+    ensures { λ r. ⌜ FirstFrom limit c r ⌝ }
+{
+    let mut r = c;
+    while limit < u64::count_ones(r) {
+        r = next_mask(u64::count_ones(r), r);
+    }
+    r
 }
 
 // Whether mask c is to be preferred to the best so far: by its figure, and among equal figures by fewer ones. Where `low` is the figure of
@@ -35,6 +52,43 @@ pub fn is_preferred(low: u32, high: u32, c: u32, best: u32) -> bool
     } else {
         false
     }
+}
+
+// Whether the result of mask c comes before that of mask `best`, where two parts of a sweep are merged: by its figure, and among equal
+// figures by fewer ones, and among as many ones by the smaller mask. `low` and `high` are as above.
+pub fn is_sooner(low: u32, high: u32, c: u32, best: u32) -> bool
+    ensures { λ r. ⌜ r ≡ sooner low high c best ⌝ }
+{
+    if low < high {
+        return true;
+    }
+    if low != high {
+        return false;
+    }
+    let ones = u32::count_ones(c);
+    let fewest = u32::count_ones(best);
+    if ones < fewest {
+        return true;
+    }
+    if ones != fewest {
+        return false;
+    }
+    c < best
+}
+
+// The lines on a part of a sweep, of an m that was checked: it lies from 1 to 2^m − 1 and has a mask.
+pub fn check_part(m: u32, low: u32, high: u32) -> Checked
+    requires { ⌜ m ≤ 32 ⌝ }
+    ensures { λ r. ⌜ r ≡ first (partLines m low high) ⌝ }
+{
+    let largest = (boolean::power_of_two(m) - 1) as u32;
+    if !refusals::in_range(1, largest, low) {
+        return Checked::Refused(Refusal::Parameter);
+    }
+    if !refusals::in_range(low, largest, high) {
+        return Checked::Refused(Refusal::Parameter);
+    }
+    Checked::Accepted
 }
 
 // The value of component c at a row.

@@ -71,7 +71,7 @@ fn list_places(c: u64, size: u32, values: &[i32], list: &mut [u64], start: usize
 // The pairs of component c that differ at d inputs, where no pair within the limit differs at fewer. Its spectrum is looked through only
 // where the largest magnitude says that there is such a pair.
 fn list_component(
-    fixed: &[i32; 2048],
+    fixed: &[i16; 2048],
     n: u32,
     m: u32,
     rows: &[u32],
@@ -100,7 +100,7 @@ fn list_component(
 
 // The same of every component whose mask has k ones, in ascending order.
 fn list_of_ones(
-    fixed: &[i32; 2048],
+    fixed: &[i16; 2048],
     n: u32,
     m: u32,
     rows: &[u32],
@@ -132,7 +132,7 @@ fn list_of_ones(
 
 // The same of every component within the limit, fewest outputs first. How many pairs there are is returned.
 fn list_all(
-    fixed: &[i32; 2048],
+    fixed: &[i16; 2048],
     n: u32,
     m: u32,
     rows: &[u32],
@@ -158,7 +158,7 @@ fn list_all(
 
 // The pairs are counted first, with no entry of the list lent, and only a list that has room for all of them is written to.
 fn list_with(
-    fixed: &[i32; 2048],
+    fixed: &[i16; 2048],
     n: u32,
     m: u32,
     rows: &[u32],

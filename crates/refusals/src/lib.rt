@@ -101,7 +101,8 @@ fn largest_row(rows: &[u32]) -> u32
     most
 }
 
-// Whether every row is below the limit. The largest alone is compared: a loop without a way out looks at many rows at a time.
+// Whether every row is below the limit. The largest alone is compared: a loop without an early exit compiles to vector instructions, which
+// look at several rows at a time.
 pub fn rows_below(rows: &[u32], limit: usize) -> bool
     ensures { λ r. ⌜ r ≡ allBelow limit (now (rows .entry)) ⌝ }
 {

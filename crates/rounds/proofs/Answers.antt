@@ -13,7 +13,7 @@ use Rattle.rounds.specs.declared.LeastSum.the-variants.{Reached, Decline
 
 -- ---- one reply has one answer: no field of the answer is left open
 -- the masks up to the number and b, and the masks past it, are all of them
-masks-one : (count : ℕ) (xs ys : List ℕ) (a b : ℕ) → length xs ≡ length ys → take count xs ++ (a ∷ []) ≡ take count ys ++ (b ∷ []) → drop count xs ≡ drop count ys
+pub masks-one : (count : ℕ) (xs ys : List ℕ) (a b : ℕ) → length xs ≡ length ys → take count xs ++ (a ∷ []) ≡ take count ys ++ (b ∷ []) → drop count xs ≡ drop count ys
     → xs ++ (a ∷ []) ≡ ys ++ (b ∷ [])
 masks-one zero xs ys a b n e f = cc
 masks-one (suc k) [] [] a b n e f = e

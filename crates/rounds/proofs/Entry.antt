@@ -160,6 +160,10 @@ module _ (s1 s2 s3 s4 : Summand) where
     pub box-4 : ltb 3 count ≡ true → IsBox s4
     box-4 e = r .boxed s4 (member-4 count (ltb-true 3 count e))
 
+    -- the first has an input
+    pub round-inputs : 1 ≤ inputsOf (boxes count s1 s2 s3 s4)
+    round-inputs = omega (arith, inputs-are count (r .count-low) (r .count-high), box-1 .n-low)
+
     module _ {c : ℕ} (high : c < 2 ^ s1 .outputs) where
       as-first : (s : Summand) → s .outputs ≡ s1 .outputs → c < 2 ^ s .outputs
       as-first s e = subst (λ (k : ℕ). c < 2 ^ k) (sym e) high
@@ -267,3 +271,9 @@ module _ (count : ℕ) (handed : List Summand) (i : ℕ) where
     -- "all their inputs, up to 32 of them"
     pub at-most-32 : inputsOf ss ≤ 32
     at-most-32 = omega (arith, inputs-few ss (accepted-round .boxed), length-take count handed, accepted-round .count-high)
+
+-- box 1 of an accepted call has at most 32 outputs
+pub first-outputs : (s1 s2 s3 s4 : Summand) (count i : ℕ) → first (sumChecks count (s1 ∷ s2 ∷ s3 ∷ s4 ∷ []) i) ≡ Accepted → s1 .outputs ≤ 32
+first-outputs s1 s2 s3 s4 count i accepted =
+    let r = accepted-round count (s1 ∷ s2 ∷ s3 ∷ s4 ∷ []) i accepted in
+    r .boxed s1 (member-1 s1 s2 s3 s4 count (r .count-low)) .m-high

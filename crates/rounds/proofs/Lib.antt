@@ -13,5 +13,10 @@ pub mod Boxes
 pub mod Reported
 pub mod Answers
 pub mod Tops
+pub mod Ranges
+pub mod Gathering
+pub mod Merged
+pub mod Steps
 pub mod Terms
 pub mod InputBits
+pub mod PartReports

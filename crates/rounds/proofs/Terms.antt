@@ -3,27 +3,28 @@ use mathlib.Core.Path.{_≡_, refl, sym, ap, ap₂, _∙_, subst}
 use mathlib.Core.Bool.{true, false}
 use mathlib.Core.Logic.{inr}
 use mathlib.Core.List.{List, [], _∷_, _++_, List·Memᴰ, List·Memᴰ·not-nil}
-use Prim.Native.Nat.{ℕ, zero, suc, _*_, _-_, _/_, _<_, _≤_, _^_}
+use Prim.Native.Nat.{ℕ, zero, suc, _+_, _*_, _-_, _/_, _<_, _≤_, _^_}
 use native.Mathlib.Nat.{mul-le-mul, mul-one}
 use native.Mathlib.Omega.{arith}
 use borrow.Author.Tests.{lt-ltb}
 use lib.Bits.{bitXor, xor-zero-r}
 use lib.Dec.{ltb}
-use lib.IntN.{ℤ}
 use lib.ListN.{take, drop}
-use Rattle.boolean.specs.Sums.{each, AnyContent}
-use Rattle.boolean.specs.Functions.{at, component, components, walsh, signBit}
+use Rattle.boolean.specs.Sums.{each}
+use Rattle.boolean.specs.Functions.{at, component, walsh, signBit}
 use Rattle.boolean.specs.Selection.{Candidate, best, higher, firstLargest, ranked}
 use Rattle.boolean.proofs.FirstLargest.{best-changed}
 use Rattle.boolean.proofs.Selection.{best-takes, best-keeps, largest, by-largest}
-use Rattle.masks.specs.Masks.{outputs}
-use Rattle.masks.specs.Masks.{Next}
+use Rattle.masks.specs.Masks.{outputs, Next}
+use Rattle.masks.specs.Parts.{componentsBetween}
 use Rattle.masks.specs.Work.{preferred}
-use Rattle.masks.proofs.Fewest.{visit-within, swept, ranked-wins, higher-test}
-use Rattle.masks.proofs.Sweeps.{Choosing, choosing-next, choosing-ends}
+use Rattle.masks.proofs.Fewest.{swept, ranked-wins, higher-test}
+use Rattle.masks.proofs.Parts.{visit-part}
+use Rattle.masks.proofs.Sweeps.{ChoosingFrom, choosing-next, choosing-ends}
+use Rattle.linear.specs.Lent.{PartSwept}
 use Rattle.rounds.specs.Round.{Summand, inputsOf, sumNonlinearity}
 use Rattle.rounds.specs.Spectra.{peak, product, peakPlaces, signAt, bySpectra, larger, factored, largestProduct}
-use Rattle.rounds.specs.Work.{sizeIf, Roomy, foundCandidate, TopOf, TopIf, masksOf, WitnessOf}
+use Rattle.rounds.specs.Work.{sizeIf, foundCandidate, TopOf, TopIf, masksOf, WitnessOf}
 use Rattle.rounds.specs.declared.Top.{Top}
 use Rattle.rounds.specs.declared.Witness.{Witness}
 use Rattle.rounds.specs.declared.Found.{Found}
@@ -31,10 +32,6 @@ use Rattle.rounds.proofs.Peaks.{peaks-positive}
 use Rattle.rounds.proofs.Spectra.{places-peaks, product-is, spectra-half}
 use Rattle.rounds.proofs.Theorems.{by-spectra, product-reached}
 use Rattle.rounds.proofs.Entry.{boxes}
-
--- ---- arrays as long as before have room still
-pub roomy-still : {bits bits′ : List ℕ} {out out′ : List ℤ} → Roomy bits out → AnyContent bits bits′ → AnyContent out out′ → Roomy bits′ out′
-roomy-still r p q = record { bits-size = p ∙ r .bits-size; out-size = q ∙ r .out-size }
 
 -- ---- the product of up to four boxes
 module _ (s1 s2 s3 s4 : Summand) (c : ℕ) where
@@ -124,38 +121,38 @@ start = record { size = 0; c = 0 }
 abbrev alone : List Summand → ℕ → List Candidate
 alone ss c = factored ss c ∷ []
 
-abbrev pub Sweeping : List Summand → ℕ → ℕ → Found → ℕ → Type 0
-Sweeping ss m i found c = Choosing (ranked higher outputs) (alone ss) m i (foundCandidate start) (foundCandidate found) c
+abbrev pub Sweeping : (ss : List Summand) (first last m i : ℕ) (found : Found) (c : ℕ) → Type 0
+Sweeping ss first last m i found c = ChoosingFrom first (last + 1) (ranked higher outputs) (alone ss) m i (foundCandidate start) (foundCandidate found) c
 
 -- no component has the product 0
 product-positive : (ss : List Summand) (c : ℕ) → 0 < product ss c
 product-positive ss c = omega (arith, product-is ss c, peaks-positive ss c (peakPlaces ss c) (places-peaks ss c))
 
-module _ (ss : List Summand) (m i : ℕ) where
-  module _ {found : Found} {c : ℕ} (t : Sweeping ss m i found c) where
-    module _ {size r mask : ℕ} (e : size ≡ product ss c) (q : mask ≡ c) (l : c < 2 ^ m) (after : Next i c r) where
+module _ (ss : List Summand) (first last : ℕ) {m i : ℕ} where
+  module _ {found : Found} {c : ℕ} (t : Sweeping ss first last m i found c) where
+    module _ {size r mask : ℕ} (e : size ≡ product ss c) (q : mask ≡ c) (l : c < last + 1) (after : Next i c r) where
       -- the code's test is the selection's
       tested : preferred (found .size) size mask (found .c) ≡ ranked higher outputs (factored ss c) (foundCandidate found)
       tested = higher-test (factored ss c) (foundCandidate found) e q
 
       -- a component that is preferred, and one that is not
-      pub sweep-takes : preferred (found .size) size mask (found .c) ≡ true → Sweeping ss m i (record { size = size; c = mask }) r
+      pub sweep-takes : preferred (found .size) size mask (found .c) ≡ true → Sweeping ss first last m i (record { size = size; c = mask }) r
       unfolding best
       sweep-takes h =
           choosing-next t l after
           (ap₂ (λ (k d : ℕ). record { figure = k; witness = d ∷ [] }) e q
           ∙ sym (best-takes (ranked higher outputs) (foundCandidate found) (factored ss c) [] (sym tested ∙ h)))
 
-      pub sweep-keeps : preferred (found .size) size mask (found .c) ≡ false → Sweeping ss m i found r
+      pub sweep-keeps : preferred (found .size) size mask (found .c) ≡ false → Sweeping ss first last m i found r
       unfolding best
       sweep-keeps h = choosing-next t l after (sym (best-keeps (ranked higher outputs) (foundCandidate found) (factored ss c) [] (sym tested ∙ h)))
 
-    pub sweep-ends : 2 ^ m ≤ c → 1 ≤ m → foundCandidate found ≡ largestProduct ss (components m i)
+    pub sweep-ends : last + 1 ≤ c → PartSwept m i first last → foundCandidate found ≡ largestProduct ss (componentsBetween m i first last)
     unfolding largestProduct firstLargest
-    sweep-ends h low =
+    sweep-ends h p =
         choosing-ends t h
-        ∙ swept largest by-largest (visit-within m i low (t .walk .limit)) (record { names = λ c. refl })
-        (inr (ranked-wins higher outputs (factored ss 1) (foundCandidate start) (lt-ltb 0 (product ss 1) (product-positive ss 1))))
+        ∙ swept largest by-largest (visit-part m i first last (t .part) (p .few) (p .some)) (record { names = λ c. refl })
+        (inr (ranked-wins higher outputs (factored ss first) (foundCandidate start) (lt-ltb 0 (product ss first) (product-positive ss first))))
 
 -- ---- the answer
 -- the component that was found, of those in cs, is the one whose spectra give the first pair that differs at the fewest inputs

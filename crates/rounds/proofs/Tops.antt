@@ -10,7 +10,7 @@ use lib.ListN.{length}
 use Rattle.boolean.specs.Functions.{at, valueAt, component, approximation, spectrum, signBit}
 use Rattle.boolean.specs.Selection.{firstLeast}
 use Rattle.boolean.proofs.Lists.{length-listBelow, getD-listBelow}
-use Rattle.boolean.proofs.Approximations.{walsh-twice, walsh-size}
+use Rattle.boolean.proofs.Approximations.{walsh-twice, walsh-size, half-power}
 use Rattle.refusals.specs.Table.{first, boxChecks, after, Box}
 use Rattle.refusals.specs.declared.Checked.the-variants.{Accepted}
 use Rattle.refusals.proofs.Bounds.{range-true}
@@ -24,8 +24,9 @@ use Rattle.rounds.specs.Work.{Highest, TopOf}
 use Rattle.rounds.specs.declared.Top.{Top}
 use Rattle.rounds.proofs.Peaks.{sizeOf, Peak}
 use Rattle.rounds.proofs.Spectra.{place-peak, peak-size}
-use Rattle.walsh.specs.Magnitudes.{FirstOfMagnitude}
-use Rattle.walsh.proofs.Magnitudes.{Largest, place-inside, place-has}
+use Rattle.linear.proofs.Nearest.{values-nonempty, largest-le, least-figure}
+use Rattle.walsh.specs.Magnitudes.{FirstOfMagnitude, largestMagnitude}
+use Rattle.walsh.proofs.Magnitudes.{Largest, largest-of, place-inside, place-has}
 
 -- the magnitude of a value
 abbrev pub sizes : List ℤ → ℕ → ℕ
@@ -60,6 +61,15 @@ count-peak n m rows c =
     let p = place-peak box c in
     let t = component-met n rows c in
     omega (arith, peak-size box c, component-within n rows c place (p .inside), p .bounds (t .0) (t .1), t .2)
+
+-- so the peak is twice the largest magnitude of the spectrum, and no more than 2^n
+pub twice-largest : (n m : ℕ) (rows : List ℕ) (c : ℕ) → 1 ≤ n → {size : ℕ} → size ≡ largestMagnitude (spectrum n (component rows c))
+    → (2 * size ≡ peak (summandOf n m rows) c .figure) × (2 * size ≤ 2 ^ n)
+twice-largest n m rows c low e =
+    let top = largest-of _ e (values-nonempty n rows c refl) in
+    let count = least-figure n rows c refl low top in
+    let high = largest-le n rows c refl low top in
+    (omega (arith, count-peak n m rows c, count, high, half-power n low), omega (arith, high))
 
 -- ---- the call of the component's spectrum is accepted
 module _ (n m : ℕ) (rows : List ℕ) (c : ℕ) (b : Box n m rows) (low : 1 ≤ c) (high : c < 2 ^ m) where

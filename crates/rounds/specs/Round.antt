@@ -8,9 +8,10 @@ use lib.Dec.{eqb}
 use lib.ListN.{take}
 use Rattle.boolean.specs.Sums.{each, every, listBelow}
 use Rattle.boolean.specs.Functions.{at, component, components, distance}
-use Rattle.boolean.specs.Selection.{Candidate, firstLeast, shown}
+use Rattle.boolean.specs.Selection.{Candidate, lower, firstLeast, shown}
 use Rattle.refusals.specs.Table.{Check, _unless_, inRange, boxChecks, first, Reply, replyAfter}
 use Rattle.refusals.specs.declared.Refusal.the-variants.{BoxCount, OutputWidths, Parameter}
+use Rattle.masks.specs.Parts.{partLines, bestBetween}
 
 -- one box of the sum: its numbers of inputs and outputs, and its rows
 pub record Summand : Type 0 where
@@ -108,3 +109,19 @@ abbrev pub sumReply : (count : ℕ) (handed : List Summand) (i : ℕ) → Reply
 sumReply count handed i =
     let ss : List Summand = firstGiven count handed in
     replyAfter (first (sumChecks count handed i)) (shown (sumNonlinearity ss (components (outputsOf ss) i)))
+
+-- A part of the sweep: the same over the components whose masks lie from `low` to `high`. Where none within the limit lies there, there is
+-- no figure.
+unfoldable pub sumBetween : (ss : List Summand) (i low high : ℕ) → List ℕ
+unfolding bestBetween sumPairsOf
+sumBetween ss i low high = bestBetween lower (outputsOf ss) i low high (sumPairsOf ss)
+
+-- its checks: the plain call's, then that the part lies from 1 to 2^m − 1 and has a mask
+unfoldable pub sumPartChecks : (count : ℕ) (handed : List Summand) (i low high : ℕ) → List Check
+unfolding sumChecks
+sumPartChecks count handed i low high = sumChecks count handed i ++ partLines (outputsOf (firstGiven count handed)) low high
+
+-- what the call over a part replies
+abbrev pub sumBetweenReply : (count : ℕ) (handed : List Summand) (i low high : ℕ) → Reply
+sumBetweenReply count handed i low high =
+    replyAfter (first (sumPartChecks count handed i low high)) (sumBetween (firstGiven count handed) i low high)

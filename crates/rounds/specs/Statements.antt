@@ -4,11 +4,12 @@ use mathlib.Core.Path.{_≡_}
 use mathlib.Core.Logic.{_⊎_}
 use mathlib.Core.List.{List, [], _∷_, _++_}
 use lib.IntN.{ℤ, pos, _*ℤ_}
-use Rattle.boolean.specs.Functions.{component, walsh, MaskWithin, MaskBefore}
-use Rattle.refusals.specs.Table.{figures}
+use Rattle.boolean.specs.Functions.{at, component, walsh, MaskWithin, MaskBefore}
+use Rattle.refusals.specs.Table.{Reply, figures}
+use Rattle.masks.specs.Statements.{Cut, MaskBetween}
 use Rattle.linear.specs.Nonlinearity.{nonlinearity}
 use Rattle.linear.specs.Statements.{IsPair}
-use Rattle.rounds.specs.Round.{Summand, inputsOf, firstGiven, outputsOf, sumRows, joined, sumDistance, sumReply}
+use Rattle.rounds.specs.Round.{Summand, inputsOf, firstGiven, outputsOf, sumRows, joined, sumDistance, sumReply, sumBetweenReply}
 use Rattle.rounds.specs.Spectra.{product}
 
 -- a mask for each box, of its inputs' number of bits
@@ -68,3 +69,24 @@ module _ (count : ℕ) (handed : List Summand) (i : ℕ) where
     -- d is 2^(N − 1) less half the largest product; doubled, so that nothing is rounded or cut off
     pub product-largest : (c′ : ℕ) → MaskWithin i (2 ^ outputsOf ss) c′ → product ss c′ ≤ product ss c
     pub whole : 2 * d + product ss c ≡ 2 ^ inputsOf ss
+
+-- What is reported of a part in which a combination within the limit lies: the same of the combinations of the part.
+pub record SumBetweenReported (count : ℕ) (handed : List Summand) (i low high : ℕ) : Type 0 where
+  pub d : ℕ
+  pub c : ℕ
+  pub ws : List ℕ
+  pub b : ℕ
+  pub reply : sumBetweenReply count handed i low high ≡ figures (d ∷ c ∷ (ws ++ (b ∷ [])))
+  pub least : (c′ v b′ : ℕ) → MaskBetween (outputsOf (firstGiven count handed)) i low high c′ → v < 2 ^ inputsOf (firstGiven count handed)
+      → b′ < 2 → d ≤ sumDistance (firstGiven count handed) c′ v b′
+  pub mask : MaskBetween (outputsOf (firstGiven count handed)) i low high c
+  pub fits : MasksFit (firstGiven count handed) ws
+  pub b-high : b < 2
+  pub reached : sumDistance (firstGiven count handed) c (joined (firstGiven count handed) ws) b ≡ d
+  pub before : (c′ : ℕ) (ws′ : List ℕ) (b′ : ℕ) → MaskBetween (outputsOf (firstGiven count handed)) i low high c′
+      → MasksFit (firstGiven count handed) ws′ → b′ < 2 → SumBefore c′ ws′ b′ c ws b
+      → d < sumDistance (firstGiven count handed) c′ (joined (firstGiven count handed) ws′) b′
+
+-- what the call replies of a part
+abbrev pub sumCutReply : (count : ℕ) (handed : List Summand) (i : ℕ) (c : Cut (outputsOf (firstGiven count handed))) → Reply
+sumCutReply count handed i c = sumBetweenReply count handed i (c .low) (c .high)

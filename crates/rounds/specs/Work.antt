@@ -1,19 +1,23 @@
 -- What the functions behind the call ask of one another and give. "Used" says whether the sum has the box.
-use Prim.Native.Nat.{ℕ, _≤_, _<_}
+use Prim.Native.Nat.{ℕ, _*_, _≤_, _<_}
 use mathlib.Core.Path.{_≡_}
 use mathlib.Core.Bool.{Bool, true, false}
-use mathlib.Core.List.{List, [], _∷_, List·Memᴰ}
-use lib.Dec.{eqb}
+use mathlib.Core.List.{List, [], _∷_, _++_, List·Memᴰ}
+use lib.Dec.{ltb, eqb}
 use lib.IntN.{ℤ, natAbs}
 use lib.ListN.{length, take, drop}
+use Rattle.boolean.specs.Sums.{listBelow}
 use Rattle.boolean.specs.Functions.{at, valueAt, component, walsh, signBit}
 use Rattle.boolean.specs.Selection.{Candidate}
 use Rattle.refusals.specs.Table.{Check, Box}
-use Rattle.rounds.specs.Round.{Summand, summandChecks}
+use Rattle.masks.specs.Steps.{stepTables}
+use Rattle.rounds.specs.Round.{Summand, summandChecks, sumNonlinearity}
 use Rattle.rounds.specs.Spectra.{peak, peakPlaces, signAt}
+use Rattle.rounds.specs.declared.Widths.{Widths}
 use Rattle.rounds.specs.declared.Top.{Top}
 use Rattle.rounds.specs.declared.Witness.{Witness}
 use Rattle.rounds.specs.declared.Found.{Found}
+use Rattle.rounds.specs.declared.NearestSum.{NearestSum}
 
 -- the checks of a box, or none
 abbrev pub checksIf : (used : Bool) (s : Summand) → List Check
@@ -46,10 +50,18 @@ pub record Round (count m : ℕ) (ss : List Summand) : Type 0 where
   pub boxed : (s : Summand) → List·Memᴰ s ss → IsBox s
   pub same : (s : Summand) → List·Memᴰ s ss → s .outputs ≡ m
 
--- two arrays to work in, with room for the widest box
-pub record Roomy (bits : List ℕ) (out : List ℤ) : Type 0 where
-  pub bits-size : length bits ≡ 256
-  pub out-size : length out ≡ 256
+-- two arrays of a box: one begins with its step tables, the other with the truth table of component c
+pub record Stepped (m : ℕ) (rows : List ℕ) (c : ℕ) (steps table : List ℕ) : Type 0 where
+  pub steps-are : take (m * length rows) steps ≡ stepTables m rows
+  pub table-is : take (length rows) table ≡ listBelow (length rows) (λ x. component rows c x)
+
+-- the arrays of each box that the sum has
+pub record AllStepped (count : ℕ) (w : Widths) (rows1 rows2 rows3 rows4 : List ℕ) (c : ℕ)
+    (steps1 steps2 steps3 steps4 table1 table2 table3 table4 : List ℕ) : Type 0 where
+  pub one : Stepped (w .m1) rows1 c steps1 table1
+  pub two : ltb 1 count ≡ true → Stepped (w .m2) rows2 c steps2 table2
+  pub three : ltb 2 count ≡ true → Stepped (w .m3) rows3 c steps3 table3
+  pub four : ltb 3 count ≡ true → Stepped (w .m4) rows4 c steps4 table4
 
 -- the best component so far, with its product, as a candidate
 abbrev pub foundCandidate : Found → Candidate
@@ -81,3 +93,9 @@ pub record WitnessOf (ss : List Summand) (count c : ℕ) (t : Witness) : Type 0 
   pub masks-are : take count (masksOf t) ≡ peakPlaces ss c
   pub past : drop count (masksOf t) ≡ drop count (0 ∷ 0 ∷ 0 ∷ 0 ∷ [])
   pub sign-is : t .b ≡ signAt ss c (peakPlaces ss c)
+
+-- the first nearest pair of `count` boxes over the components cs: its figure and witness, and the masks past the number are 0
+pub record NearestOf (ss : List Summand) (cs : List ℕ) (count : ℕ) (p : NearestSum) : Type 0 where
+  pub is : record { figure = p .figure; witness = p .c ∷ (take count (p .w1 ∷ p .w2 ∷ p .w3 ∷ p .w4 ∷ []) ++ (p .b ∷ [])) }
+      ≡ sumNonlinearity ss cs
+  pub past : drop count (p .w1 ∷ p .w2 ∷ p .w3 ∷ p .w4 ∷ []) ≡ drop count (0 ∷ 0 ∷ 0 ∷ 0 ∷ [])

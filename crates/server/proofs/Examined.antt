@@ -64,7 +64,7 @@ module _ (m : ℕ) where
       split t (no e) = inl (examined-has k c (t .0 .low) (omega (arith, t .1)) (t .0 .high))
 
   -- the code visits them in ascending order
-  pub visit-examined : (k : ℕ) → k < 2 ^ m - 1 → Visit m (listFrom 1 (suc k) (λ c. c)) (examinedOf m (suc k))
+  pub visit-examined : (k : ℕ) → k < 2 ^ m - 1 → Visit m 1 (listFrom 1 (suc k) (λ c. c)) (examinedOf m (suc k))
   unfolding examinedOf listFrom
   visit-examined k l = record {
     rest = listFrom 2 k (λ c. c);

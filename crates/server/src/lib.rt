@@ -128,7 +128,7 @@ fn fresh(n: u32, m: u32, rows: &[u32]) -> Place
 // The best pair so far, or the first nearest pair of component c, in arrays that are lent.
 fn with_arrays(
     found: Found,
-    fixed: &[i32; 2048],
+    fixed: &[i16; 2048],
     n: u32,
     m: u32,
     rows: &[u32],
@@ -150,7 +150,7 @@ fn with_arrays(
 
 // The better of the best pair so far and the first nearest pair of component c. What is no box is left alone: a server that was not made
 // by its calls may hold anything.
-fn with_component(fixed: &[i32; 2048], found: Found, n: u32, m: u32, rows: &[u32], c: u32) -> Found
+fn with_component(fixed: &[i16; 2048], found: Found, n: u32, m: u32, rows: &[u32], c: u32) -> Found
     requires { ⌜ Spectra (now fixed) ⌝ }
     ensures { λ r. ⌜ r ≡ foundOf (better n m (now (rows .entry)) (pairCandidate found) c) ⌝ }
 {
@@ -173,7 +173,7 @@ fn with_component(fixed: &[i32; 2048], found: Found, n: u32, m: u32, rows: &[u32
 }
 
 // The next combination of an unfinished box is examined.
-fn examine(fixed: &[i32; 2048], p: Place) -> Place
+fn examine(fixed: &[i16; 2048], p: Place) -> Place
     requires { ⌜ Spectra (now fixed) × (model.unfinished (spotIn p) ≡ true) ⌝ }
     ensures { λ r. ⌜ r ≡ oneMore p ⌝ }
 {

@@ -101,7 +101,7 @@ fn turned_down(by: u32) -> Attempt
 // The nonlinearity, where it is above a count. Or else a component with a pair of that count or less, found as soon as there is one: the
 // component `hint` is tried before the others. The two arrays are lent to work in.
 fn reaching(
-    fixed: &[i32; 2048],
+    fixed: &[i16; 2048],
     n: u32,
     m: u32,
     rows: &[u32],
@@ -171,7 +171,7 @@ fn write_table(rows: &[u32], pair: Found, start: usize, tables: &mut [u8])
 // also those of the first nearest pair of each component that has one. (With fewer inputs the whole search takes less time than to gather
 // them.)
 fn gather_pairs(
-    fixed: &[i32; 2048],
+    fixed: &[i16; 2048],
     n: u32,
     m: u32,
     rows: &[u32],
@@ -229,7 +229,7 @@ fn all_apart(tables: &[u8], count: usize, low: usize, high: usize) -> bool
 // One swap, if its rows differ in d bits: the new figure where it raises the nonlinearity, or else the component to try first next time.
 // The test that turns most swaps down comes first; it goes by the tables of the gathered pairs.
 fn try_swap(
-    fixed: &[i32; 2048],
+    fixed: &[i16; 2048],
     job: Job,
     rows: &[u32],
     pairs: &[u8],
@@ -259,7 +259,7 @@ fn try_swap(
 
 // The swaps of one input with each higher one.
 fn search_from(
-    fixed: &[i32; 2048],
+    fixed: &[i16; 2048],
     job: Job,
     rows: &[u32],
     pairs: &[u8],
@@ -291,7 +291,7 @@ fn search_from(
 
 // The swaps of rows that differ in d bits.
 fn search_by(
-    fixed: &[i32; 2048],
+    fixed: &[i16; 2048],
     job: Job,
     rows: &[u32],
     pairs: &[u8],
@@ -322,7 +322,7 @@ fn search_by(
 
 // All swaps, by the number of bits in which the rows differ.
 fn search(
-    fixed: &[i32; 2048],
+    fixed: &[i16; 2048],
     job: Job,
     rows: &[u32],
     pairs: &[u8],
@@ -353,7 +353,7 @@ fn search(
 
 // The nearest pairs are gathered from the present witness on, and all swaps are searched with their tables.
 fn gather_and_search(
-    fixed: &[i32; 2048],
+    fixed: &[i16; 2048],
     n: u32,
     m: u32,
     rows: &[u32],

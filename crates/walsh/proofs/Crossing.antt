@@ -1,7 +1,7 @@
 -- Two halves of integers before and after the butterfly. Assumes nothing.
 use mathlib.Core.Path.{_≡_, sym, ap₂, _∙_, subst}
 use mathlib.Core.List.{List}
-use Prim.Native.Nat.{ℕ, _+_, _-_, _^_, _≤_, _<_}
+use Prim.Native.Nat.{ℕ, _+_, _-_, _≤_, _<_}
 use native.Mathlib.Decide.{decLt}
 use native.Mathlib.Omega.{arith}
 use lib.ListN.{length, List·getD-eq-default}
@@ -26,17 +26,17 @@ module _ (h : ℕ) (out : List ℤ) (long : length out ≡ h + h) (g₁ : ℕ �
   upper-value = at-upper h out long g₁ l₁ e₁ g₂ l₂ e₂ (pos 0)
 
   -- what is shown of g₁ and of g₂ holds of every entry
-  pub to-cross : ((k : ℕ) → k < h → natAbs (g₁ k) ≤ 2 ^ 29) → ((k : ℕ) → k < h → natAbs (g₂ k) ≤ 2 ^ 29) → Halves h lent
-  to-cross small₁ small₂ = record { size = long-lent; small = λ k. go k (decLt k h) (decLt k (h + h)) }
+  pub to-cross : (limit : ℕ) → ((k : ℕ) → k < h → natAbs (g₁ k) ≤ limit) → ((k : ℕ) → k < h → natAbs (g₂ k) ≤ limit) → Halves limit h lent
+  to-cross limit small₁ small₂ = record { size = long-lent; small = λ k. go k (decLt k h) (decLt k (h + h)) }
     where
-      go : (k : ℕ) → Dec (k < h) → Dec (k < h + h) → natAbs (valueAt lent k) ≤ 2 ^ 29
-      go k (yes lt) d = subst (λ (z : ℤ). natAbs z ≤ 2 ^ 29) (sym (lower-value k lt)) (small₁ k lt)
+      go : (k : ℕ) → Dec (k < h) → Dec (k < h + h) → natAbs (valueAt lent k) ≤ limit
+      go k (yes lt) d = subst (λ (z : ℤ). natAbs z ≤ limit) (sym (lower-value k lt)) (small₁ k lt)
       go k (no ge) (yes lt) =
           let e : h + (k - h) ≡ k = omega arith in
-          subst (λ (j : ℕ). natAbs (valueAt lent j) ≤ 2 ^ 29) e
-          (subst (λ (z : ℤ). natAbs z ≤ 2 ^ 29) (sym (upper-value (k - h) (omega arith))) (small₂ (k - h) (omega arith)))
+          subst (λ (j : ℕ). natAbs (valueAt lent j) ≤ limit) e
+          (subst (λ (z : ℤ). natAbs z ≤ limit) (sym (upper-value (k - h) (omega arith))) (small₂ (k - h) (omega arith)))
       go k (no ge) (no past) =
-          subst (λ (z : ℤ). natAbs z ≤ 2 ^ 29) (sym (List·getD-eq-default lent (pos 0) (omega (arith, long-lent)))) (omega arith)
+          subst (λ (z : ℤ). natAbs z ≤ limit) (sym (List·getD-eq-default lent (pos 0) (omega (arith, long-lent)))) (omega arith)
 
   -- the butterfly makes the values of G of them, where the halving rule says so
   pub crossed-is : (new : List ℤ) → length new ≡ length lent → Crossed h lent new → (G : ℕ → ℤ)

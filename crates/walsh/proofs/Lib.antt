@@ -5,3 +5,4 @@ pub mod SpectrumHalves
 pub mod TransformHalves
 pub mod Inverting
 pub mod Magnitudes
+pub mod Short

@@ -5,14 +5,17 @@ use mathlib.Core.List.{List}
 use Prim.Native.Nat.{ℕ, zero, suc, _+_, _-_, _*_, _/_, _%_, _^_, _≤_, _<_}
 use native.Mathlib.Nat.{le-refl, le-trans, div-div-eq-div-mul}
 use native.Mathlib.Omega.{arith}
-use lib.IntN.{ℤ, pos}
-use lib.ListN.{set}
+use lib.Dec.{lit<, eqb}
+use lib.IntN.{ℤ, pos, _-ℤ_}
+use lib.ListN.{length, set}
 use lib.Pow.{pow-mono}
+use Rattle.boolean.specs.Bits.{dot}
+use Rattle.boolean.specs.Sums.{countBelow}
 use Rattle.boolean.specs.Functions.{at, valueAt, approximation}
-use Rattle.boolean.proofs.Approximations.{approximation-cong}
+use Rattle.boolean.proofs.Approximations.{approximation-cong, half-power}
 use Rattle.boolean.proofs.Filled.{Filled, filled-more}
 use Rattle.walsh.specs.FixedTable.{functionNumbered, Spectra}
-use Rattle.walsh.specs.Work.{withFour}
+use Rattle.walsh.specs.Work.{fourValues, withFour}
 
 -- t has the values of the table from x on, up to the eighth
 pub record Numbered (table : List ℕ) (t x : ℕ) : Type 0 where
@@ -53,10 +56,6 @@ module _ (table : List ℕ) (t x b : ℕ) (s : Numbered table t x) (lt : 0 < x) 
     bits = more-bits;
   }
 
--- what is there so far has room for one bit more
-pub numbered-small : (table : List ℕ) (t x : ℕ) → Numbered table t x → 0 < x → t < 128
-numbered-small table t x s lt = le-trans (s .small) (pow-mono {j = 7} (omega arith))
-
 -- at the end all eight are there
 pub numbered-whole : (table : List ℕ) (t x : ℕ) → Numbered table t x → x ≡ 0 → (t < 256) × ((k : ℕ) → k < 8 → functionNumbered t k ≡ at table k)
 unfolding functionNumbered
@@ -64,6 +63,42 @@ numbered-whole table t x s e = whole (subst (Numbered table t) e s)
   where
     whole : Numbered table t 0 → (t < 256) × ((k : ℕ) → k < 8 → t / 2 ^ k % 2 ≡ at table k)
     whole s = (s .small, λ k h. let j : 0 + k ≡ k = omega arith in s .bits k (omega arith) ∙ ap (at table) j)
+
+-- bits 24 to 31 of a number
+middle : (low number high : ℕ) → low < 16777216 → number < 256 → (low + 16777216 * number + 4294967296 * high) / 16777216 % 256 ≡ number
+middle low number high l n =
+    let whole : (low + 16777216 * number + 4294967296 * high) / 16777216 ≡ number + 256 * high = omega arith in
+    ap (λ (k : ℕ). k % 256) whole ∙ omega arith
+
+-- eight truth values, four in the low halves of four bytes and four in the high ones, and what the product makes of them
+spread : (a b c d e f g h : ℕ) → a < 2 → b < 2 → c < 2 → d < 2 → e < 2 → f < 2 → g < 2 → h < 2 →
+    (a + 256 * b + 65536 * c + 16777216 * d + 16 * (e + 256 * f + 65536 * g + 16777216 * h)) * 16909320 / 16777216 % 256
+    ≡ 2 * (2 * (2 * (2 * (2 * (2 * (2 * (2 * 0 + h) + g) + f) + e) + d) + c) + b) + a
+spread a b c d e f g h la lb lc ld le lf lg lh =
+    let low = 132104 * a + 264192 * b + 524288 * c + 16 * (132104 * e + 264192 * f + 524288 * g) in
+    let number = 2 * (2 * (2 * (2 * (2 * (2 * (2 * (2 * 0 + h) + g) + f) + e) + d) + c) + b) + a in
+    let high = b + 258 * c + 66052 * d + 16 * (f + 258 * g + 66052 * h) in
+    let parts : (a + 256 * b + 65536 * c + 16777216 * d + 16 * (e + 256 * f + 65536 * g + 16777216 * h)) * 16909320
+    ≡ low + 16777216 * number + 4294967296 * high = omega arith in
+    ap (λ (k : ℕ). k / 16777216 % 256) parts ∙ middle low number high (omega arith) (omega arith)
+
+module _ (table : List ℕ) (bits : (k : ℕ) → at table k < 2) where
+  pub bytes-small : (place : ℕ) → fourValues table place ≤ 16843009
+  unfolding fourValues
+  bytes-small place = omega (arith, bits place, bits (place + 1), bits (place + 2), bits (place + 3))
+
+  before : (t x : ℕ) → Numbered table t x → 0 < x → Numbered table (2 * t + at table (x - 1)) (x - 1)
+  before t x s lt = numbered-more table t x (at table (x - 1)) s lt (bits (x - 1)) refl
+
+  pub number-is : (t : ℕ) → t ≡ (fourValues table 0 + 16 * fourValues table 4) * 16909320 / 16777216 % 256
+      → (t < 256) × ((k : ℕ) → k < 8 → functionNumbered t k ≡ at table k)
+  unfolding fourValues
+  number-is t e =
+      numbered-whole table t 0
+      (subst (λ (t : ℕ). Numbered table t 0)
+      (sym (e ∙ spread _ _ _ _ _ _ _ _ (bits 0) (bits 1) (bits 2) (bits 3) (bits 4) (bits 5) (bits 6) (bits 7)))
+      (before _ 1 (before _ 2 (before _ 3 (before _ 4 (before _ 5 (before _ 6 (before _ 7 (before 0 8 (numbered-none table)
+      (lit< tt)) (lit< tt)) (lit< tt)) (lit< tt)) (lit< tt)) (lit< tt)) (lit< tt)) (lit< tt))) refl
 
 -- what the fixed table has for a function that has the number t
 entry-is : (fixed : List ℤ) (f : ℕ → ℕ) (t w : ℕ) → Spectra fixed → t < 256 → ((x : ℕ) → x < 8 → functionNumbered t x ≡ f x) → w < 8
@@ -92,3 +127,11 @@ module _ (fixed : List ℤ) (f : ℕ → ℕ) (t : ℕ) (s : Spectra fixed) (sma
       let d = one-more from to 3 _ _ place (omega arith) (omega arith) c in
       let end : to + 3 + 1 ≡ to + 4 = omega arith in
       subst (λ (j : ℕ). Filled (pos 0) (λ v. approximation 3 f v) 8 j (withFour out to fixed from)) end d
+
+-- the definition, with as many inputs as the table has
+pub by-size : (n : ℕ) (table : List ℕ) (w : ℕ) → 1 ≤ n → length table ≡ 2 ^ n
+    → pos (countBelow (length table) (λ x. eqb (at table x) (dot w x))) -ℤ pos (length table / 2) ≡ approximation n (at table) w
+unfolding approximation
+by-size n table w low e =
+    let half : length table / 2 ≡ 2 ^ (n - 1) = omega (arith, half-power n low) in
+    ap₂ (λ (k h : ℕ). pos (countBelow k (λ x. eqb (at table x) (dot w x))) -ℤ pos h) e half

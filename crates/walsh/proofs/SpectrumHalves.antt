@@ -2,7 +2,7 @@
 use mathlib.Core.Path.{_≡_, sym, ap, ap₂, _∙_, subst}
 use mathlib.Core.List.{List, _++_}
 use Prim.Native.Nat.{ℕ, suc, _+_, _-_, _/_, _^_, _≤_, _<_}
-use native.Mathlib.Nat.{le-trans, zero-lt-suc}
+use native.Mathlib.Nat.{le-trans, zero-lt-suc, two-pow-succ}
 use native.Mathlib.Omega.{arith}
 use lib.ListN.{length, take, drop, length-drop}
 use lib.Seq.{length-take-le}
@@ -17,24 +17,32 @@ use Rattle.boolean.proofs.Halves as halves
 use Rattle.walsh.specs.Work.{Ready, Halves, Crossed}
 use Rattle.walsh.proofs.Crossing.{to-cross, crossed-is}
 
--- a table of width n and its array, each to be cut in two halves of width m
-pub record Cut (n m : ℕ) (table : List ℕ) (out : List ℤ) : Type 0 where
+-- a table of width n and its array, each to be cut in two halves of width m, at h
+pub record Cut (n m h : ℕ) (table : List ℕ) (out : List ℤ) : Type 0 where
   pub ready : Ready n table out
   pub one-less : n ≡ suc m
   pub low : 1 ≤ m
+  pub half : h ≡ 2 ^ m
 
-module _ {n m : ℕ} {table : List ℕ} {out : List ℤ} (c : Cut n m table out) where
-  abbrev pub h : ℕ
-  h = length table / 2
+-- cut in the middle
+pub in-the-middle : (n m : ℕ) (table : List ℕ) → length table ≡ 2 ^ n → n ≡ suc m → length table / 2 ≡ 2 ^ m
+in-the-middle n m table size e = halves.half-is m table (size ∙ ap (λ (k : ℕ). 2 ^ k) e)
 
-  size : length table ≡ 2 ^ suc m
-  size = c .ready .read .size ∙ ap (λ (k : ℕ). 2 ^ k) (c .one-less)
-
+module _ {n m h : ℕ} {table : List ℕ} {out : List ℤ} (c : Cut n m h table out) where
   half : h ≡ 2 ^ m
-  half = halves.half-is m table size
+  half = c .half
+
+  size : length table ≡ h + h
+  size = c .ready .read .size ∙ ap (λ (k : ℕ). 2 ^ k) (c .one-less) ∙ omega (arith, half, two-pow-succ m)
 
   room : length out ≡ h + h
-  room = c .ready .room ∙ sym (c .ready .read .size) ∙ halves.two-halves m table size
+  room = c .ready .room ∙ sym (c .ready .read .size) ∙ size
+
+  pub lower-length : h ≡ length (take h table)
+  lower-length = sym (length-take-le h table (omega (arith, size)))
+
+  pub lower-room : h ≡ length (take h out)
+  lower-room = sym (length-take-le h out (omega (arith, room)))
 
   few : m ≤ 8
   few = omega (arith, c .one-less, c .ready .read .n-high)
@@ -50,10 +58,10 @@ module _ {n m : ℕ} {table : List ℕ} {out : List ℤ} (c : Cut n m table out)
     read = record {
       n-low = c .low;
       n-high = few;
-      size = halves.lower-length m table size ∙ half;
+      size = sym lower-length ∙ half;
       bits = halves.take-entries 0 (λ b. b < 2) h table (zero-lt-suc 1) (c .ready .read .bits);
     };
-    room = length-take-le h out (omega (arith, room)) ∙ half;
+    room = sym lower-room ∙ half;
   }
 
   module _ (l₁ : List ℤ) (e₁ : l₁ ≡ spectrum m (at (take h table))) where
@@ -71,7 +79,7 @@ module _ {n m : ℕ} {table : List ℕ} {out : List ℤ} (c : Cut n m table out)
           read = record {
             n-low = c .low;
             n-high = few;
-            size = halves.upper-length m table size ∙ half;
+            size = omega (arith, length-drop h table, size, half);
             bits = halves.drop-entries 0 (λ b. b < 2) h table (c .ready .read .bits);
           };
           room = ap length (halves.upper-kept h out room lower l₁ as-lower) ∙ omega (arith, length-drop h out, room, half);
@@ -86,11 +94,13 @@ module _ {n m : ℕ} {table : List ℕ} {out : List ℤ} (c : Cut n m table out)
       abbrev pub after-upper : List ℤ
       after-upper = putMid h (length after-lower - h) after-lower l₂
 
-      small : (f : ℕ → ℕ) (w : ℕ) → natAbs (approximation m f w) ≤ 2 ^ 29
-      small f w = le-trans (approximation-le m (c .low) f w) (pow-mono {j = 29} (omega (arith, few)))
+      small : (f : ℕ → ℕ) (w : ℕ) → natAbs (approximation m f w) ≤ 2 ^ 8
+      small f w = le-trans (approximation-le m (c .low) f w) (pow-mono {j = 8} (omega (arith, few)))
 
-      pub crossing : Halves h after-upper
-      crossing = to-cross h out room lower l₁ as-lower upper l₂ as-upper (λ k lt. small (at (take h table)) k) (λ k lt. small (at (drop h table)) k)
+      pub crossing : (limit : ℕ) → 2 ^ 8 ≤ limit → Halves limit h after-upper
+      crossing limit fits =
+          to-cross h out room lower l₁ as-lower upper l₂ as-upper limit
+          (λ k lt. le-trans (small (at (take h table)) k) fits) (λ k lt. le-trans (small (at (drop h table)) k) fits)
 
       pub same-long : length after-upper ≡ length out
       same-long = halves.length-after-upper h out room lower l₁ as-lower upper l₂ as-upper ∙ sym room
@@ -108,4 +118,4 @@ module _ {n m : ℕ} {table : List ℕ} {out : List ℤ} (c : Cut n m table out)
           (λ k lt. approximation-low m (c .low) (at table) k (λ x l. c .ready .read .bits x) (omega (arith, half)) ∙ ap₂ (λ (a b : ℤ). a +ℤ b) (lower-is k) (upper-is k))
           (λ k lt. ap (λ (j : ℕ). approximation (suc m) (at table) (j + k)) half
           ∙ approximation-high m (c .low) (at table) k (λ x l. c .ready .read .bits x) (omega (arith, half)) ∙ ap₂ (λ (a b : ℤ). a -ℤ b) (lower-is k) (upper-is k))
-          ∙ ap₂ (λ (j k : ℕ). listBelow j (λ w. approximation k (at table) w)) (sym (halves.two-halves m table size) ∙ c .ready .read .size) (sym (c .one-less))
+          ∙ ap₂ (λ (j k : ℕ). listBelow j (λ w. approximation k (at table) w)) (sym size ∙ c .ready .read .size) (sym (c .one-less))

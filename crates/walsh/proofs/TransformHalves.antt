@@ -84,9 +84,9 @@ module _ (n h : ℕ) (values : List ℤ) (s : Summable n values) (nz : n ≡ 0 �
       small : (F : ℕ → ℤ) → ((k : ℕ) → natAbs (F k) ≤ s .bound) → (w : ℕ) → natAbs (transform (n - 1) F w) ≤ 2 ^ 29
       small F b w = le-trans (transform-bound (n - 1) (s .bound) F w (λ x l. b x)) half-total
 
-      pub crossing : Halves h after-upper
+      pub crossing : Halves (2 ^ 29) h after-upper
       crossing =
-          to-cross h values room lower l₁ as-lower upper l₂ as-upper
+          to-cross h values room lower l₁ as-lower upper l₂ as-upper (2 ^ 29)
           (λ k lt. small (valueAt (take h values)) lower-small k) (λ k lt. small (valueAt (drop h values)) upper-small k)
 
       pub same-long : length after-upper ≡ length values
@@ -135,7 +135,7 @@ two-values values new s kept crossed =
     only P k lt p = subst P (sym (lt-one lt)) p
 
 -- they are small enough for that
-pub two-halves : (values : List ℤ) → Summable 1 values → Halves 1 values
+pub two-halves : (values : List ℤ) → Summable 1 values → Halves (2 ^ 29) 1 values
 two-halves values s = record {
   size = s .size;
   small = λ k. le-trans (s .small k) (omega (arith, s .total));

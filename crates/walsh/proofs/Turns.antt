@@ -1,16 +1,17 @@
 -- The butterfly's turns: k of them have crossed the first k numbers of the two halves and left the others. Assumes nothing.
 use mathlib.Core.Path.{_≡_, refl, sym, ap₂, _∙_, subst}
 use mathlib.Core.List.{List}
-use Prim.Native.Nat.{ℕ, _+_, _^_, _≤_, _<_}
+use Prim.Native.Nat.{ℕ, _+_, _≤_, _<_}
 use native.Mathlib.Decide.{ℕ-discrete}
 use native.Mathlib.Omega.{arith}
 use lib.ListN.{length, set, length-set}
 use lib.Seq.{getD-set-same, getD-set-other}
 use lib.IntN.{ℤ, pos, _+ℤ_, _-ℤ_, natAbs}
-use mir.Syntax.{w32}
-use mir.Val.{SFits}
+use mir.Syntax.{Width}
+use mir.Val.{SFits, toZ, ofZ}
+use mir.Facts.{toZ-ofZ}
 use Rattle.boolean.specs.Functions.{valueAt}
-use Rattle.boolean.proofs.Words.{word, sum-fits, difference-fits, sum-stored, difference-stored}
+use Rattle.boolean.proofs.Sizes.{abs-add, abs-sub}
 use Rattle.walsh.specs.Work.{Halves, Crossed}
 
 pub record Turned (h k : ℕ) (old new : List ℤ) : Type 0 where
@@ -37,28 +38,41 @@ turned-all h k old new t end = record {
   differences = λ i below. t .differences i (omega arith);
 }
 
--- one more turn
-module _ (h k : ℕ) (old new : List ℤ) (halves : Halves h old) (t : Turned h k old new) (lt : k < h) where
+-- one more turn, in words that hold twice the limit
+module _ (width : Width) (limit : ℕ) (fits : (z : ℤ) → natAbs z ≤ limit + limit → SFits width z)
+    (h k : ℕ) (old new : List ℤ) (halves : Halves limit h old) (t : Turned h k old new) (lt : k < h) where
+  abbrev word : ℤ → ℤ
+  word z = toZ width (ofZ width z)
+
   abbrev a : ℤ
   a = valueAt new k
 
   abbrev b : ℤ
   b = valueAt new (h + k)
 
-  small-a : natAbs a ≤ 2 ^ 29
-  small-a = subst (λ (z : ℤ). natAbs z ≤ 2 ^ 29) (sym (t .low k (omega arith) lt)) (halves .small k)
+  small-a : natAbs a ≤ limit
+  small-a = subst (λ (z : ℤ). natAbs z ≤ limit) (sym (t .low k (omega arith) lt)) (halves .small k)
 
-  small-b : natAbs b ≤ 2 ^ 29
-  small-b = subst (λ (z : ℤ). natAbs z ≤ 2 ^ 29) (sym (t .high k (omega arith) lt)) (halves .small (h + k))
+  small-b : natAbs b ≤ limit
+  small-b = subst (λ (z : ℤ). natAbs z ≤ limit) (sym (t .high k (omega arith) lt)) (halves .small (h + k))
 
   pub turned-long : length new ≡ h + h
   turned-long = t .long ∙ halves .size
 
-  pub sum-ok : SFits w32 (word a +ℤ word b)
-  sum-ok = sum-fits a b small-a small-b
+  word-is : (z : ℤ) → natAbs z ≤ limit → word z ≡ z
+  word-is z small = toZ-ofZ (fits z (omega arith))
 
-  pub difference-ok : SFits w32 (word a -ℤ word b)
-  difference-ok = difference-fits a b small-a small-b
+  sum-is : word a +ℤ word b ≡ a +ℤ b
+  sum-is = ap₂ (λ (x y : ℤ). x +ℤ y) (word-is a small-a) (word-is b small-b)
+
+  difference-is : word a -ℤ word b ≡ a -ℤ b
+  difference-is = ap₂ (λ (x y : ℤ). x -ℤ y) (word-is a small-a) (word-is b small-b)
+
+  pub sum-ok : SFits width (word a +ℤ word b)
+  sum-ok = subst (SFits width) (sym sum-is) (fits (a +ℤ b) (omega (arith, abs-add a b, small-a, small-b)))
+
+  pub difference-ok : SFits width (word a -ℤ word b)
+  difference-ok = subst (SFits width) (sym difference-is) (fits (a -ℤ b) (omega (arith, abs-sub a b, small-a, small-b)))
 
   module _ (s d : ℤ) (es : s ≡ valueAt old k +ℤ valueAt old (h + k)) (ed : d ≡ valueAt old k -ℤ valueAt old (h + k)) where
     abbrev next : List ℤ
@@ -96,5 +110,5 @@ module _ (h k : ℕ) (old new : List ℤ) (halves : Halves h old) (t : Turned h 
   pub turned-more : Turned h (k + 1) old (set (set new k (word (word a +ℤ word b))) (h + k) (word (word a -ℤ word b)))
   turned-more =
       turned _ _
-      (sum-stored a b small-a small-b ∙ ap₂ (λ (x y : ℤ). x +ℤ y) (t .low k (omega arith) lt) (t .high k (omega arith) lt))
-      (difference-stored a b small-a small-b ∙ ap₂ (λ (x y : ℤ). x -ℤ y) (t .low k (omega arith) lt) (t .high k (omega arith) lt))
+      (toZ-ofZ sum-ok ∙ sum-is ∙ ap₂ (λ (x y : ℤ). x +ℤ y) (t .low k (omega arith) lt) (t .high k (omega arith) lt))
+      (toZ-ofZ difference-ok ∙ difference-is ∙ ap₂ (λ (x y : ℤ). x -ℤ y) (t .low k (omega arith) lt) (t .high k (omega arith) lt))

@@ -4,8 +4,12 @@ use mathlib.Core.Path.{_≡_}
 use mathlib.Core.List.{List}
 use lib.ListN.{length, set}
 use lib.IntN.{ℤ, _+ℤ_, _-ℤ_, natAbs}
-use Rattle.boolean.specs.Functions.{valueAt}
+use Rattle.boolean.specs.Functions.{at, valueAt}
 use Rattle.refusals.specs.Table.{Table}
+
+-- four truth values from one place on, each in a byte of its own
+unfoldable pub fourValues : (table : List ℕ) (place : ℕ) → ℕ
+fourValues table place = at table place + 256 * at table (place + 1) + 65536 * at table (place + 2) + 16777216 * at table (place + 3)
 
 -- the array, with the four entries of the fixed table from one place on written to it from the other place on
 unfoldable pub withFour : (out : List ℤ) (to : ℕ) (fixed : List ℤ) (from : ℕ) → List ℤ
@@ -18,10 +22,10 @@ pub record Ready (n : ℕ) (table : List ℕ) (out : List ℤ) : Type 0 where
   pub read : Table n table
   pub room : length out ≡ 2 ^ n
 
--- two halves of h numbers, none so large that the sum or the difference of two would not fit
-pub record Halves (h : ℕ) (values : List ℤ) : Type 0 where
+-- two halves of h numbers, none above a limit: twice the limit fits a word, and so do the sum and the difference of two
+pub record Halves (limit h : ℕ) (values : List ℤ) : Type 0 where
   pub size : length values ≡ h + h
-  pub small : (k : ℕ) → natAbs (valueAt values k) ≤ 2 ^ 29
+  pub small : (k : ℕ) → natAbs (valueAt values k) ≤ limit
 
 -- the sums of the two halves in the lower half, and their differences in the upper half
 pub record Crossed (h : ℕ) (old new : List ℤ) : Type 0 where

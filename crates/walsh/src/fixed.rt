@@ -2,7 +2,7 @@
 ghost use Rattle.walsh.specs.FixedTable.{Spectra};
 
 // Eight spectrum values for each of the 256 functions of three inputs.
-const FIXED: [i32; 2048] = [
+const FIXED: [i16; 2048] = [
     4, // function 0 is the constant 0, which equals w = 0 at all eight inputs: 8 less 4
     0,
     0,
@@ -2054,7 +2054,7 @@ const FIXED: [i32; 2048] = [
 ];
 
 // The table, for callers that lend it down. A constant that is read in a leaf would be written to the stack at every read.
-pub fn spectra() -> [i32; 2048]
+pub fn spectra() -> [i16; 2048]
     ensures { λ r. ⌜ Spectra r ⌝ }
 {
     FIXED

@@ -1,6 +1,7 @@
 // The spectrum of a truth table, and the truth table of a spectrum. A spectrum holds the linear approximation values: each is half of the
 // Walsh value.
 mod fixed;
+mod narrow;
 
 use refusals::Checked;
 use refusals::Refusal;
@@ -18,33 +19,41 @@ ghost use Rattle.boolean.specs.Functions as functions;
 ghost use Rattle.refusals.specs.Table.{first, Wrote, saidWritten, Table};
 ghost use Rattle.walsh.specs.Calls.{inverseLengths, functionCheck, SpectrumCalled, InverseCalled};
 ghost use Rattle.walsh.specs.FixedTable.{functionNumbered, Spectra};
-ghost use Rattle.walsh.specs.Work.{withFour, Ready, Halves, Crossed, Summable, Invertible};
+ghost use Rattle.walsh.specs.Work.{fourValues, withFour, Ready, Halves, Crossed, Summable, Invertible};
 ghost use Rattle.walsh.specs.Magnitudes.{largestMagnitude, FirstOfMagnitude};
 
-// The number of a truth table of three inputs: its entry at x is bit x.
+// Four truth values from one place on, each in a byte of its own. The compiler reads them at once.
+fn four_bytes(table: &[u8], at: usize) -> u64
+    requires { ⌜ Table 3 (now table) × (at + 3 < 8) ⌝ }
+    ensures { λ r. ⌜ r ≡ fourValues (now (table .entry)) at ⌝ }
+{
+    let a = boolean::wide(table[at]) as u64;
+    let b = boolean::wide(table[at + 1]) as u64;
+    let c = boolean::wide(table[at + 2]) as u64;
+    let d = boolean::wide(table[at + 3]) as u64;
+    a + 256 * b + 65536 * c + 16777216 * d
+}
+
+// The number of a truth table of three inputs: its entry at x is bit x. The product has the eight entries side by side from bit 24 on:
+// 16909320 is 2^3 + 2^10 + 2^17 + 2^24, and no two of its 32 bits fall on the same place.
 fn number(table: &[u8]) -> usize
     requires { ⌜ Table 3 (now table) ⌝ }
     ensures { λ r. ⌜ (r < 256) × ((x : ℕ) → x < 8 → functionNumbered r x ≡ at (now (table .entry)) x) ⌝ }
 {
-    let mut t: usize = 0;
-    let mut x: usize = 8;
-    while 0 < x {
-        x -= 1;
-        t = 2 * t + boolean::wide(table[x]) as usize;
-    }
-    t
+    let both = four_bytes(table, 0) + 16 * four_bytes(table, 4);
+    (both * 16909320 / 16777216 % 256) as usize
 }
 
 // Four entries of the fixed table go to four places of the array. All are read before any is written, so that the machine can move them at
 // once: the sums that follow read them together, and would wait for four single writes.
-fn copy_four(fixed: &[i32; 2048], from: usize, out: &mut [i32], to: usize)
+fn copy_four(fixed: &[i16; 2048], from: usize, out: &mut [i32], to: usize)
     requires { ⌜ (from + 4 ≤ 2048) × (to + 4 ≤ length (now out)) ⌝ }
     ensures { λ _. ⌜ now (out .exit) ≡ withFour (now (out .entry)) to (now (fixed .entry)) from ⌝ }
 {
-    let a = fixed[from];
-    let b = fixed[from + 1];
-    let c = fixed[from + 2];
-    let d = fixed[from + 3];
+    let a = fixed[from] as i32;
+    let b = fixed[from + 1] as i32;
+    let c = fixed[from + 2] as i32;
+    let d = fixed[from + 3] as i32;
     out[to] = a;
     out[to + 1] = b;
     out[to + 2] = c;
@@ -52,7 +61,7 @@ fn copy_four(fixed: &[i32; 2048], from: usize, out: &mut [i32], to: usize)
 }
 
 // Three inputs: the fixed table is read.
-fn by_table(fixed: &[i32; 2048], table: &[u8], out: &mut [i32])
+fn by_table(fixed: &[i16; 2048], table: &[u8], out: &mut [i32])
     requires { ⌜ Ready 3 (now table) (now out) × Spectra (now fixed) ⌝ }
     ensures { λ _. ⌜ now (out .exit) ≡ functions.spectrum 3 (at (now (table .entry))) ⌝ }
 {
@@ -94,7 +103,7 @@ fn by_definition(n: u32, table: &[u8], out: &mut [i32])
 
 // Sums go to the lower half and differences to the upper.
 fn butterfly(values: &mut [i32], h: usize)
-    requires { ⌜ Halves h (now values) ⌝ }
+    requires { ⌜ Halves (2 ^ 29) h (now values) ⌝ }
     ensures { λ _. ⌜ Crossed h (now (values .entry)) (now (values .exit)) ⌝ }
 {
     let mut k: usize = 0;
@@ -110,7 +119,7 @@ fn butterfly(values: &mut [i32], h: usize)
 // The spectrum of an accepted table, with the fixed table lent. Above width 3 the table and the array are cut in halves, and the transform
 // calls itself on each; the width falls by one at each cut. At width 4 the width of the halves is written out: the compiler then puts the
 // look-up in place of the two calls.
-pub fn descend(fixed: &[i32; 2048], n: u32, table: &[u8], out: &mut [i32])
+pub fn descend(fixed: &[i16; 2048], n: u32, table: &[u8], out: &mut [i32])
     requires { ⌜ Ready n (now table) (now out) × Spectra (now fixed) ⌝ }
     ensures { λ _. ⌜ now (out .exit) ≡ functions.spectrum n (at (now (table .entry))) ⌝ }
 {
@@ -131,8 +140,18 @@ pub fn descend(fixed: &[i32; 2048], n: u32, table: &[u8], out: &mut [i32])
     }
 }
 
+// The largest magnitude in the spectrum of an accepted table, with the fixed table and an array to work in lent. The sweeps take a
+// component's spectrum itself only where its pair is taken.
+pub fn peak(fixed: &[i16; 2048], n: u32, table: &[u8], work: &mut [i16]) -> u32
+    requires { ⌜ Ready n (now table) (now work) × Spectra (now fixed) ⌝ }
+    ensures { λ r. ⌜ r ≡ largestMagnitude (functions.spectrum n (at (now (table .entry)))) ⌝ }
+{
+    narrow::descend(fixed, n, table, work);
+    narrow::largest_magnitude(work) as u32
+}
+
 // The fixed table, for callers that take many spectra.
-pub fn spectra() -> [i32; 2048]
+pub fn spectra() -> [i16; 2048]
     ensures { λ r. ⌜ Spectra r ⌝ }
 {
     fixed::spectra()

@@ -24,7 +24,9 @@ unless true z = absurd (false≢true z)
 unless false z = refl
 
 returns : tie.Need-returns
-returns c = ((λ z. absurd (false≢true z)), simp (lt-ltb _ _ (c .if1 .taken)))
+returns c =
+    let a = c .before .before .before .args in
+    ((λ z. absurd (false≢true z)), simp (lt-ltb (length (a .list .now)) (length (a .values .now) / 2) (c .if1 .taken)))
 
 largest-from-one-requires : tie.Need-largest-from-one-requires
 largest-from-one-requires c κs =
@@ -44,7 +46,7 @@ returns-2 c =
           (λ t w. called .largest-from-one .ensures .0 .bounds t (record { low = w .low; high = w .high; few = ones-le 8 t (omega (arith, w .high, short s)) }))
           (s .pre .box .n-low) (s .pre .j-low) (ap (λ (k : ℕ). called .largest-from-one .result / k) (s .pre .box .size)) (changeCandidate (a .found))
           (sym (c .is-preferred .ensures) ∙ unless (c .is-preferred .result) z)),
-      simp (le-ltb _ _ (called .before .if1 .left), c .is-preferred .ensures, called .largest-from-one .ensures .1),
+      simp (le-ltb (length (a .list .now)) (length (a .values .now) / 2) (called .before .if1 .left), c .is-preferred .ensures, called .largest-from-one .ensures .1),
     )
 
 pub is-beaten-spec : {M : Type 1} → statement M

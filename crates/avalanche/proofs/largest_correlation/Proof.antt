@@ -59,6 +59,7 @@ sweep-requires c κs =
       pre .1,
       pre .2,
       λ l. subst (Listed _ _) (sym (take-append-le _ _ _ (few called))) (called .list-changes .ensures .1 l),
+      pre .3,
     )
 
 pub largest-correlation-spec : {M : Type 1} → statement M

@@ -21,7 +21,7 @@ short : (s : tie.Start Inv-loop μ-loop) → length (s .args .list .now) ≤ 256
 short s = le-trans (le-of-eq (s .pre .1)) (pow-mono {i = s .args .n} {j = 8} (s .pre .0))
 
 returns : tie.Need-returns Inv-loop μ-loop
-returns c = (omega arith, λ l. absurd (omega (arith, c .if1 .taken)), refl, λ l. refl)
+returns c = (omega (arith, pow-pos (c .before .before .args .n)), λ l. absurd (omega (arith, c .if1 .taken)), refl, λ l. refl)
 
 cast-end : tie.Need-cast-end Inv-loop μ-loop
 cast-end c = omega (arith, short (c .before .before))

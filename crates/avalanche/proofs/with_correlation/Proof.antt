@@ -6,7 +6,7 @@ use native.Mathlib.Omega.{arith}
 use lib.ListN.{length}
 use lib.Pow.{pow-pos}
 use Rattle.avalanche.specs.Work.{changeCandidate}
-use Rattle.avalanche.proofs.Widest.{values-length, stays, largest-some, replaced}
+use Rattle.avalanche.proofs.Widest.{values-length, stays, replaced}
 use borrow.Author.Needs.{needs}
 use Rattle.avalanche.proofs.with_correlation.Statement.{statement}
 use Rattle.avalanche.proofs.with_correlation.Tie as tie
@@ -32,17 +32,17 @@ largest-within-requires c κs =
 div-figure : tie.Need-div-figure
 div-figure c = let s = c .before .before .before .before .before in omega (arith, s .pre .0 .box .size, pow-pos (s .args .n))
 
-first-within-requires : tie.Need-first-within-requires
-first-within-requires c κs =
+first-change-requires : tie.Need-first-change-requires
+first-change-requires c κs =
     let scanned = c .before .before in
     let s = scanned .before .before .before .before .before in
     let a = s .args in (
+      s .pre .0 .box .n-low,
       s .pre .0 .box .n-high,
+      s .pre .0 .j-low,
       values-length (a .n) (a .rows .now) (a .c) (a .j) (s .pre .0 .values-are),
       s .pre .1,
       scanned .largest-within .ensures,
-      largest-some (a .n) (a .rows .now) (a .c) (a .j) (s .pre .0 .values-are) (scanned .largest-within .ensures) (s .pre .0 .box .n-low) (s .pre .0 .j-low) (share scanned)
-          (changeCandidate (a .found)) (s .pre .0 .c-low) (s .pre .0 .single) (sym (c .before .is-preferred .ensures) ∙ c .if2 .taken),
     )
 
 returns-2 : tie.Need-returns-2
@@ -51,7 +51,7 @@ returns-2 c =
     let s = scanned .before .before .before .before .before in
     let a = s .args in
     replaced (a .n) (a .rows .now) (a .c) (a .j) (s .pre .0 .values-are) (scanned .largest-within .ensures) (s .pre .0 .box .n-low) (s .pre .0 .j-low) (share scanned) (changeCandidate (a .found))
-    (sym (c .before .before .is-preferred .ensures) ∙ c .before .if2 .taken) (c .first-within .ensures)
+    (sym (c .before .before .is-preferred .ensures) ∙ c .before .if2 .taken) (c .first-change .ensures)
 
 returns-3 : tie.Need-returns-3
 returns-3 c =
@@ -65,4 +65,4 @@ pub with-correlation-spec : {M : Type 1} → statement M
 with-correlation-spec =
     tie.close
     (tie.spec is-beaten-requires returns largest-within-requires (λ c. search needs) div-figure (λ c κs. search needs)
-    first-within-requires returns-2 returns-3)
+    first-change-requires returns-2 returns-3)

@@ -61,7 +61,7 @@ loop-again c =
     let at-loop = in-loop .before in
     let sweep = at-loop .loop .inv .0 in (
       sweep-next sweep (omega (arith, in-loop .loop-test .taken, at-loop .before .power-of-two .ensures .0)) (written .write-pairs .ensures)
-          (rw (c .after-row .ensures) (row-after (row .largest-risen .ensures .0) _ _)),
+          (rw (c .after-row .ensures) (row-after (row .largest-risen .ensures .0) (at-loop .loop .a) (cellFound (at-loop .loop .found)))),
       buckets-free (row .largest-risen .ensures .2) (pairs-few (sweep .box) (written .write-pairs .ensures)),
     )
 

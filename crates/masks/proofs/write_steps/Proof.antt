@@ -10,7 +10,7 @@ use lib.ListN.{length}
 use Rattle.boolean.specs.Functions.{component}
 use Rattle.boolean.proofs.Digits.{component-dot}
 use Rattle.boolean.proofs.Filled.{Filled, filled-none, filled-more, filled-whole}
-use Rattle.masks.specs.Work.{maskOfOnes, stepTables}
+use Rattle.masks.specs.Steps.{maskOfOnes, stepTables}
 use Rattle.masks.proofs.write_steps.Statement.{statement}
 use Rattle.masks.proofs.write_steps.Tie as tie
 

@@ -1,62 +1,92 @@
--- `rounds::size_if` meets its contract: of a box that the sum has the largest magnitude, and else a factor of 1. Assumes nothing.
+-- `rounds::size_if` meets its contract: of a box that the sum has the largest magnitude, with its truth table stepped on, and else a factor of 1.
+-- Assumes nothing.
 use mathlib.Core.Path.{_≡_, refl, sym, _∙_, subst}
-use mathlib.Core.Bool.{Bool}
+use mathlib.Core.Bool.{Bool, true≢false}
+use Prim.Native.Nat.{_*_, _≤_}
 use native.Mathlib.Omega.{arith}
+use lib.ListN.{length}
 use lib.Seq.{length-take-le}
 use borrow.Author.Needs.{needs}
 use Rattle.refusals.specs.Table.{Box}
+use Rattle.masks.proofs.Boxes.{steps-few}
 use Rattle.rounds.specs.Round.{summandOf}
 use Rattle.rounds.specs.Work.{sizeIf}
+use Rattle.rounds.proofs.Steps.{table-begins, stepping}
 use Rattle.rounds.proofs.size_if.Statement.{statement}
 use Rattle.rounds.proofs.size_if.Tie as tie
 
--- the box is one that the sum has
-boxed : (c : tie.Then1) → let a = c .before .before .before .args in Box (a .n) (a .m) (a .rows .now)
-boxed c = c .before .before .before .pre .0 (c .if1 .taken)
+abbrev start : tie.Then1 → tie.Start
+start c = c .before .before .before .before
 
-slice-relend-prefix-size-in : tie.Need-slice-relend-prefix-size-in
-slice-relend-prefix-size-in c = omega (arith, boxed c .small, c .before .before .before .pre .2 .bits-size)
+-- the box is one that the sum has
+boxed : (c : tie.Then1) → let a = start c .args in Box (a .n) (a .m) (a .rows .now)
+boxed c = start c .pre .0 (c .if1 .taken) .0
+
+mul-total : tie.Need-mul-total
+mul-total c = omega (arith, steps-few (boxed c))
+
+-- the arrays have room
+steps-room : (c : tie.Then1) → let a = start c .args in a .m * length (a .rows .now) ≤ length (a .steps .now)
+steps-room c = omega (arith, steps-few (boxed c), start c .pre .4)
+
+table-room : (c : tie.Then1) → let a = start c .args in length (a .rows .now) ≤ length (a .table .now)
+table-room c = omega (arith, boxed c .small, start c .pre .5)
+
+work-room : (c : tie.Then1) → let a = start c .args in length (a .rows .now) ≤ length (a .work .now)
+work-room c = omega (arith, boxed c .small, start c .pre .6)
 
 slice-aggregate-size-in : tie.Need-slice-aggregate-size-in
-slice-aggregate-size-in c = sym (length-take-le _ _ (slice-relend-prefix-size-in (c .before)))
+slice-aggregate-size-in c = sym (length-take-le _ _ (steps-room (c .before)))
 
-slice-relend-prefix-size-in-2 : tie.Need-slice-relend-prefix-size-in-2
-slice-relend-prefix-size-in-2 c = omega (arith, boxed (c .before) .small, c .before .before .before .before .pre .2 .out-size)
+slice-relend-prefix-size-in : tie.Need-slice-relend-prefix-size-in
+slice-relend-prefix-size-in c = table-room (c .before)
 
 slice-aggregate-size-in-2 : tie.Need-slice-aggregate-size-in-2
-slice-aggregate-size-in-2 c = sym (length-take-le _ _ (slice-relend-prefix-size-in-2 (c .before)))
+slice-aggregate-size-in-2 c = sym (length-take-le _ _ (table-room (c .before .before)))
+
+slice-relend-prefix-size-in-2 : tie.Need-slice-relend-prefix-size-in-2
+slice-relend-prefix-size-in-2 c = work-room (c .before .before)
+
+slice-aggregate-size-in-3 : tie.Need-slice-aggregate-size-in-3
+slice-aggregate-size-in-3 c = sym (length-take-le _ _ (work-room (c .before .before .before)))
 
 size-in-requires : tie.Need-size-in-requires
 size-in-requires c κs =
-    let b = boxed (c .before .before) in (
-      record { box = b; table-size = sym (slice-aggregate-size-in (c .before)) ∙ b .size; out-size = sym (slice-aggregate-size-in-2 c) ∙ b .size },
-      c .before .before .before .before .before .pre .1,
+    let t = c .before .before .before in
+    let b = boxed t in
+    let p = start t .pre in (
+      record { box = b; table-size = length-take-le _ _ (table-room t) ∙ b .size; out-size = length-take-le _ _ (work-room t) ∙ b .size },
+      p .3,
+      stepping b (p .1 (t .if1 .taken)) (p .2) (p .0 (t .if1 .taken) .1),
     )
-
-same-length : tie.Need-same-length
-same-length c = search needs
-
-same-length-2 : tie.Need-same-length-2
-same-length-2 c = search needs
 
 returns : tie.Need-returns
 returns c =
-    let then = c .before .before .before .before .before .before in
-    let a = then .before .before .before .args in
-    let sized = c .before .before .before in (
-      subst (λ (u : Bool). sized .size-in .result ≡ sizeIf u (summandOf (a .n) (a .m) (a .rows .now)) (a .c)) (sym (then .if1 .taken)) (sized .size-in .ensures .0),
+    let sized = c .before .before .before in
+    let t = sized .before .before .before .before in
+    let a = start t .args in (
+      subst (λ (u : Bool). sized .size-in .result ≡ sizeIf u (summandOf (a .n) (a .m) (a .rows .now)) (a .c)) (sym (t .if1 .taken)) (sized .size-in .ensures .0),
       sized .size-in .ensures .1,
-      same-length c,
-      same-length-2 c,
+      λ e. record {
+        steps-are = start t .pre .1 e .steps-are;
+        table-is = table-begins (a .m) (a .rows .now) (a .c) _ _ (sized .size-in .ensures .2);
+      },
+      search needs,
+      search needs,
     )
 
 returns-2 : tie.Need-returns-2
 returns-2 c =
-    let a = c .before .before .before .args in
-    (subst (λ (u : Bool). 1 ≡ sizeIf u (summandOf (a .n) (a .m) (a .rows .now)) (a .c)) (sym (c .if1 .left)) refl, omega arith, refl, refl)
+    let a = c .before .before .before .before .args in (
+      subst (λ (u : Bool). 1 ≡ sizeIf u (summandOf (a .n) (a .m) (a .rows .now)) (a .c)) (sym (c .if1 .left)) refl,
+      omega arith,
+      λ e. absurd (true≢false (sym e ∙ c .if1 .left)),
+      search needs,
+      search needs,
+    )
 
 pub size-if-spec : {M : Type 1} → statement M
 size-if-spec =
     tie.close
-    (tie.spec slice-relend-prefix-size-in slice-aggregate-size-in slice-relend-prefix-size-in-2 slice-aggregate-size-in-2
-    size-in-requires same-length same-length-2 returns returns-2)
+    (tie.spec mul-total slice-aggregate-size-in slice-relend-prefix-size-in slice-aggregate-size-in-2 slice-relend-prefix-size-in-2
+    slice-aggregate-size-in-3 size-in-requires (λ c. search needs) (λ c. search needs) returns returns-2)

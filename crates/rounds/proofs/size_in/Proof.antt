@@ -1,43 +1,44 @@
--- `rounds::size_in` meets its contract: what twice the component's least count leaves of the inputs is the peak. Assumes nothing.
-use mathlib.Core.Path.{_≡_}
-use Prim.Native.Nat.{_+_, _*_, _≤_}
+-- `rounds::size_in` meets its contract: twice the largest magnitude of the spectrum is the peak. Assumes nothing.
+use mathlib.Core.Path.{_≡_, sym, ap, _∙_}
+use Prim.Native.Nat.{ℕ, _*_, _^_, _≤_}
 use native.Mathlib.Omega.{arith}
-use lib.ListN.{length}
 use borrow.Author.Needs.{needs}
+use Rattle.boolean.specs.Functions.{component}
+use Rattle.boolean.specs.Sums.{listBelow}
 use Rattle.rounds.specs.Round.{summandOf}
 use Rattle.rounds.specs.Spectra.{peak}
-use Rattle.rounds.proofs.Tops.{count-peak}
+use Rattle.rounds.proofs.Tops.{twice-largest}
 use Rattle.rounds.proofs.size_in.Statement.{statement}
 use Rattle.rounds.proofs.size_in.Tie as tie
 
--- twice the count and the peak make as many as the box has rows
-whole : (c : tie.After-out) →
-    let a = c .before .before .before .before .before .before .before .before .args in
-    2 * c .before .before .before .component-count .result + peak (summandOf (a .n) (a .m) (a .rows .now)) (a .c) .figure ≡ length (a .rows .now)
-whole c =
-    let start = c .before .before .before .before .before .before .before .before in
-    let a = start .args in
-    omega (arith, c .before .before .before .component-count .ensures .0, count-peak (a .n) (a .m) (a .rows .now) (a .c), start .pre .0 .box .size)
+abbrev start : tie.After-work → tie.Start
+start c = c .before .before .before .before .before .before .before .before .before
 
-small : (c : tie.After-out) → length (c .before .before .before .before .before .before .before .before .args .rows .now) ≤ 256
-small c = c .before .before .before .before .before .before .before .before .pre .0 .box .small
+twice : (c : tie.After-work) →
+    let a = start c .args in
+    (2 * c .before .before .before .next-peak .result ≡ peak (summandOf (a .n) (a .m) (a .rows .now)) (a .c) .figure)
+    × (2 * c .before .before .before .next-peak .result ≤ 2 ^ a .n)
+twice c =
+    let a = start c .args in
+    twice-largest (a .n) (a .m) (a .rows .now) (a .c) (start c .pre .0 .box .n-low) (c .before .before .before .next-peak .ensures .0)
+
+small : (c : tie.After-work) → 2 * c .before .before .before .next-peak .result ≤ 256
+small c = let b = start c .pre .0 .box in omega (arith, twice c .1, b .size, b .small)
 
 mul-result : tie.Need-mul-result
-mul-result c = omega (arith, whole c, small c)
-
-sub-result : tie.Need-sub-result
-sub-result c = omega (arith, whole c)
-
-same-length : tie.Need-same-length
-same-length c = search needs
-
-same-length-2 : tie.Need-same-length-2
-same-length-2 c = search needs
+mul-result c = omega (arith, small c)
 
 returns : tie.Need-returns
-returns c = (omega (arith, whole c), omega (arith, small c), same-length c, same-length-2 c)
+returns c =
+    let s = start c in
+    let a = s .args in (
+      twice c .0,
+      small c,
+      c .before .before .before .next-peak .ensures .1 ∙ ap (λ (k : ℕ). listBelow k (λ x. component (a .rows .now) (a .c) x)) (sym (s .pre .0 .box .size)),
+      search needs,
+    )
 
 pub size-in-spec : {M : Type 1} → statement M
 size-in-spec =
     tie.close
-    (tie.spec (λ c κs. search needs) (λ c. search needs) mul-result sub-result same-length same-length-2 returns)
+    (tie.spec (λ c κs. search needs) mul-result (λ c. search needs) (λ c. search needs) returns)

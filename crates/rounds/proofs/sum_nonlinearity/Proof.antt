@@ -1,19 +1,20 @@
--- `rounds::sum_nonlinearity` meets its contract: what the checks found says which case it is, the sweep has the component, and its witness and figure
--- make the answer. Assumes nothing.
-use mathlib.Core.Path.{_≡_, sym, ap, ap₂, _∙_, subst}
+-- `rounds::sum_nonlinearity` meets its contract: what the checks found says which case it is, and the part of all masks has the figure and its pair.
+-- Assumes nothing.
+use mathlib.Core.Path.{_≡_, sym, ap, _∙_, subst}
 use mathlib.Core.List.{List}
-use Prim.Native.Nat.{ℕ, _+_, _-_, _/_, _^_, _≤_}
+use Prim.Native.Nat.{ℕ, _≤_}
 use native.Mathlib.Omega.{arith}
-use Rattle.boolean.specs.Functions.{components, MaskWithin}
+use lib.Pow.{pow-pos}
+use Rattle.boolean.specs.Functions.{components}
 use Rattle.boolean.specs.Selection.{Candidate, shown}
-use Rattle.boolean.proofs.Components.{mem-components, in-components, first-mask}
 use Rattle.refusals.specs.Table.{first, figures}
 use Rattle.refusals.specs.declared.Checked.the-variants.{Accepted}
 use Rattle.refusals.proofs.Checks.{reply-refused, reply-accepted}
-use Rattle.rounds.specs.Round.{Summand, inputsOf, firstGiven, outputsOf, sumNonlinearity, sumChecks}
+use Rattle.linear.proofs.Ranges.{whole-part}
+use Rattle.rounds.specs.Round.{Summand, firstGiven, outputsOf, sumNonlinearity, sumChecks}
 use Rattle.rounds.specs.Work.{Round, IsBox}
-use Rattle.rounds.proofs.Entry.{outputs-are, inputs-are, box-1, box-2, box-3, box-4, accepted-round, limit-low, some-inputs, Handed, allFour, box1, box2, box3, box4}
-use Rattle.rounds.proofs.Terms.{Chosen, chosen, size-within, answer-is}
+use Rattle.rounds.proofs.Entry.{outputs-are, box-1, accepted-round, limit-low, Handed, allFour, box1, box2, box3, box4}
+use Rattle.rounds.proofs.Ranges.{whole-sum}
 use borrow.Author.Needs.{needs}
 use Rattle.rounds.proofs.sum_nonlinearity.Statement.{statement}
 use Rattle.rounds.proofs.sum_nonlinearity.Tie as tie
@@ -48,96 +49,38 @@ round c =
 limit : (c : tie.After-enum-told) → 1 ≤ start c .args .i
 limit c = let s = start c in limit-low (s .args .count) (four s) (s .args .i) (accepted c)
 
-inputs : (c : tie.After-enum-told) → 1 ≤ inputsOf (summed (start c))
-inputs c = let s = start c in some-inputs (s .args .count) (four s) (s .args .i) (accepted c)
-
 first-box : (c : tie.After-enum-told) → IsBox (box1 (lent (start c)))
 first-box c = let s = start c in box-1 (box1 (lent s)) (box2 (lent s)) (box3 (lent s)) (box4 (lent s)) (round c)
-
--- the component that the sweep found
-found : (c : tie.After-largest-product) → let s = start (c .before) in Chosen (summed s) (components (s .args .widths .m1) (s .args .i)) (c .largest-product .result)
-found c =
-    let s = start (c .before) in
-    let one = in-components (s .args .widths .m1) (s .args .i) 1 (first-mask (s .args .widths .m1) (s .args .i) (first-box (c .before) .m-low) (limit (c .before))) in
-    chosen (summed s) (inputs (c .before)) (components (s .args .widths .m1) (s .args .i)) 1 one (c .largest-product .result) (c .largest-product .ensures)
-
-mask : (c : tie.After-largest-product) → let s = start (c .before) in MaskWithin (s .args .i) (2 ^ s .args .widths .m1) (c .largest-product .result .c)
-mask c = let s = start (c .before) in mem-components (s .args .widths .m1) (s .args .i) (c .largest-product .result .c) (found c .member)
-
--- the number of all inputs
-abbrev told : tie.After-inputs-if3 → tie.After-enum-told
-told c = c .before .before .before .before .before
-
-abbrev total : tie.After-inputs-if3 → ℕ
-total c = start (told c) .args .widths .n1 + (c .inputs-if3 .result + (c .before .before .inputs-if .result + c .before .inputs-if2 .result))
-
-total-is : (c : tie.After-inputs-if3) → total c ≡ inputsOf (summed (start (told c)))
-total-is c =
-    let s = start (told c) in
-    let r = round (told c) in
-    ap₂ (λ (i j : ℕ). s .args .widths .n1 + (i + j)) (c .inputs-if3 .ensures .0) (ap₂ (λ (i j : ℕ). i + j) (c .before .before .inputs-if .ensures .0) (c .before .inputs-if2 .ensures .0))
-    ∙ inputs-are (box1 (lent s)) (box2 (lent s)) (box3 (lent s)) (box4 (lent s)) (s .args .count) (r .count-low) (r .count-high)
 
 returns : tie.Need-returns
 returns c = record { says = reply-refused (sym (c .before .before .before .check-sum .ensures) ∙ c .before .checked .given .1) _; past = tt }
 
-largest-product-requires : tie.Need-largest-product-requires
-largest-product-requires c κs = (round c, limit c)
+power-of-two-requires : tie.Need-power-of-two-requires
+power-of-two-requires c κs = first-box c .m-high
 
-witness-at-requires : tie.Need-witness-at-requires
-witness-at-requires c κs = let m = mask c in (round (c .before), omega arith, omega arith)
+sub-masks : tie.Need-sub-masks
+sub-masks c = omega (arith, c .power-of-two .ensures .0, pow-pos (start (c .before) .args .widths .m1))
 
-inputs-if-requires : tie.Need-inputs-if-requires
-inputs-if-requires c κs e = let t = c .before .before in let s = start t in box-3 (box1 (lent s)) (box2 (lent s)) (box3 (lent s)) (box4 (lent s)) (round t) e .n-high
-
-inputs-if-requires-2 : tie.Need-inputs-if-requires-2
-inputs-if-requires-2 c κs e = let t = c .before .before .before in let s = start t in box-4 (box1 (lent s)) (box2 (lent s)) (box3 (lent s)) (box4 (lent s)) (round t) e .n-high
-
-add-last : tie.Need-add-last
-add-last c = omega (arith, c .before .inputs-if .ensures .1, c .inputs-if2 .ensures .1)
-
-inputs-if-requires-3 : tie.Need-inputs-if-requires-3
-inputs-if-requires-3 c κs e = let t = c .before .before .before .before in let s = start t in box-2 (box1 (lent s)) (box2 (lent s)) (box3 (lent s)) (box4 (lent s)) (round t) e .n-high
-
--- each has at most 8
-small : (c : tie.After-inputs-if3) → c .inputs-if3 .result + (c .before .before .inputs-if .result + c .before .inputs-if2 .result) ≤ 24
-small c = omega (arith, c .inputs-if3 .ensures .1, c .before .before .inputs-if .ensures .1, c .before .inputs-if2 .ensures .1)
-
-add-others : tie.Need-add-others
-add-others c = omega (arith, small c)
-
-add-figure-of : tie.Need-add-figure-of
-add-figure-of c = omega (arith, small (c .before), first-box (told (c .before)) .n-high)
-
-figure-of-requires : tie.Need-figure-of-requires
-figure-of-requires c κs =
-    let sized = c .before in
-    let n-low = first-box (told sized) .n-low in
-    let n-high = first-box (told sized) .n-high in
-    let swept = sized .before .before .before .before in (
-      omega arith,
-      omega (arith, small sized),
-      subst (λ (k : ℕ). swept .largest-product .result .size ≤ 2 ^ k) (sym (total-is sized)) (size-within (found swept) (inputs (told sized))),
-    )
+least-between-requires : tie.Need-least-between-requires
+least-between-requires c κs =
+    let t = c .before in
+    (round t, limit t, whole-part (first-box t .m-low) (limit t) (c .power-of-two .ensures .0))
 
 returns-2 : tie.Need-returns-2
 returns-2 c =
-    let sized = c .before .before in
-    let witnessed = sized .before .before .before in
-    let swept = witnessed .before in
-    let t = swept .before in
+    let p = c .before in
+    let t = p .before in
     let s = start t in
     record {
       says =
-          ap (λ (p : Candidate). figures (shown p))
-          (answer-is (found swept) (inputs t) (c .figure-of .ensures ∙ ap (λ (k : ℕ). 2 ^ (k - 1) - swept .largest-product .result .size / 2) (total-is sized)) (witnessed .witness-at .ensures))
+          ap (λ (p : Candidate). figures (shown p)) (c .least-between .ensures .is ∙ whole-sum (summed s) (s .args .widths .m1) (s .args .i) (p .power-of-two .ensures .0))
           ∙ ap (λ (m : ℕ). figures (shown (sumNonlinearity (summed s) (components m (s .args .i))))) (sym (widths t))
           ∙ reply-accepted (accepted t) _;
-      past = witnessed .witness-at .ensures .past;
+      past = c .least-between .ensures .past;
     }
 
 pub sum-nonlinearity-spec : {M : Type 1} → statement M
 sum-nonlinearity-spec =
     tie.close
-    (tie.spec (λ c κs. search needs) (λ c. search needs) returns (λ c. search needs) largest-product-requires witness-at-requires
-    inputs-if-requires inputs-if-requires-2 add-last inputs-if-requires-3 add-others add-figure-of figure-of-requires returns-2)
+    (tie.spec (λ c κs. search needs) (λ c. search needs) returns (λ c. search needs) power-of-two-requires sub-masks (λ c. search needs)
+    least-between-requires returns-2)

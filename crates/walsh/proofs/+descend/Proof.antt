@@ -1,8 +1,10 @@
 -- The proof of the cycle of calls {descend}. The measure is the width. Above width 3 a table is cut, at width 4 and above it alike: what the
 -- calls on the halves and the butterfly do to the lists is in `SpectrumHalves`. Assumes nothing.
-use mathlib.Core.Path.{sym, ap, _∙_, subst}
-use Prim.Native.Nat.{ℕ, _-_, _<_}
+use mathlib.Core.Path.{_≡_, sym, ap, _∙_, subst}
+use Prim.Native.Nat.{ℕ, suc, _-_, _/_, _^_, _<_}
 use native.Mathlib.Omega.{arith}
+use lib.Dec.{lit≤}
+use lib.ListN.{length}
 use lib.Seq.{length-take-le}
 use borrow.Author.Needs.{needs}
 use borrow.Fn.Kinds.{In}
@@ -50,8 +52,16 @@ module _ (t : ℕ) where
   -- at width 4 the halves have width 3
   cut-four : (e : lts.Then3 (calls t) (given t) descend.Post) →
       let s = e .before .before .before .before in
-      halves.Cut (s .args .n) 3 (s .args .table .now) (s .args .out .now)
-  cut-four e = record { ready = e .before .before .before .before .pre .1 .0; one-less = e .if3 .taken; low = omega arith }
+      halves.Cut (s .args .n) 3 (length (s .args .table .now) / 2) (s .args .table .now) (s .args .out .now)
+  cut-four e =
+      let s = e .before .before .before .before in
+      let table = s .args .table .now in
+      record {
+        ready = s .pre .1 .0;
+        one-less = e .if3 .taken;
+        low = omega arith;
+        half = halves.in-the-middle (s .args .n) 3 table (s .pre .1 .0 .read .size) (e .if3 .taken);
+      }
 
   less-four : (e : lts.Then3 (calls t) (given t) descend.Post) → 3 < t
   less-four e = omega (arith, e .if3 .taken, e .before .before .before .before .pre .0)
@@ -59,8 +69,16 @@ module _ (t : ℕ) where
   -- above it they have one less
   cut : (e : lts.Else3 (calls t) (given t) descend.Post) →
       let s = e .before .before .before .before in
-      halves.Cut (s .args .n) (s .args .n - 1) (s .args .table .now) (s .args .out .now)
-  cut e = record { ready = e .before .before .before .before .pre .1 .0; one-less = omega (arith, e .before .before .if1 .left); low = omega (arith, e .before .before .if1 .left) }
+      halves.Cut (s .args .n) (s .args .n - 1) (length (s .args .table .now) / 2) (s .args .table .now) (s .args .out .now)
+  cut e =
+      let s = e .before .before .before .before in
+      let one-less : s .args .n ≡ suc (s .args .n - 1) = omega (arith, e .before .before .if1 .left) in
+      record {
+        ready = s .pre .1 .0;
+        one-less = one-less;
+        low = omega (arith, e .before .before .if1 .left);
+        half = halves.in-the-middle (s .args .n) (s .args .n - 1) (s .args .table .now) (s .pre .1 .0 .read .size) one-less;
+      }
 
   less : (e : lts.Else3 (calls t) (given t) descend.Post) → e .before .before .before .before .args .n - 1 < t
   less e = omega (arith, e .before .before .if1 .left, e .before .before .before .before .pre .0)
@@ -111,7 +129,7 @@ module _ (t : ℕ) where
       let second = c .before .before in
       let first = second .before .before .before .before in
       halves.crossing (cut-four (first .before .before .before))
-      (first .descend .last .1 .1 .1 .0) (first .descend .ensures) (second .descend2 .last .1 .1 .1 .0) (second .descend2 .ensures)
+      (first .descend .last .1 .1 .1 .0) (first .descend .ensures) (second .descend2 .last .1 .1 .1 .0) (second .descend2 .ensures) (2 ^ 29) (lit≤ tt)
 
   sub-descend-3 : lts.Need-sub-descend-3 (calls t) (given t) descend.Post
   sub-descend-3 c = search needs
@@ -165,7 +183,7 @@ module _ (t : ℕ) where
       let second = c .before .before in
       let first = second .before .before .before .before in
       halves.crossing (cut (first .before .before .before))
-      (first .descend3 .last .1 .1 .1 .0) (first .descend3 .ensures) (second .descend4 .last .1 .1 .1 .0) (second .descend4 .ensures)
+      (first .descend3 .last .1 .1 .1 .0) (first .descend3 .ensures) (second .descend4 .last .1 .1 .1 .0) (second .descend4 .ensures) (2 ^ 29) (lit≤ tt)
 
   same-length : lts.Need-same-length (calls t) (given t) descend.Post
   same-length c = search needs

@@ -1,8 +1,10 @@
 -- `walsh::butterfly` meets its contract: each turn crosses one number of each half. Assumes nothing.
-use Prim.Native.Nat.{_-_}
+use Prim.Native.Nat.{_-_, _^_}
 use native.Mathlib.Omega.{arith}
 use borrow.Author.Needs.{needs}
 use lib.ListN.{length-set}
+use mir.Syntax.{w32}
+use Rattle.boolean.proofs.Words.{fits-word}
 use Rattle.walsh.proofs.Turns.{Turned, turned-none, turned-more, turned-all, sum-ok, difference-ok}
 use Rattle.walsh.proofs.butterfly.Statement.{statement}
 use Rattle.walsh.proofs.butterfly.Tie as tie
@@ -22,7 +24,7 @@ slice-copy-out-a c = omega (arith, c .before .loop .inv .long, c .before .before
 add-values : tie.Need-add-values Inv-loop μ-loop
 add-values c =
     let at-loop = c .before .before .before in
-    sum-ok (at-loop .before .args .h) (at-loop .loop .k) (at-loop .before .args .values .now) (at-loop .loop .values) (at-loop .before .pre)
+    sum-ok w32 (2 ^ 29) fits-word (at-loop .before .args .h) (at-loop .loop .k) (at-loop .before .args .values .now) (at-loop .loop .values) (at-loop .before .pre)
     (at-loop .loop .inv) (c .before .before .loop-test .taken)
 
 slice-set-from-values : tie.Need-slice-set-from-values Inv-loop μ-loop
@@ -31,7 +33,7 @@ slice-set-from-values c = omega (arith, c .before .before .before .loop .inv .lo
 sub-values : tie.Need-sub-values Inv-loop μ-loop
 sub-values c =
     let at-loop = c .before .before .before in
-    difference-ok (at-loop .before .args .h) (at-loop .loop .k) (at-loop .before .args .values .now) (at-loop .loop .values) (at-loop .before .pre)
+    difference-ok w32 (2 ^ 29) fits-word (at-loop .before .args .h) (at-loop .loop .k) (at-loop .before .args .values .now) (at-loop .loop .values) (at-loop .before .pre)
     (at-loop .loop .inv) (c .before .before .loop-test .taken)
 
 slice-set-from-values-2 : tie.Need-slice-set-from-values-2 Inv-loop μ-loop
@@ -40,7 +42,7 @@ slice-set-from-values-2 c = simp length-set (omega (arith, c .before .before .be
 loop-again : tie.Need-loop-again Inv-loop μ-loop
 loop-again c =
     let at-loop = c .before .before .before in
-    turned-more (at-loop .before .args .h) (at-loop .loop .k) (at-loop .before .args .values .now) (at-loop .loop .values) (at-loop .before .pre)
+    turned-more w32 (2 ^ 29) fits-word (at-loop .before .args .h) (at-loop .loop .k) (at-loop .before .args .values .now) (at-loop .loop .values) (at-loop .before .pre)
     (at-loop .loop .inv) (c .before .before .loop-test .taken)
 
 same-length : tie.Need-same-length Inv-loop μ-loop

@@ -1,20 +1,16 @@
 -- `walsh::by_definition` meets its contract: each value is its definition's count, less half of all inputs. Assumes nothing.
-use mathlib.Core.Path.{_≡_, sym, ap₂, _∙_}
-use Prim.Native.Nat.{ℕ, _-_, _/_, _≤_, _^_}
+use mathlib.Core.Path.{_≡_, sym, _∙_}
+use Prim.Native.Nat.{_-_, _≤_, _^_}
 use native.Mathlib.Nat.{le-trans, le-of-eq}
 use native.Mathlib.Omega.{arith}
 use borrow.Author.Needs.{needs}
-use mathlib.Core.List.{List}
 use lib.ListN.{length}
-use lib.Dec.{eqb}
-use lib.IntN.{pos, _-ℤ_}
+use lib.IntN.{pos}
 use lib.Pow.{pow-mono}
-use Rattle.boolean.specs.Bits.{dot}
-use Rattle.boolean.specs.Sums.{countBelow}
 use Rattle.boolean.specs.Functions.{at, approximation, spectrum}
 use Rattle.boolean.proofs.Filled.{Filled, filled-none, filled-more, filled-whole}
-use Rattle.boolean.proofs.Approximations.{half-power}
 use Rattle.boolean.proofs.Words.{word-told}
+use Rattle.walsh.proofs.Numbers.{by-size}
 use Rattle.walsh.proofs.by_definition.Statement.{statement}
 use Rattle.walsh.proofs.by_definition.Tie as tie
 
@@ -26,14 +22,6 @@ abbrev μ-loop : tie.MeasureT-loop
 
 few : (c : tie.Start Inv-loop μ-loop) → length (c .args .table .now) ≤ 256
 few c = le-trans (le-of-eq (c .pre .read .size)) (pow-mono {j = 8} (c .pre .read .n-high))
-
--- the definition, with as many inputs as the table has
-by-size : (n : ℕ) (table : List ℕ) (w : ℕ) → 1 ≤ n → length table ≡ 2 ^ n
-    → pos (countBelow (length table) (λ x. eqb (at table x) (dot w x))) -ℤ pos (length table / 2) ≡ approximation n (at table) w
-unfolding approximation
-by-size n table w low e =
-    let half : length table / 2 ≡ 2 ^ (n - 1) = omega (arith, half-power n low) in
-    ap₂ (λ (k h : ℕ). pos (countBelow k (λ x. eqb (at table x) (dot w x))) -ℤ pos h) e half
 
 cast-size : tie.Need-cast-size Inv-loop μ-loop
 cast-size c = omega (arith, few (c .before))

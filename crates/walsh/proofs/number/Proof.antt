@@ -1,47 +1,34 @@
--- `walsh::number` meets its contract: after each turn t has the values from x on. Assumes nothing.
-use mathlib.Core.Path.{sym, subst}
-use Prim.Native.Nat.{ℕ, _-_, _<_}
+-- `walsh::number` meets its contract: the product has the eight values side by side. Assumes nothing.
+use mathlib.Core.Path.{ap₂}
+use Prim.Native.Nat.{ℕ, _+_, _*_, _/_, _%_, _≤_}
 use native.Mathlib.Omega.{arith}
 use borrow.Author.Needs.{needs}
-use Rattle.walsh.proofs.Numbers.{Numbered, numbered-none, numbered-more, numbered-small, numbered-whole}
+use Rattle.walsh.proofs.Numbers.{bytes-small, number-is}
 use Rattle.walsh.proofs.number.Statement.{statement}
 use Rattle.walsh.proofs.number.Tie as tie
 
-abbrev Inv-loop : tie.InvT-loop
-Inv-loop table t₀ x₀ t x = Numbered table t x
+-- neither number is above four ones
+small : (c : tie.After-four-bytes2) → (c .before .four-bytes .result ≤ 16843009) × (c .four-bytes2 .result ≤ 16843009)
+small c =
+    let start = c .before .before .before in
+    let table = start .args .table .now in
+    (omega (arith, bytes-small table (start .pre .bits) 0), omega (arith, bytes-small table (start .pre .bits) 4))
 
-abbrev μ-loop : tie.MeasureT-loop
-μ-loop table t₀ x₀ t x = x
+mul-both : tie.Need-mul-both
+mul-both c = omega (arith, small c .1)
 
-loop-holds : tie.Need-loop-holds Inv-loop μ-loop
-loop-holds c = numbered-none (c .before .args .table .now)
+add-both : tie.Need-add-both
+add-both c = omega (arith, small c .0, small c .1)
 
-mul-t : tie.Need-mul-t Inv-loop μ-loop
-mul-t c = omega (arith, numbered-small _ _ _ (c .before .loop .inv) (c .loop-test .taken))
+mul-result : tie.Need-mul-result
+mul-result c = omega (arith, small c .0, small c .1)
 
-shared-slice-read-wide : tie.Need-shared-slice-read-wide Inv-loop μ-loop
-shared-slice-read-wide c = omega (arith, c .before .before .loop .inv .within, c .before .before .before .before .pre .size)
-
--- the value that is read is a bit
-read-bit : (c : tie.After-wide Inv-loop μ-loop) → c .wide .result < 2
-read-bit c = subst (λ (b : ℕ). b < 2) (sym (c .wide .ensures .0)) (c .before .before .before .before .before .pre .bits (c .before .before .before .loop .x - 1))
-
-add-t : tie.Need-add-t Inv-loop μ-loop
-add-t c =
-    let at-loop = c .before .before .before in
-    omega (arith, numbered-small _ _ _ (at-loop .loop .inv) (c .before .before .loop-test .taken), read-bit c)
-
-loop-again : tie.Need-loop-again Inv-loop μ-loop
-loop-again c =
-    let at-loop = c .before .before .before in
-    numbered-more (at-loop .before .before .args .table .now) (at-loop .loop .t) (at-loop .loop .x) (c .wide .result)
-    (at-loop .loop .inv) (c .before .before .loop-test .taken) (read-bit c) (c .wide .ensures .0)
-
-returns : tie.Need-returns Inv-loop μ-loop
-returns c = numbered-whole (c .before .before .before .args .table .now) (c .before .loop .t) (c .before .loop .x) (c .before .loop .inv) (omega arith)
+returns : tie.Need-returns
+returns c =
+    let start = c .before .before .before in
+    number-is (start .args .table .now) (start .pre .bits) _
+    (ap₂ (λ (a b : ℕ). (a + 16 * b) * 16909320 / 16777216 % 256) (c .before .four-bytes .ensures) (c .four-bytes2 .ensures))
 
 pub number-spec : {M : Type 1} → statement M
 number-spec =
-    tie.close
-    (tie.spec Inv-loop μ-loop loop-holds (λ c. search needs) mul-t shared-slice-read-wide (λ c κs. search needs) (λ c. search needs)
-    add-t (λ c. search needs) loop-again returns)
+    tie.close (tie.spec (λ c κs. search needs) (λ c κs. search needs) mul-both add-both mul-result returns)

@@ -64,7 +64,7 @@ loop-again c =
     let at-loop = in-loop .before in
     let sweep = at-loop .loop .inv .0 in (
       sweep-next sweep (omega (arith, in-loop .loop-test .taken, at-loop .before .power-of-two .ensures .0)) (written .write-pairs .ensures)
-          (rw (c .after-row .ensures) (row-after (row .largest-alone .ensures .0) _ _)),
+          (rw (c .after-row .ensures) (row-after (row .largest-alone .ensures .0) (at-loop .loop .a) (cellFound (at-loop .loop .found)))),
       row .largest-alone .ensures .2 .long ∙ at-loop .loop .inv .1,
     )
 

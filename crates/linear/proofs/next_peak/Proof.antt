@@ -1,12 +1,13 @@
--- `linear::next_spectrum` meets its contract: the truth table is the component's, and so is its spectrum. Assumes nothing.
-use mathlib.Core.Path.{_∙_}
+-- `linear::next_peak` meets its contract: the truth table is the component's, and so is its spectrum. Assumes nothing.
+use mathlib.Core.Path.{ap, _∙_}
 use Rattle.linear.proofs.Components.{written-is, written-ready, written-spectrum}
+use Rattle.walsh.specs.Magnitudes.{largestMagnitude}
 use borrow.Author.Needs.{needs}
-use Rattle.linear.proofs.next_spectrum.Statement.{statement}
-use Rattle.linear.proofs.next_spectrum.Tie as tie
+use Rattle.linear.proofs.next_peak.Statement.{statement}
+use Rattle.linear.proofs.next_peak.Tie as tie
 
-descend-requires : tie.Need-descend-requires
-descend-requires c κs =
+peak-requires : tie.Need-peak-requires
+peak-requires c κs =
     let next = c .before .before .before .before in
     let start = next .before .before .before .before .before in
     let a = start .args in (
@@ -20,10 +21,10 @@ returns c =
     let next = d .before .before .before .before .before in
     let start = next .before .before .before .before .before in
     let a = start .args in (
-      d .descend .ensures ∙ written-spectrum (a .n) (a .rows .now) (a .c) (a .m) (start .pre .0 .box) _ (next .next-component .ensures),
+      d .peak .ensures ∙ ap largestMagnitude (written-spectrum (a .n) (a .rows .now) (a .c) (a .m) (start .pre .0 .box) _ (next .next-component .ensures)),
       written-is (a .n) (a .rows .now) (a .c) (a .m) (start .pre .0 .box) _ (next .next-component .ensures),
     )
 
-pub next-spectrum-spec : {M : Type 1} → statement M
-next-spectrum-spec =
-    tie.close (tie.spec (λ c κs. search needs) descend-requires (λ c. search needs) (λ c. search needs) returns)
+pub next-peak-spec : {M : Type 1} → statement M
+next-peak-spec =
+    tie.close (tie.spec (λ c κs. search needs) peak-requires (λ c. search needs) (λ c. search needs) returns)

@@ -1,0 +1,88 @@
+-- `walsh::narrow::by_definition` meets its contract: each value is its definition's count, less half of all inputs. Assumes nothing.
+use mathlib.Core.Path.{_≡_, sym, _∙_, subst}
+use Prim.Native.Nat.{_-_, _≤_, _^_}
+use native.Mathlib.Nat.{le-trans, le-of-eq}
+use native.Mathlib.Omega.{arith}
+use borrow.Author.Needs.{needs}
+use lib.ListN.{length}
+use lib.IntN.{pos}
+use lib.Pow.{pow-mono}
+use mir.Syntax.{w16}
+use mir.Val.{SFits}
+use mir.Facts.{toZ-ofZ}
+use Rattle.boolean.specs.Functions.{at, approximation, spectrum}
+use Rattle.boolean.proofs.Filled.{Filled, filled-none, filled-more, filled-whole}
+use Rattle.boolean.proofs.Words.{word, word-told}
+use Rattle.boolean.proofs.Approximations.{approximation-le}
+use Rattle.walsh.proofs.Short.{fits-narrow}
+use Rattle.walsh.proofs.Numbers.{by-size}
+use Rattle.walsh.proofs.narrow.by_definition.Statement.{statement}
+use Rattle.walsh.proofs.narrow.by_definition.Tie as tie
+
+abbrev Inv-loop : tie.InvT-loop
+Inv-loop n table out₀ size w₀ out w = (size ≡ 2 ^ n) × Filled (pos 0) (λ v. approximation n (at table) v) (2 ^ n) w out
+
+abbrev μ-loop : tie.MeasureT-loop
+μ-loop n table out₀ size w₀ out w = size - w
+
+few : (c : tie.Start Inv-loop μ-loop) → length (c .args .table .now) ≤ 256
+few c = le-trans (le-of-eq (c .pre .read .size)) (pow-mono {j = 8} (c .pre .read .n-high))
+
+cast-size : tie.Need-cast-size Inv-loop μ-loop
+cast-size c = omega (arith, few (c .before))
+
+loop-holds : tie.Need-loop-holds Inv-loop μ-loop
+loop-holds c = (c .before .pre .read .size, filled-none (pos 0) _ _ (c .before .args .out .now) (c .before .pre .room))
+
+value-requires : tie.Need-value-requires Inv-loop μ-loop
+value-requires c κs = few (c .before .before .before)
+
+-- the value that was made, and that a 16-bit word holds it
+value-is : (c : tie.After-value Inv-loop μ-loop) →
+    let at-loop = c .before .before in
+    let a = at-loop .before .before .args in
+    word (c .value .result) ≡ approximation (a .n) (at (a .table .now)) (at-loop .loop .w)
+value-is c =
+    let at-loop = c .before .before in
+    let start = at-loop .before .before in
+    word-told (c .value .result) (c .value .ok) ∙ c .value .ensures
+    ∙ by-size (start .args .n) (start .args .table .now) (at-loop .loop .w) (start .pre .read .n-low) (start .pre .read .size)
+
+cast-out : tie.Need-cast-out Inv-loop μ-loop
+cast-out c =
+    let at-loop = c .before .before in
+    let start = at-loop .before .before in
+    let n = start .args .n in
+    subst (SFits w16) (sym (value-is c))
+    (fits-narrow _ (omega (arith, approximation-le n (start .pre .read .n-low) (at (start .args .table .now)) (at-loop .loop .w), pow-mono {i = n - 1} {j = 8} (omega (arith, start .pre .read .n-high)))))
+
+add-w : tie.Need-add-w Inv-loop μ-loop
+add-w c = omega (arith, few (c .before .before .before .before), c .before .loop-test .taken)
+
+loop-again : tie.Need-loop-again Inv-loop μ-loop
+loop-again c =
+    let at-loop = c .before .before in
+    let start = at-loop .before .before in
+    let table = start .args .table .now in
+    let w = at-loop .loop .w in
+    let size = start .pre .read .size in (
+      size,
+      filled-more (pos 0) (λ v. approximation (start .args .n) (at table) v) (2 ^ start .args .n) w (at-loop .loop .out) (at-loop .loop .inv .1)
+          (omega (arith, c .before .loop-test .taken, size)) _
+          (toZ-ofZ (cast-out c) ∙ value-is c),
+    )
+
+same-length : tie.Need-same-length Inv-loop μ-loop
+same-length c =
+    let start = c .before .before .before in
+    c .before .loop .inv .1 .long ∙ sym (start .pre .room)
+
+returns : tie.Need-returns Inv-loop μ-loop
+unfolding spectrum
+returns c = filled-whole (pos 0) _ _ (c .before .loop .w) (c .before .loop .out) (c .before .loop .inv .1) (omega arith)
+
+pub by-definition-spec : {M : Type 1} → statement M
+by-definition-spec =
+    tie.close
+    (tie.spec Inv-loop μ-loop cast-size loop-holds value-requires cast-out (λ c. search needs) (λ c. search needs) (λ c. search needs) add-w
+    (λ c. search needs) loop-again same-length returns)
