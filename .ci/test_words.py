@@ -35,6 +35,12 @@ class Words(unittest.TestCase):
         texts[first], texts[second] = texts[second], texts[first]
         self.assertEqual(words.faults(texts), [])
 
+    def test_a_short_word_may_be_written_out(self):
+        for written, faults in (("bit independence criterion", 0), ("bit independence", 1)):
+            texts = planted()
+            texts["python/README.md"] = texts["python/README.md"].replace("BIC", written)
+            self.assertEqual(len(words.faults(texts)), faults, written)
+
     def test_a_file_that_is_missing(self):
         texts = planted()
         del texts["rust/src/lib.rs"]

@@ -39,6 +39,7 @@ WORDS = (
     ("BIC", EVERYWHERE, "dynamic distance of order (2, 1)"),
     ("Webster and Tavares", PAGES, "another measure of BIC"),
 )
+WRITTEN_OUT = {"BIC": "bit independence criterion"}  # what may stand in place of the short word
 LEADER = re.compile(r"^[ \t]*(?:///|//!|//|/\*+|\*|#)?[ \t]*", re.M)  # what begins a line of a comment
 
 
@@ -65,7 +66,7 @@ def faults(files):
             texts = [files.get(file, "") for file in PLACES[place]]
             if place == "README":
                 texts = [table(text) for text in texts]
-            if not any(has(text, word) for text in texts):
+            if not any(has(text, spelling) for text in texts for spelling in (word, WRITTEN_OUT.get(word, word))):
                 lost.append(f"{' or '.join(PLACES[place])}: no {word} (here: {ours})")
     return lost
 
