@@ -74,7 +74,7 @@ fn butterfly(values: &mut [i16], h: usize)
     }
 }
 
-// Four inputs: the spectrum of each half, and then the halves crossed. The lengths are written out, here and in the next two, so that all
+// Four inputs: the spectrum of each half, and then the halves crossed. The lengths are written out, here and in the next three, so that all
 // of it compiles to sums and differences of the machine's registers, with neither a loop nor a call.
 fn sixteen(fixed: &[i16; 2048], table: &[u8], out: &mut [i16])
     requires { ⌜ Ready 4 (now table) (now out) × Spectra (now fixed) ⌝ }
@@ -105,12 +105,24 @@ fn sixty_four(fixed: &[i16; 2048], table: &[u8], out: &mut [i16])
     butterfly(out, 32);
 }
 
-// Up to six inputs, by the one that is written out for their number.
+// Seven inputs.
+fn one_twenty_eight(fixed: &[i16; 2048], table: &[u8], out: &mut [i16])
+    requires { ⌜ Ready 7 (now table) (now out) × Spectra (now fixed) ⌝ }
+    ensures { λ _. ⌜ now (out .exit) ≡ functions.spectrum 7 (at (now (table .entry))) ⌝ }
+{
+    sixty_four(fixed, &table[..64], &mut out[..64]);
+    sixty_four(fixed, &table[64..], &mut out[64..]);
+    butterfly(out, 64);
+}
+
+// Up to seven inputs, by the one that is written out for their number.
 fn at_once(fixed: &[i16; 2048], n: u32, table: &[u8], out: &mut [i16])
-    requires { ⌜ (n ≤ 6) × Ready n (now table) (now out) × Spectra (now fixed) ⌝ }
+    requires { ⌜ (n ≤ 7) × Ready n (now table) (now out) × Spectra (now fixed) ⌝ }
     ensures { λ _. ⌜ now (out .exit) ≡ functions.spectrum n (at (now (table .entry))) ⌝ }
 {
-    if n == 6 {
+    if n == 7 {
+        one_twenty_eight(fixed, table, out);
+    } else if n == 6 {
         sixty_four(fixed, table, out);
     } else if n == 5 {
         thirty_two(fixed, table, out);
@@ -123,13 +135,13 @@ fn at_once(fixed: &[i16; 2048], n: u32, table: &[u8], out: &mut [i16])
     }
 }
 
-// The spectrum of an accepted table. Above width 6 the table and the array are cut in halves, and the transform calls itself on each; the
+// The spectrum of an accepted table. Above width 7 the table and the array are cut in halves, and the transform calls itself on each; the
 // width falls by one at each cut.
 pub fn descend(fixed: &[i16; 2048], n: u32, table: &[u8], out: &mut [i16])
     requires { ⌜ Ready n (now table) (now out) × Spectra (now fixed) ⌝ }
     ensures { λ _. ⌜ now (out .exit) ≡ functions.spectrum n (at (now (table .entry))) ⌝ }
 {
-    if n <= 6 {
+    if n <= 7 {
         at_once(fixed, n, table, out);
     } else {
         let h = table.len() / 2;

@@ -1,4 +1,4 @@
--- The proof of the cycle of calls {narrow::descend}. The measure is the width. Above width 6 a table is cut: what the calls on the halves
+-- The proof of the cycle of calls {narrow::descend}. The measure is the width. Above width 7 a table is cut: what the calls on the halves
 -- and the butterfly do to the lists is in `SpectrumHalves`. Assumes nothing.
 use mathlib.Core.Path.{_≡_, sym, _∙_}
 use Prim.Native.Nat.{ℕ, suc, _-_, _/_, _^_, _<_}
