@@ -8,6 +8,7 @@ use lib.ListN.{length, List·getD-eq-default}
 use lib.IntN.{ℤ, pos, _+ℤ_, _-ℤ_, natAbs}
 use Rattle.boolean.specs.Sums.{listBelow}
 use Rattle.boolean.specs.Functions.{valueAt}
+use Rattle.boolean.proofs.Lists.{getD-listBelow}
 use Rattle.boolean.proofs.Halves.{after-upper, length-after-upper, at-lower, at-upper, halves-are}
 use Rattle.walsh.specs.Work.{Halves, Crossed}
 
@@ -45,3 +46,12 @@ module _ (h : ℕ) (out : List ℤ) (long : length out ≡ h + h) (g₁ : ℕ �
       halves-are (pos 0) h G new (kept ∙ long-lent)
       (λ k lt. crossed .sums k lt ∙ ap₂ (λ (x y : ℤ). x +ℤ y) (lower-value k lt) (upper-value k lt) ∙ sym (low k lt))
       (λ k lt. crossed .differences k lt ∙ ap₂ (λ (x y : ℤ). x -ℤ y) (lower-value k lt) (upper-value k lt) ∙ sym (high k lt))
+
+  -- and they are those of the halves crossed
+  pub crosses : (G : ℕ → ℤ) → ((k : ℕ) → k < h → G k ≡ g₁ k +ℤ g₂ k) → ((k : ℕ) → k < h → G (h + k) ≡ g₁ k -ℤ g₂ k) → Crossed h lent (listBelow (h + h) G)
+  crosses G low high = record {
+    sums = λ k lt. getD-listBelow (h + h) G k (pos 0) (omega arith) ∙ low k lt
+        ∙ sym (ap₂ (λ (x y : ℤ). x +ℤ y) (lower-value k lt) (upper-value k lt));
+    differences = λ k lt. getD-listBelow (h + h) G (h + k) (pos 0) (omega arith) ∙ high k lt
+        ∙ sym (ap₂ (λ (x y : ℤ). x -ℤ y) (lower-value k lt) (upper-value k lt));
+  }

@@ -1,4 +1,5 @@
--- The spectrum above width 3, cut in two: what each call on a half asks, and what the butterfly then has made. Assumes nothing.
+-- The spectrum above width 3, cut in two: what each call on a half asks, what the butterfly then has made, and the largest magnitude
+-- without it. Assumes nothing.
 use mathlib.Core.Path.{_≡_, sym, ap, ap₂, _∙_, subst}
 use mathlib.Core.List.{List, _++_}
 use Prim.Native.Nat.{ℕ, suc, _+_, _-_, _/_, _^_, _≤_, _<_}
@@ -11,11 +12,13 @@ use lib.IntN.{ℤ, _+ℤ_, _-ℤ_, natAbs}
 use borrow.Rule.Slice.PartMut.{putMid}
 use Rattle.boolean.specs.Sums.{listBelow}
 use Rattle.boolean.specs.Functions.{at, approximation, spectrum}
-use Rattle.boolean.proofs.Lists.{upper-part}
+use Rattle.boolean.proofs.Lists.{upper-part, length-listBelow}
 use Rattle.boolean.proofs.Approximations.{approximation-cong, approximation-le, approximation-low, approximation-high}
 use Rattle.boolean.proofs.Halves as halves
-use Rattle.walsh.specs.Work.{Ready, Halves, Crossed}
-use Rattle.walsh.proofs.Crossing.{to-cross, crossed-is}
+use Rattle.walsh.specs.Work.{Ready, Halves, Crossed, largestSum}
+use Rattle.walsh.specs.Magnitudes.{largestMagnitude}
+use Rattle.walsh.proofs.Crossing.{to-cross, crossed-is, crosses}
+use Rattle.walsh.proofs.Magnitudes.{crossed-largest}
 
 -- a table of width n and its array, each to be cut in two halves of width m, at h
 pub record Cut (n m h : ℕ) (table : List ℕ) (out : List ℤ) : Type 0 where
@@ -111,11 +114,31 @@ module _ {n m h : ℕ} {table : List ℕ} {out : List ℤ} (c : Cut n m h table 
       upper-is : (w : ℕ) → approximation m (λ x. at table (2 ^ m + x)) w ≡ upper w
       upper-is w = approximation-cong m _ _ w (λ x lt. halves.upper-entry 0 h table x (2 ^ m) half)
 
-      pub right : (new : List ℤ) → length new ≡ length after-upper → Crossed h after-upper new → new ≡ spectrum n (at table)
+      abbrev whole : ℕ → ℤ
+      whole w = approximation (suc m) (at table) w
+
+      sums-are : (k : ℕ) → k < h → whole k ≡ lower k +ℤ upper k
+      sums-are k lt =
+          approximation-low m (c .low) (at table) k (λ x l. c .ready .read .bits x) (omega (arith, half))
+          ∙ ap₂ (λ (a b : ℤ). a +ℤ b) (lower-is k) (upper-is k)
+
+      differences-are : (k : ℕ) → k < h → whole (h + k) ≡ lower k -ℤ upper k
+      differences-are k lt =
+          ap (λ (j : ℕ). whole (j + k)) half
+          ∙ approximation-high m (c .low) (at table) k (λ x l. c .ready .read .bits x) (omega (arith, half))
+          ∙ ap₂ (λ (a b : ℤ). a -ℤ b) (lower-is k) (upper-is k)
+
+      as-spectrum : listBelow (h + h) whole ≡ spectrum n (at table)
       unfolding spectrum
+      as-spectrum = ap₂ (λ (j k : ℕ). listBelow j (λ w. approximation k (at table) w)) (sym size ∙ c .ready .read .size) (sym (c .one-less))
+
+      pub right : (new : List ℤ) → length new ≡ length after-upper → Crossed h after-upper new → new ≡ spectrum n (at table)
       right new kept crossed =
-          crossed-is h out room lower l₁ as-lower upper l₂ as-upper new kept crossed (λ w. approximation (suc m) (at table) w)
-          (λ k lt. approximation-low m (c .low) (at table) k (λ x l. c .ready .read .bits x) (omega (arith, half)) ∙ ap₂ (λ (a b : ℤ). a +ℤ b) (lower-is k) (upper-is k))
-          (λ k lt. ap (λ (j : ℕ). approximation (suc m) (at table) (j + k)) half
-          ∙ approximation-high m (c .low) (at table) k (λ x l. c .ready .read .bits x) (omega (arith, half)) ∙ ap₂ (λ (a b : ℤ). a -ℤ b) (lower-is k) (upper-is k))
-          ∙ ap₂ (λ (j k : ℕ). listBelow j (λ w. approximation k (at table) w)) (sym size ∙ c .ready .read .size) (sym (c .one-less))
+          crossed-is h out room lower l₁ as-lower upper l₂ as-upper new kept crossed whole sums-are differences-are ∙ as-spectrum
+
+      -- the largest magnitude needs no butterfly
+      pub peak-is : largestSum h after-upper ≡ largestMagnitude (spectrum n (at table))
+      peak-is =
+          sym (crossed-largest h after-upper (listBelow (h + h) whole) (length-listBelow (h + h) whole)
+          (crosses h out room lower l₁ as-lower upper l₂ as-upper whole sums-are differences-are))
+          ∙ ap largestMagnitude as-spectrum

@@ -5,6 +5,7 @@ use mathlib.Core.List.{List}
 use lib.ListN.{length, set}
 use lib.IntN.{ℤ, _+ℤ_, _-ℤ_, natAbs}
 use Rattle.boolean.specs.Functions.{at, valueAt}
+use Rattle.boolean.specs.Sums.{largestBelow}
 use Rattle.refusals.specs.Table.{Table}
 
 -- four truth values from one place on, each in a byte of its own
@@ -31,6 +32,10 @@ pub record Halves (limit h : ℕ) (values : List ℤ) : Type 0 where
 pub record Crossed (h : ℕ) (old new : List ℤ) : Type 0 where
   pub sums : (k : ℕ) → k < h → valueAt new k ≡ valueAt old k +ℤ valueAt old (h + k)
   pub differences : (k : ℕ) → k < h → valueAt new (h + k) ≡ valueAt old k -ℤ valueAt old (h + k)
+
+-- the largest sum of the magnitudes of two numbers at the same place of the two halves
+abbrev pub largestSum : (h : ℕ) (values : List ℤ) → ℕ
+largestSum h values = largestBelow h (λ k. natAbs (valueAt values k) + natAbs (valueAt values (h + k)))
 
 -- 2^n numbers, up to 2^8 of them, all within a bound so small that the transform's sums over all of them fit
 pub record Summable (n : ℕ) (values : List ℤ) : Type 0 where

@@ -146,8 +146,7 @@ pub fn peak(fixed: &[i16; 2048], n: u32, table: &[u8], work: &mut [i16]) -> u32
     requires { ⌜ Ready n (now table) (now work) × Spectra (now fixed) ⌝ }
     ensures { λ r. ⌜ r ≡ largestMagnitude (functions.spectrum n (at (now (table .entry)))) ⌝ }
 {
-    narrow::descend(fixed, n, table, work);
-    narrow::largest_magnitude(work) as u32
+    narrow::peak(fixed, n, table, work) as u32
 }
 
 // The fixed table, for callers that take many spectra.

@@ -1,5 +1,5 @@
-// The spectrum in 16-bit values, which hold every one of them: the sweeps fill one for each component, and the machine adds eight such
-// values at once.
+// The largest magnitude of a spectrum, in 16-bit values, which hold every one of them: the sweeps take it of each component, and the machine
+// adds eight such values at once.
 use crate::number;
 use crate::value;
 ghost use mathlib.Core.Path.{_≡_};
@@ -10,7 +10,7 @@ ghost use Rattle.boolean.specs.Functions.{at};
 ghost use Rattle.boolean.specs.Functions as functions;
 ghost use Rattle.walsh.specs.FixedTable.{Spectra};
 ghost use Rattle.walsh.specs.Magnitudes.{largestMagnitude};
-ghost use Rattle.walsh.specs.Work.{withFour, Ready, Halves, Crossed};
+ghost use Rattle.walsh.specs.Work.{withFour, Ready, Halves, Crossed, largestSum};
 
 // Eight entries of the fixed table go to an array of eight. All are read before any is written, so that the machine can move them at
 // once.
@@ -115,16 +115,12 @@ fn one_twenty_eight(fixed: &[i16; 2048], table: &[u8], out: &mut [i16])
     butterfly(out, 64);
 }
 
-// Up to seven inputs, by the one that is written out for their number.
+// Up to five inputs, by the one that is written out for their number.
 fn at_once(fixed: &[i16; 2048], n: u32, table: &[u8], out: &mut [i16])
-    requires { ⌜ (n ≤ 7) × Ready n (now table) (now out) × Spectra (now fixed) ⌝ }
+    requires { ⌜ (n ≤ 5) × Ready n (now table) (now out) × Spectra (now fixed) ⌝ }
     ensures { λ _. ⌜ now (out .exit) ≡ functions.spectrum n (at (now (table .entry))) ⌝ }
 {
-    if n == 7 {
-        one_twenty_eight(fixed, table, out);
-    } else if n == 6 {
-        sixty_four(fixed, table, out);
-    } else if n == 5 {
+    if n == 5 {
         thirty_two(fixed, table, out);
     } else if n == 4 {
         sixteen(fixed, table, out);
@@ -132,22 +128,6 @@ fn at_once(fixed: &[i16; 2048], n: u32, table: &[u8], out: &mut [i16])
         eight(fixed, table, out);
     } else {
         by_definition(n, table, out);
-    }
-}
-
-// The spectrum of an accepted table. Above width 7 the table and the array are cut in halves, and the transform calls itself on each; the
-// width falls by one at each cut.
-pub fn descend(fixed: &[i16; 2048], n: u32, table: &[u8], out: &mut [i16])
-    requires { ⌜ Ready n (now table) (now out) × Spectra (now fixed) ⌝ }
-    ensures { λ _. ⌜ now (out .exit) ≡ functions.spectrum n (at (now (table .entry))) ⌝ }
-{
-    if n <= 7 {
-        at_once(fixed, n, table, out);
-    } else {
-        let h = table.len() / 2;
-        descend(fixed, n - 1, &table[..h], &mut out[..h]);
-        descend(fixed, n - 1, &table[h..], &mut out[h..]);
-        butterfly(out, h);
     }
 }
 
@@ -159,7 +139,7 @@ fn magnitude(v: i16) -> u16
 }
 
 // The largest magnitude of some values, and 0 of none.
-pub fn largest_magnitude(values: &[i16]) -> u16
+fn largest_magnitude(values: &[i16]) -> u16
     ensures { λ r. ⌜ r ≡ largestMagnitude (now (values .entry)) ⌝ }
 {
     let mut largest: u16 = 0;
@@ -172,4 +152,70 @@ pub fn largest_magnitude(values: &[i16]) -> u16
         w += 1;
     }
     largest
+}
+
+// The largest sum of the magnitudes of two numbers at the same place of the two halves.
+fn largest_sum(values: &[i16], h: usize) -> u16
+    requires { ⌜ Halves (2 ^ 13) h (now values) ⌝ }
+    ensures { λ r. ⌜ r ≡ largestSum h (now (values .entry)) ⌝ }
+{
+    let mut largest: u16 = 0;
+    let mut k = 0;
+    while k < h {
+        let size = magnitude(values[k]) + magnitude(values[h + k]);
+        if largest < size {
+            largest = size;
+        }
+        k += 1;
+    }
+    largest
+}
+
+// Six inputs: the spectra of the two halves, A and B, and the largest |A| + |B|. It is the largest magnitude of the whole spectrum, which
+// is A + B and A − B, and is not made.
+fn peak_of_sixty_four(fixed: &[i16; 2048], table: &[u8], work: &mut [i16]) -> u16
+    requires { ⌜ Ready 6 (now table) (now work) × Spectra (now fixed) ⌝ }
+    ensures { λ r. ⌜ r ≡ largestMagnitude (functions.spectrum 6 (at (now (table .entry)))) ⌝ }
+{
+    thirty_two(fixed, &table[..32], &mut work[..32]);
+    thirty_two(fixed, &table[32..], &mut work[32..]);
+    largest_sum(work, 32)
+}
+
+// Seven inputs.
+fn peak_of_one_twenty_eight(fixed: &[i16; 2048], table: &[u8], work: &mut [i16]) -> u16
+    requires { ⌜ Ready 7 (now table) (now work) × Spectra (now fixed) ⌝ }
+    ensures { λ r. ⌜ r ≡ largestMagnitude (functions.spectrum 7 (at (now (table .entry)))) ⌝ }
+{
+    sixty_four(fixed, &table[..64], &mut work[..64]);
+    sixty_four(fixed, &table[64..], &mut work[64..]);
+    largest_sum(work, 64)
+}
+
+// Eight inputs.
+fn peak_of_two_fifty_six(fixed: &[i16; 2048], table: &[u8], work: &mut [i16]) -> u16
+    requires { ⌜ Ready 8 (now table) (now work) × Spectra (now fixed) ⌝ }
+    ensures { λ r. ⌜ r ≡ largestMagnitude (functions.spectrum 8 (at (now (table .entry)))) ⌝ }
+{
+    one_twenty_eight(fixed, &table[..128], &mut work[..128]);
+    one_twenty_eight(fixed, &table[128..], &mut work[128..]);
+    largest_sum(work, 128)
+}
+
+// The largest magnitude in the spectrum of an accepted table. Up to five inputs the whole spectrum is made: at so few values the sums of
+// magnitudes save nothing.
+pub fn peak(fixed: &[i16; 2048], n: u32, table: &[u8], work: &mut [i16]) -> u16
+    requires { ⌜ Ready n (now table) (now work) × Spectra (now fixed) ⌝ }
+    ensures { λ r. ⌜ r ≡ largestMagnitude (functions.spectrum n (at (now (table .entry)))) ⌝ }
+{
+    if n == 8 {
+        peak_of_two_fifty_six(fixed, table, work)
+    } else if n == 7 {
+        peak_of_one_twenty_eight(fixed, table, work)
+    } else if n == 6 {
+        peak_of_sixty_four(fixed, table, work)
+    } else {
+        at_once(fixed, n, table, work);
+        largest_magnitude(work)
+    }
 }
