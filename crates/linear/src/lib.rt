@@ -82,6 +82,26 @@ pub fn next_peak(
     walsh::peak(fixed, n, table, work)
 }
 
+// The largest magnitude in the spectrum of component c, for callers that need few of the spectra themselves: the array to work in has 16-bit
+// values. The other array is left with the component's truth table.
+pub fn component_peak(
+    fixed: &[i16; 2048],
+    n: u32,
+    m: u32,
+    rows: &[u32],
+    c: u32,
+    bits: &mut [u8],
+    work: &mut [i16],
+) -> u32
+    requires { ⌜ PairsSwept n m (now rows) (now bits) (now work) × Spectra (now fixed) ⌝ }
+    ensures { λ r. ⌜ (r ≡ largestMagnitude (spectrum n (component (now (rows .entry)) c)))
+        × (now (bits .exit) ≡ listBelow (2 ^ n) (λ x. component (now (rows .entry)) c x))
+        × AnyContent (now (work .entry)) (now (work .exit)) ⌝ }
+{
+    masks::write_component(rows, c, bits);
+    walsh::peak(fixed, n, bits, work)
+}
+
 // The checks of the component's spectrum.
 fn check_component(n: u32, m: u32, rows: &[u32], c: u32, room: usize) -> Checked
     ensures { λ r. ⌜ r ≡ first (componentChecks n m (now (rows .entry)) c room) ⌝ }
@@ -160,7 +180,7 @@ pub fn with_spectrum(found: Found, n: u32, m: u32, rows: &[u32], c: u32, values:
 
 // The best pair so far, or the first nearest pair of component c, whose truth table and largest magnitude are given: its spectrum is made
 // only where the pair is taken.
-fn with_peak(
+pub fn with_peak(
     fixed: &[i16; 2048],
     found: Found,
     n: u32,
@@ -174,8 +194,9 @@ fn with_peak(
     requires { ⌜ PairsSwept n m (now rows) (now table) (now values) × Spectra (now fixed)
         × (largest ≡ largestMagnitude (spectrum n (component (now rows) c)))
         × (now table ≡ listBelow (2 ^ n) (λ x. component (now rows) c x)) ⌝ }
-    ensures { λ r. ⌜ pairCandidate r
-        ≡ best (ranked lower outputs) (pairCandidate found) (firstLeast (pairsOf n (now (rows .entry)) c) ∷ []) ⌝ }
+    ensures { λ r. ⌜ (pairCandidate r
+        ≡ best (ranked lower outputs) (pairCandidate found) (firstLeast (pairsOf n (now (rows .entry)) c) ∷ []))
+        × AnyContent (now (values .entry)) (now (values .exit)) ⌝ }
 {
     let near = rows.len() as u32 / 2 - largest;
     if masks::is_preferred(near, found.count, c, found.c) {

@@ -6,7 +6,8 @@ use refusals::Written;
 ghost use mathlib.Core.Path.{_≡_};
 ghost use mathlib.Core.List.{[], _∷_};
 ghost use mathlib.Core.Bool.{true};
-ghost use Prim.Native.Nat.{_≤_, _<_};
+ghost use Prim.Native.Nat.{_^_, _≤_, _<_};
+ghost use lib.ListN.{length};
 ghost use Rattle.boolean.specs.Sums.{AnyContent};
 ghost use Rattle.boolean.specs.Selection.{best, lower, firstLeast, ranked};
 ghost use Rattle.refusals.specs.Table.{Box, first, saidWritten};
@@ -125,7 +126,8 @@ fn fresh(n: u32, m: u32, rows: &[u32]) -> Place
     }
 }
 
-// The best pair so far, or the first nearest pair of component c, in arrays that are lent.
+// The best pair so far, or the first nearest pair of component c, in arrays that are lent. Its largest magnitude says whether its pair is
+// taken: only then is its spectrum made.
 fn with_arrays(
     found: Found,
     fixed: &[i16; 2048],
@@ -134,18 +136,20 @@ fn with_arrays(
     rows: &[u32],
     c: u32,
     table: &mut [u8],
+    work: &mut [i16],
     values: &mut [i32],
 ) -> Found
-    requires { ⌜ PairsSwept n m (now rows) (now table) (now values) × Spectra (now fixed) ⌝ }
+    requires { ⌜ PairsSwept n m (now rows) (now table) (now work) × Spectra (now fixed) × (length (now values) ≡ 2 ^ n) ⌝ }
     ensures pair { λ r. ⌜
         pairCandidate r ≡ best (ranked lower outputs) (pairCandidate found) (firstLeast (pairsOf n (now (rows .entry)) c) ∷ [])
         ⌝ }
-    ensures work { λ r. ⌜
-        AnyContent (now (table .entry)) (now (table .exit)) × AnyContent (now (values .entry)) (now (values .exit))
+    ensures arrays { λ r. ⌜
+        AnyContent (now (table .entry)) (now (table .exit)) × AnyContent (now (work .entry)) (now (work .exit))
+        × AnyContent (now (values .entry)) (now (values .exit))
         ⌝ }
 {
-    linear::component_spectrum(fixed, n, m, rows, c, table, values);
-    linear::with_spectrum(found, n, m, rows, c, values)
+    let largest = linear::component_peak(fixed, n, m, rows, c, table, work);
+    linear::with_peak(fixed, found, n, m, rows, c, largest, table, values)
 }
 
 // The better of the best pair so far and the first nearest pair of component c. What is no box is left alone: a server that was not made
@@ -158,6 +162,7 @@ fn with_component(fixed: &[i16; 2048], found: Found, n: u32, m: u32, rows: &[u32
         return found;
     }
     let mut table = [0u8; 256];
+    let mut work = [0i16; 256];
     let mut values = [0i32; 256];
     let size = rows.len();
     with_arrays(
@@ -168,6 +173,7 @@ fn with_component(fixed: &[i16; 2048], found: Found, n: u32, m: u32, rows: &[u32
         rows,
         c,
         &mut table[..size],
+        &mut work[..size],
         &mut values[..size],
     )
 }

@@ -100,8 +100,8 @@ loop-again c =
     let in-loop = done .before .before .before .before in
     let inv = in-loop .before .loop .inv in (
       sweep-next (inv .0) (in-loop .loop-test .taken) (c .next-mask .ensures .0) (c .next-mask .ensures .1)
-          (done .next-peak .ensures .1) (done .next-peak .kept .1 .1 .1 .1 .1 .1 .1 .1 .0 ∙ inv .0 .values-size) (swept .with-peak .ensures),
-      swept .with-peak .kept .1 .1 .1 .1 .1 .1 .1 .1 .0 ∙ inv .1,
+          (done .next-peak .ensures .1) (done .next-peak .kept .1 .1 .1 .1 .1 .1 .1 .1 .0 ∙ inv .0 .values-size) (swept .with-peak .ensures .0),
+      swept .with-peak .ensures .1 ∙ inv .1,
     )
 
 same-length-2 : tie.Need-same-length-2 Inv-loop μ-loop

@@ -47,9 +47,11 @@ with-spectrum-requires c κs =
 returns-2 : tie.Need-returns-2
 returns-2 c =
     let s = c .before .before .before .before in
-    let a = s .args in
-    kept (a .n) (a .rows .now) (a .c) refl (s .pre .0 .box .n-low) (top s)
-    (ap (λ (k : ℕ). k / 2 - a .largest) (s .pre .0 .box .size)) (pairCandidate (a .found)) (sym (c .before .is-preferred .ensures) ∙ c .if1 .left)
+    let a = s .args in (
+      kept (a .n) (a .rows .now) (a .c) refl (s .pre .0 .box .n-low) (top s)
+          (ap (λ (k : ℕ). k / 2 - a .largest) (s .pre .0 .box .size)) (pairCandidate (a .found)) (sym (c .before .is-preferred .ensures) ∙ c .if1 .left),
+      refl,
+    )
 
 pub with-peak-spec : {M : Type 1} → statement M
 with-peak-spec =
