@@ -1,9 +1,10 @@
-/* Satmegwo's evaluation server: up to eight boxes under analysis for their nonlinearity,
- * one combination a step. The words "box", "combination" and "first" are those of
- * satmegwo.h, and so are the numbers of the refusals.
+/* Satmegwo: an evaluation server, which analyses up to eight S-boxes for their
+ * nonlinearity, one combination (component function) a step. The words "box",
+ * "combination" and "first" are those of satmegwo.h, and so are the numbers of the
+ * refusals (error codes).
  *
- * A server is a value: it goes into a call and comes out of it, and the library keeps
- * nothing of it. It begins empty. Its places are 1 to 8.
+ * A server is a value: it is passed to a call, the call gives it back, and the library
+ * keeps nothing of it. At first it is empty. Its places are 1 to 8.
  *
  * A STEP examines one combination, not examined before, of the next unfinished box after
  * the place last served, in a circle, from place 1 at the start; with none unfinished it
@@ -11,19 +12,19 @@
  * being put there, whatever is called for other places, and then has the figure and the
  * witness that satmegwo_nonlinearity gives with the limit m.
  *
- * A server that anything but these calls has made or changed may hold any bytes. No call
- * reads or writes outside of it and of the array that the call is lent, a refused call
- * hands it back as it was, and it is soon done: what has other widths than a box that may
- * be put here is never unfinished, so that no box is unfinished after 8 x 65,535 steps.
- * But its figures need be those of no box.
+ * A server that other code has made or changed may hold any bytes. No call reads or
+ * writes outside of it and of the array that the call is lent, and a refused call gives
+ * it back as it was. It still terminates: a place with invalid widths counts as finished,
+ * so after 8 x 65,535 steps nothing is unfinished. But its figures may be those of no
+ * box.
  *
- * Refusals: 18 the place is not 1 to 8; then 19 it is taken (on putting) or empty (on
- * asking and withdrawing); then those of a box, where 2 means that m is not 1 to 16. A
- * refused call hands the server back as it was, every field of it, and writes to no
- * array.
+ * Refusals: 18, the place is not 1 to 8; then 19, the place is taken (on putting) or
+ * empty (on asking and withdrawing); then those of a box, where 2 means that m is not 1
+ * to 16. A refused call gives the server back as it was, every field of it, and writes to
+ * no array.
  *
  * This is libsatmegwo_server.a, which can be linked beside libsatmegwo.a; libsatmegwo.so
- * has these calls too. What satmegwo.h says of threads and arrays holds here.
+ * has these calls too. What satmegwo.h says about threads and arrays holds here.
  */
 #ifndef SATMEGWO_SERVER_H
 #define SATMEGWO_SERVER_H
@@ -34,19 +35,19 @@ extern "C" {
 #endif
 
 /* STACK. Measured as for satmegwo.h (examples/stack.c): a call needs at most this many
- * bytes, among them the servers that the caller hands in and gets back by value. */
+ * bytes of stack, including the servers that it is passed and returns by value. */
 #define SATMEGWO_SERVER_STACK 60000u
 
-/* Places are numbered from 1 to this; a box on one has at most so many outputs. */
+/* The number of places, which are numbered from 1; the most outputs of a box on them. */
 #define SATMEGWO_SERVER_PLACES 8u
 #define SATMEGWO_SERVER_MOST_OUTPUTS 16u
 
-/* A place: a box where `taken` is 1, and else none. Of the box it holds the widths and
- * rows, how many combinations were examined (1, 2, 3 and so on, as many as this says),
- * and the least count among exactly those with its first witness c, w, b. Before the
- * first one was examined `count` is 2^n + 1, which no pair has, and c, w and b are 0. The
- * array has zeros past the 2^n rows. A place with no box holds zeros in every field:
- * nothing is left there of a box that was withdrawn. */
+/* A place: it has an S-box if `taken` is 1, and otherwise none. It holds the widths and
+ * rows of the box; in `examined` how many of its combinations were examined (1, 2, 3 and
+ * so on, up to this number); and in `count` the least count among exactly those, with its
+ * first witness c, w, b. Before the first combination is examined, `count` is 2^n + 1,
+ * which no pair has, and c, w and b are 0. The elements after the 2^n rows are 0. A place
+ * with no box holds zeros in every field: nothing is left of a box that was withdrawn. */
 typedef struct satmegwo_server_place {
     uint32_t taken;
     uint32_t n;
@@ -59,8 +60,8 @@ typedef struct satmegwo_server_place {
     uint32_t b;
 } satmegwo_server_place;
 
-/* Place p is places[p - 1]; `last` is the place last served, and 0 at the start. The
- * fields may be read. */
+/* A server. Place p is places[p - 1]; `last` is the place last served, and 0 at the
+ * start. A caller may read the fields. */
 typedef struct satmegwo_server {
     satmegwo_server_place places[SATMEGWO_SERVER_PLACES];
     uint32_t last;
@@ -76,11 +77,11 @@ SATMEGWO_ASSERT(sizeof(satmegwo_server_place) == 1056, "a place has another size
 SATMEGWO_ASSERT(sizeof(satmegwo_server) == 8452, "a server has another size");
 SATMEGWO_ASSERT(sizeof(satmegwo_server_outcome) == 8456, "an outcome has another size");
 
-/* An empty server. */
+/* Begins an empty server. */
 SATMEGWO_MUST_USE
 satmegwo_server satmegwo_server_begin(void);
 
-/* Puts a box on a place. Putting examines no combination.
+/* Puts an S-box on a place. This examines no combination.
  *   rows  read, 2^n elements below 2^m
  * Refusals: 18, 19, 1, 2, 3, 4. */
 SATMEGWO_MUST_USE
@@ -93,18 +94,21 @@ satmegwo_server_outcome satmegwo_server_put(
 SATMEGWO_MUST_USE
 satmegwo_server_outcome satmegwo_server_withdraw(satmegwo_server server, uint32_t place);
 
-/* One step. With no box unfinished the server comes back as it was, every field of it. */
+/* Makes one step. If no box is unfinished, the server comes back as it was, every field
+ * of it. */
 SATMEGWO_MUST_USE
 satmegwo_server satmegwo_server_step(satmegwo_server server);
 
-/* So many steps, one after the other. It returns early where no box is unfinished, after
- * 8 x 65,535 steps at the latest, so that a budget of 4294967295 means "to the end". */
+/* Makes `budget` steps, one after the other. It returns early if no box is unfinished,
+ * after 8 x 65,535 steps at the latest, so that a budget of 4294967295 means "to the
+ * end". */
 SATMEGWO_MUST_USE
 satmegwo_server satmegwo_server_run(satmegwo_server server, uint32_t budget);
 
-/* What stands on a place. A finished box keeps its result until it is withdrawn.
- *   figures  written, 5 elements: 1, the nonlinearity over all combinations, c, w and b
- *            of its first witness; or five zeros until all combinations were examined
+/* Asks for the nonlinearity of the S-box on a place. A finished box keeps its result
+ * until it is withdrawn.
+ *   figures  written, 5 elements: 1, the nonlinearity over all combinations, and c, w and
+ *            b of its first witness; or five zeros until all combinations were examined
  * Returns 0 or the number of a refusal.
  * Refusals: 18, 19, 7. */
 SATMEGWO_MUST_USE
