@@ -1,4 +1,4 @@
-/* What several examples do: say that a call was refused, and read numbers and box files. */
+/* What several examples do: say why a call was refused, and read numbers and box files. */
 #ifndef COMMON_H
 #define COMMON_H
 #include <errno.h>
@@ -7,10 +7,11 @@
 #include <stdlib.h>
 #include "satmegwo.h"
 
-/* Says which call was refused, and by which number; for `return refused(..)` in main. */
+/* Says which call was refused, by which number, and what that number means; for
+ * `return refused(..)` in main. */
 static inline int refused(const char *what, uint32_t number)
 {
-    printf("%s: refused %u\n", what, (unsigned)number);
+    printf("%s: refused %u: %s\n", what, (unsigned)number, satmegwo_refusal_text(number));
     return 1;
 }
 
@@ -54,7 +55,7 @@ static inline uint32_t box_of(const struct file *file, struct box *box)
 {
     uint32_t widths[2] = {0, 0};
     uint32_t number;
-    /* Where the first byte is no width the call refuses it, whatever the length of the rows. */
+    /* If the first byte is not a width, the call refuses it, whatever the length of the rows. */
     box->size = file->length > 0 && file->bytes[0] <= SATMEGWO_MOST_INPUTS ? (size_t)1 << file->bytes[0] : 0;
     number = satmegwo_read_box(file->bytes, file->length, box->rows, box->size, widths, 2);
     box->n = widths[0];

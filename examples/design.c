@@ -16,12 +16,12 @@
 
 static satmegwo_design design;
 
-/* Takes over the design of an operation, and says its number where it was refused. */
+/* Takes over the design of an operation, and says why if it was refused. */
 static uint32_t take(const char *step, satmegwo_design_outcome outcome)
 {
     design = outcome.design;
     if (outcome.status != 0)
-        printf("%-16s refused %u\n", step, (unsigned)outcome.status);
+        printf("%-16s refused %u: %s\n", step, (unsigned)outcome.status, satmegwo_refusal_text(outcome.status));
     return outcome.status;
 }
 

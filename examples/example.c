@@ -1,5 +1,5 @@
-/* The nonlinearity of the box 3 1 4 0 2 5 6 7 within two limits, its largest XOR cell, its
- * degree, the nonlinearity of two boxes added together, and refusals.
+/* The nonlinearity of the S-box 3 1 4 0 2 5 6 7 within two limits, its differential uniformity
+ * (largest XOR cell), its degree, the nonlinearity of two boxes added together, and refusals.
  *
  * With the library built, from this directory:
  *
@@ -57,23 +57,22 @@ static int print_sum(const uint32_t *rows)
     return 0;
 }
 
-/* Five boxes are too many, and none is read: the array has one, and then there is no array. */
+/* Five boxes are too many, and none is read: the first array has one box, and the second is NULL. */
 static int print_too_many(const uint32_t *rows)
 {
     const satmegwo_box one[1] = {{3, 3, rows, 8}};
     uint32_t f[8];
-    if (satmegwo_sum_of_boxes(one, 5, 1, f, 8) != SATMEGWO_REFUSED_BOX_COUNT)
+    uint32_t number = satmegwo_sum_of_boxes(one, 5, 1, f, 8);
+    if (number != SATMEGWO_REFUSED_BOX_COUNT || satmegwo_sum_of_boxes(NULL, 5, 1, f, 8) != number)
         return 1;
-    if (satmegwo_sum_of_boxes(NULL, 5, 1, f, 8) != SATMEGWO_REFUSED_BOX_COUNT)
-        return 1;
-    printf("sum of five boxes: refused %u, the number of boxes is not 1 to 4\n", (unsigned)SATMEGWO_REFUSED_BOX_COUNT);
+    refused("sum of five boxes", number);
     return 0;
 }
 
 int main(void)
 {
     const uint32_t rows[8] = {3, 1, 4, 0, 2, 5, 6, 7};
-    uint32_t figures[4];
+    uint32_t figures[4], number;
 
     /* All three outputs together are affine; no two of them are. */
     if (print_nonlinearity(rows, 3) != 0 || print_nonlinearity(rows, 2) != 0)
@@ -82,8 +81,9 @@ int main(void)
         return 1;
 
     /* With two outputs the first row that is not below 4 stops the call. */
-    if (satmegwo_nonlinearity(3, 2, rows, 8, 2, figures, 4) != SATMEGWO_REFUSED_VALUE)
+    number = satmegwo_nonlinearity(3, 2, rows, 8, 2, figures, 4);
+    if (number != SATMEGWO_REFUSED_VALUE)
         return 1;
-    printf("with m = 2: refused %u, a row is not below 2^m\n", (unsigned)SATMEGWO_REFUSED_VALUE);
+    refused("with m = 2", number);
     return 0;
 }

@@ -1,5 +1,5 @@
-/* Every call but satmegwo_version, each with a reply that nobody looks at. It is not to be run:
- * `make compilers` looks that every compiler warns of each line. */
+/* Every call but satmegwo_version, each with a reply that is ignored. Do not run it:
+ * `make compilers` checks that every compiler warns of each line. */
 #include "satmegwo.h"
 #include "satmegwo_parts.h"
 #include "satmegwo_design.h"
@@ -8,6 +8,7 @@
 void ignored(satmegwo_design design, satmegwo_server server);
 void ignored(satmegwo_design design, satmegwo_server server)
 {
+    satmegwo_refusal_text(0);
     satmegwo_spectrum(0, NULL, 0, NULL, 0);
     satmegwo_inverse_spectrum(0, NULL, 0, NULL, 0);
     satmegwo_component_spectrum(0, 0, NULL, 0, 0, NULL, 0);

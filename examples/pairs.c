@@ -1,7 +1,7 @@
 /* What to repair in a box: reads a box file from standard input, and prints its nonlinearity
- * within a limit and all pairs of a combination and an affine function that reach it. The
- * first of them is the witness of the nonlinearity; a box gets better only where none of them
- * stays.
+ * within a limit and all pairs of a combination and an affine function that reach it (its
+ * best linear approximations). The first of them is the witness of the nonlinearity; to
+ * improve the box, every one of them must go.
  *
  *     pairs LIMIT
  *

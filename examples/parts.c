@@ -62,18 +62,20 @@ static uint32_t merge(uint32_t found[PARTS][5], uint32_t all[5])
     return 0;
 }
 
-/* Parts that are none: combinations from 0 on, past the last, and backwards; and arrays that are no
- * two parts of one figure. */
+/* What is not a part: combinations from 0 on, past the last, and backwards; and arrays that are
+ * not two parts of the same figure. */
 static void print_refusals(const struct box *box, uint32_t most)
 {
     const uint32_t ends[3][2] = {{0, 1}, {1, most + 1}, {2, 1}};
     const uint32_t one[5] = {1, 0, 1, 0, 0}, other[4] = {1, 0, 1, 0}, broken[5] = {2, 0, 1, 0, 0};
     uint32_t part[5];
-    for (size_t k = 0; k < 3; k++)
-        printf("%u to %u: refused %u\n", (unsigned)ends[k][0], (unsigned)ends[k][1],
-               (unsigned)satmegwo_nonlinearity_between(box->n, box->m, box->rows, box->size, 1, ends[k][0], ends[k][1], part, 5));
-    printf("parts of 5 and of 4 elements: refused %u\n", (unsigned)satmegwo_merge_least(one, 5, other, 4, part, 5));
-    printf("a part that begins with 2: refused %u\n", (unsigned)satmegwo_merge_least(one, 5, broken, 5, part, 5));
+    for (size_t k = 0; k < 3; k++) {
+        char name[40];
+        snprintf(name, sizeof name, "%u to %u", (unsigned)ends[k][0], (unsigned)ends[k][1]);
+        refused(name, satmegwo_nonlinearity_between(box->n, box->m, box->rows, box->size, 1, ends[k][0], ends[k][1], part, 5));
+    }
+    refused("parts of 5 and of 4 elements", satmegwo_merge_least(one, 5, other, 4, part, 5));
+    refused("a part that begins with 2", satmegwo_merge_least(one, 5, broken, 5, part, 5));
 }
 
 int main(int count, char **words)

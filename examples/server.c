@@ -16,6 +16,13 @@
 
 static satmegwo_server server;
 
+static void refused_at(uint32_t place, uint32_t number)
+{
+    char name[24];
+    snprintf(name, sizeof name, "place %u", (unsigned)place);
+    refused(name, number);
+}
+
 /* Puts the box of a file on a place. */
 static int put_file(uint32_t place, const char *name)
 {
@@ -34,10 +41,11 @@ static int put_file(uint32_t place, const char *name)
         server = outcome.server;
         number = outcome.status;
     }
+    printf("put %s on ", name);
     if (number != 0)
-        printf("put %s on place %u: refused %u\n", name, (unsigned)place, (unsigned)number);
+        refused_at(place, number);
     else
-        printf("put %s on place %u: %u by %u\n", name, (unsigned)place, (unsigned)box.n, (unsigned)box.m);
+        printf("place %u: %u by %u\n", (unsigned)place, (unsigned)box.n, (unsigned)box.m);
     return 0;
 }
 
@@ -45,13 +53,12 @@ static void ask(uint32_t place)
 {
     uint32_t f[5];
     uint32_t number = satmegwo_server_ask(server, place, f, 5);
-    printf("place %u: ", (unsigned)place);
     if (number != 0)
-        printf("refused %u\n", (unsigned)number);
+        refused_at(place, number);
     else if (f[0] == 0)
-        printf("unfinished\n");
+        printf("place %u: unfinished\n", (unsigned)place);
     else
-        printf("nonlinearity %u, c %u, w %u, b %u\n", (unsigned)f[1], (unsigned)f[2], (unsigned)f[3], (unsigned)f[4]);
+        printf("place %u: nonlinearity %u, c %u, w %u, b %u\n", (unsigned)place, (unsigned)f[1], (unsigned)f[2], (unsigned)f[3], (unsigned)f[4]);
 }
 
 static void run(uint32_t budget)

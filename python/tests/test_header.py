@@ -14,7 +14,8 @@ TEXT = re.sub(r"/\*.*?\*/", "", COMMENTED, flags=re.DOTALL)
 PROTOTYPE = re.compile(r"^(\w+) satmegwo_(\w+)\(([^;{)]*)\);", re.MULTILINE)
 STRUCT = re.compile(r"^typedef struct (\w+) \{(.*?)^\} \1;", re.MULTILINE | re.DOTALL)
 MACRO = re.compile(r"^#define SATMEGWO_(\w+) ([0-9]+)u?\b", re.MULTILINE)
-REFUSED = re.compile(r"/\*((?:(?!\*/).)*)\*/\s*SATMEGWO_REFUSED_\w+ = ([0-9]+)", re.DOTALL)
+TEXTS = re.compile(r"texts\[\] = \{(.*?)\};", re.DOTALL)
+LITERALS = re.compile(r'((?:"[^"]*"\s*)+)(?:,|$)')
 MACROS = {name: int(value) for name, value in MACRO.findall(TEXT)}
 
 
@@ -75,10 +76,8 @@ class Headers(unittest.TestCase):
             self.assertEqual(getattr(library, name), MACROS[name], name)
 
     def test_sentences(self):
-        sentences = {
-            int(number): " ".join(text.replace("*", " ").split()) for text, number in REFUSED.findall(COMMENTED)
-        }
-        self.assertEqual(sentences, refusals.SENTENCES)
+        texts = ["".join(re.findall(r'"([^"]*)"', text)) for text in LITERALS.findall(TEXTS.search(TEXT)[1])]
+        self.assertEqual(dict(enumerate(texts[1:], 1)), refusals.SENTENCES)
 
     def test_version(self):
         told = tuple(MACROS[f"VERSION_{part}"] for part in ("MAJOR", "MINOR", "PATCH"))

@@ -79,12 +79,12 @@ impl Refusal {
                 "m is not 1 to 32 (for a row of the XOR table and on a server not 1 to 16, for the raising swap not 1 to 8)"
             }
             Refusal::ReadLength => {
-                "an array that is read has not 2^n elements (in the bent form 2^(n/2); packed columns have their own length)"
+                "an array that is read does not have 2^n elements (in the bent form 2^(n/2); packed columns and parts have their own length)"
             }
             Refusal::Value => "a row is not below 2^m, or a truth value is above 1",
-            Refusal::Permutation => "the permutation of the bent form is none",
-            Refusal::Parameter => "c, w, a, b, k, i, j, or an input or mark of a design, is outside its range",
-            Refusal::WrittenLength => "an array that is written, other than a list, has not the result's length",
+            Refusal::Permutation => "the permutation of the bent form is not a permutation",
+            Refusal::Parameter => "c, w, a, b, k, i, j, an end of a part, or an input or mark of a design is outside its range",
+            Refusal::WrittenLength => "an output array (other than a list) is not exactly as long as the result",
             Refusal::NoFunction => "no function has this spectrum",
             Refusal::ListTooShort => "a list is shorter than the number of its cells or pairs",
             Refusal::FileLength => "a box file has a wrong length",

@@ -27,6 +27,7 @@ fn all() -> Result<Vec<File>, String> {
     let spectra = read(&Path::new(ROOT).join("crates/spectra/stdin"))?;
     let texts = [
         ("examples/example.stdout", printed::example()),
+        ("examples/refusals.stdout", printed::refusals()),
         ("examples/catalogue.stdout", printed::catalogue(2, &boxes)),
         ("examples/pairs.stdout", printed::pairs(4, "des-s4")),
         ("examples/parts.stdout", printed::parts(1, "des-s1")),

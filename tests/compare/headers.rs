@@ -3,7 +3,7 @@
 //! same layout.)
 use satmegwo::raw::{Design, DesignOutcome, DesignSnapshot, Server, ServerOutcome, ServerPlace, MARKS, MOST_ROWS, PLACES};
 use satmegwo::Refusal;
-use second_model::{catalogue, rounds};
+use second_model::{catalogue, printed, rounds};
 use std::collections::BTreeMap;
 use std::mem::{offset_of, size_of};
 
@@ -39,7 +39,19 @@ fn declarations(text: &str) -> String {
     let text = plain(text);
     let mut parts = text.split("static inline ");
     let first = parts.next().expect("there is one").to_string();
-    parts.fold(first, |kept, part| kept + part.split_once(" return number; }").expect("it returns a number").1)
+    parts.fold(first, |kept, part| kept + behind_block(part))
+}
+
+/// What stands behind the first block in braces.
+fn behind_block(text: &str) -> &str {
+    let mut depth = 0;
+    for (place, letter) in text.char_indices() {
+        depth += i32::from(letter == '{') - i32::from(letter == '}');
+        if letter == '}' && depth == 0 {
+            return &text[place + 1..];
+        }
+    }
+    panic!("no block ends in {text}")
 }
 
 fn rust_type(words: &[&str]) -> String {
@@ -163,16 +175,16 @@ fn structs_lie_as_the_headers_have_them() {
     assert_eq!((size_of::<ServerOutcome>(), offset_of!(ServerOutcome, server), offset_of!(ServerOutcome, status)), (8456, 0, 8452));
 }
 
-/// The numbers of the header's enum, each with its name and the comment before it.
+/// The numbers of the header's enum, each with its name and its sentence.
 fn refusals_of_header() -> Vec<(u32, String, String)> {
     let block = HEADER.split_once("enum satmegwo_refusal {").expect("it is there").1.split_once("};").expect("it ends").0;
-    let one = |part: &str| {
-        let (sentence, rest) = part.split_once("*/").expect("a comment ends");
-        let (name, number) = rest.trim().trim_end_matches(',').split_once(" = ").expect("it has a number");
-        let sentence = one_line(sentence).replace(" * ", " ");
-        (number.parse().expect("it is a number"), name.to_string(), sentence)
+    let texts = printed::refusal_texts();
+    let one = |entry: &str| {
+        let (name, number) = entry.trim().split_once(" = ").expect("it has a number");
+        let number: u32 = number.parse().expect("it is a number");
+        (number, name.to_string(), texts[number as usize].clone())
     };
-    block.split("/*").skip(1).map(one).collect()
+    block.split(',').map(one).collect()
 }
 
 /// `InputWidth` is `SATMEGWO_REFUSED_INPUT_WIDTH`.
@@ -192,6 +204,7 @@ fn refusals_have_the_numbers_names_and_sentences_of_the_header() {
     let wanted: Vec<(u32, String, String)> =
         Refusal::ALL.iter().map(|refusal| (refusal.number(), name_in_c(*refusal), refusal.sentence().to_string())).collect();
     assert_eq!(refusals_of_header(), wanted);
+    assert_eq!(printed::refusal_texts().len(), 1 + wanted.len());
 }
 
 /// The value of a macro that is a number.

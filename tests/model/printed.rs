@@ -18,6 +18,34 @@ fn line(word: &str, numbers: &[u32]) -> String {
     format!("{word}{numbers}\n")
 }
 
+/// The sentences of the header's `satmegwo_refusal_text`, that for 0 first: literals with no comma between
+/// them are one.
+pub fn refusal_texts() -> Vec<String> {
+    let header = include_str!("../../include/satmegwo.h");
+    let block = header.split_once("texts[] = {").and_then(|(_, behind)| behind.split_once("};")).expect("it is there").0;
+    let (mut texts, mut pieces) = (Vec::<String>::new(), block.split('"'));
+    while let (Some(outside), Some(text)) = (pieces.next(), pieces.next()) {
+        match texts.last_mut() {
+            Some(last) if !outside.contains(',') => last.push_str(text),
+            _ => texts.push(text.to_string()),
+        }
+    }
+    texts
+}
+
+/// A refusal as the programs print it.
+fn refused(number: u32) -> String {
+    format!("refused {number}: {}\n", refusal_texts()[number as usize])
+}
+
+/// examples/refusals.c.
+pub fn refusals() -> String {
+    let mut texts: Vec<(u32, String)> = (0..).zip(refusal_texts()).collect();
+    let behind = [20, u32::MAX].map(|number| (number, "no refusal has this number".to_string()));
+    texts.extend(behind);
+    texts.iter().map(|(number, text)| format!("{number} {text}\n")).collect()
+}
+
 /// The figures of a call that has no cause to refuse.
 fn told<T>(answer: Answer<T>) -> T {
     answer.unwrap_or_else(|number| panic!("refused {number}"))
@@ -56,8 +84,8 @@ pub fn example() -> String {
             "sum of two boxes {} with at most 1 output: combination {} against w = {} and {}, b = {}\n",
             sum[0], sum[1], sum[2], sum[3], sum[4]
         ),
-        format!("sum of five boxes: refused {too_many}, the number of boxes is not 1 to 4\n"),
-        format!("with m = 2: refused {refusal}, a row is not below 2^m\n"),
+        format!("sum of five boxes: {}", refused(too_many)),
+        format!("with m = 2: {}", refused(refusal)),
     ]
     .concat()
 }
@@ -121,16 +149,16 @@ pub fn parts(i: u32, name: &str) -> String {
     let each = ends.iter().zip(&found).map(|(ends, part)| said(format!("{} to {}", ends.0, ends.1), &told(part.clone())));
     let each: String = each.collect();
     let merged = told(between::gathered(Better::Less, [2, 0, 3, 1, 0].map(|k: usize| found[k].clone())));
-    let refused = [(0, 1), (1, most + 1), (2, 1)].map(|ends| {
+    let wrong_ends = [(0, 1), (1, most + 1), (2, 1)].map(|ends| {
         let number = between::nonlinearity(n, m, &rows, 1, ends, 5).expect_err("it is no part");
-        format!("{} to {}: refused {number}\n", ends.0, ends.1)
+        format!("{} to {}: {}", ends.0, ends.1, refused(number))
     });
     let both = |x: &[u32], y: &[u32]| between::merged_arrays(Better::Less, x, y, 5).expect_err("they are no two parts");
     let (lengths, flag) = (both(&[1, 0, 1, 0, 0], &[1, 0, 1, 0]), both(&[1, 0, 1, 0, 0], &[2, 0, 1, 0, 0]));
     each + &said("merged".to_string(), &merged)
         + "the plain call gives the same\n"
-        + &refused.concat()
-        + &format!("parts of 5 and of 4 elements: refused {lengths}\na part that begins with 2: refused {flag}\n")
+        + &wrong_ends.concat()
+        + &format!("parts of 5 and of 4 elements: {}a part that begins with 2: {}", refused(lengths), refused(flag))
 }
 
 /// A tuning run as it is printed.
@@ -140,11 +168,11 @@ struct Tuning {
 }
 
 impl Tuning {
-    /// Makes a step, and says its number where it is refused.
+    /// Makes a step, and says why where it is refused.
     fn take(&mut self, step: &str, operation: Operation) -> bool {
         let outcome = self.design.operate(operation);
         if let Err(number) = outcome {
-            self.text += &format!("{step:<16} refused {number}\n");
+            self.text += &format!("{step:<16} {}", refused(number));
         }
         outcome.is_ok()
     }
@@ -201,7 +229,7 @@ impl Evaluation {
         let Published { n, m, rows, .. } = box_named(name);
         self.text += &match self.server.put(place, n, m, &rows) {
             Ok(()) => format!("put {name}.box on place {place}: {n} by {m}\n"),
-            Err(number) => format!("put {name}.box on place {place}: refused {number}\n"),
+            Err(number) => format!("put {name}.box on place {place}: {}", refused(number)),
         };
     }
 
@@ -209,7 +237,7 @@ impl Evaluation {
         self.text += &match self.server.ask(place) {
             Ok(Some([d, c, w, b])) => format!("place {place}: nonlinearity {d}, c {c}, w {w}, b {b}\n"),
             Ok(None) => format!("place {place}: unfinished\n"),
-            Err(number) => format!("place {place}: refused {number}\n"),
+            Err(number) => format!("place {place}: {}", refused(number)),
         };
     }
 
@@ -341,6 +369,14 @@ fn function_line(n: u32, values: &[i32]) -> String {
 #[cfg(test)]
 mod tests {
     use super::*;
+
+    #[test]
+    fn the_header_has_a_text_for_each_number() {
+        let texts = refusal_texts();
+        assert_eq!((texts.len(), &texts[0][..]), (20, "accepted"));
+        assert_eq!(texts[4], "a row is not below 2^m, or a truth value is above 1");
+        assert!(texts[1].starts_with("n is not 1 to 8") && texts[1].ends_with("2, 4, 6 or 8)"));
+    }
 
     /// Document 01's cases 3 to 5, in the values of document 02, section 9.
     #[test]
