@@ -2,18 +2,18 @@
 use crate::refusal::{accepted, answer};
 use crate::{slices, Refusal, Sbox};
 
-/// A catalogue: up to 64 box files in one buffer of 258 to 65,535 bytes.
+/// A catalogue of S-boxes: up to 64 box files in one buffer of 258 to 65,535 bytes.
 ///
 /// ```
 /// use satmegwo::{Catalogue, Refusal, Sbox};
 ///
 /// let sbox = Sbox::new(3, 3, [3, 1, 4, 0, 2, 5, 6, 7])?;
 /// let mut catalogue = Catalogue::empty(258 + 2 * 34)?;
-/// assert_eq!(catalogue.add(&sbox.to_file())?, 0);
-/// assert_eq!(catalogue.add(&sbox.add_to_column(1, 5, 1)?.to_file())?, 1);
-/// assert_eq!(catalogue.add(&sbox.to_file()), Err(Refusal::NoRoom));
+/// assert_eq!(catalogue.add_box(&sbox)?, 0);
+/// assert_eq!(catalogue.add(&sbox.add_to_column(1, 5, 1)?.to_bytes())?, 1);
+/// assert_eq!(catalogue.add_box(&sbox), Err(Refusal::NoRoom));
 /// // A record lies in the buffer as the file was.
-/// assert_eq!(Sbox::from_file(catalogue.fetch(0)?)?, sbox);
+/// assert_eq!(Sbox::from_bytes(catalogue.fetch(0)?)?, sbox);
 /// catalogue.remove(0)?;
 /// assert_eq!(catalogue.fetch(1), Err(Refusal::NoRecord));
 /// assert_eq!(catalogue.records().count(), 1);
@@ -64,15 +64,15 @@ impl Catalogue {
 
     /// Adds a box. Refusals: 14.
     pub fn add_box(&mut self, sbox: &Sbox) -> Result<u32, Refusal> {
-        self.add(&sbox.to_file())
+        self.add(&sbox.to_bytes())
     }
 
-    /// Removes a record; those behind it have an index that is one lower then. Refusals: 15.
+    /// Removes a record; the index of each record after it becomes one lower. Refusals: 15.
     pub fn remove(&mut self, index: u32) -> Result<(), Refusal> {
         answer(slices::remove_record(&mut self.bytes, index))
     }
 
-    /// A record: a part of the buffer, and no copy. Refusals: 15.
+    /// A record: a part of the buffer, not a copy. Refusals: 15.
     pub fn fetch(&self, index: u32) -> Result<&[u8], Refusal> {
         let mut figures = [0; 2];
         answer(slices::fetch_record(&self.bytes, index, &mut figures))?;

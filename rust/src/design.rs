@@ -1,11 +1,11 @@
-//! A box that is tuned.
+//! An S-box that is tuned.
 use crate::raw::{self, DesignOutcome};
 use crate::refusal::{accepted, answer};
 use crate::slices::design as calls;
 use crate::{Refusal, Sbox};
 use std::fmt;
 
-/// A design: one box with marks 1 to 16 to go back to. A refused operation leaves it as it was.
+/// A design: one S-box with marks 1 to 16 to return to. A refused operation leaves it as it was.
 ///
 /// ```
 /// use satmegwo::{Design, Refusal, Sbox};
@@ -40,12 +40,12 @@ impl Design {
         answer(outcome.status)
     }
 
-    /// Exchanges the rows of two inputs. Refusals: 6.
+    /// Swaps the rows of two inputs. Refusals: 6.
     pub fn swap(&mut self, x: u32, y: u32) -> Result<(), Refusal> {
         self.take(calls::swap(*self.state, x, y))
     }
 
-    /// Adds the affine function w·x XOR b to column j. Refusals: 6.
+    /// Adds the affine function w·x XOR b to column j (a coordinate function). Refusals: 6.
     pub fn add_to_column(&mut self, j: u32, w: u32, b: u32) -> Result<(), Refusal> {
         self.take(calls::add(*self.state, j, w, b))
     }

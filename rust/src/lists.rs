@@ -1,9 +1,9 @@
-//! Lists that a call gives: each entry is one coded number, and is taken apart as it is reached.
+//! Lists that a call gives: each entry is one coded number, and is decoded when it is reached.
 use std::iter::FusedIterator;
 use std::marker::PhantomData;
 use std::vec;
 
-/// A cell of the XOR table.
+/// A cell of the XOR table (DDT): an input difference and an output difference.
 #[derive(Clone, Copy, Debug, PartialEq, Eq, Hash)]
 #[allow(missing_docs)] // document 01's letters
 pub struct Cell {
@@ -11,7 +11,7 @@ pub struct Cell {
     pub beta: u32,
 }
 
-/// A combination and an affine function w·x XOR b.
+/// A linear approximation: a combination (output mask `c`) and an affine function w·x XOR b (input mask `w`).
 #[derive(Clone, Copy, Debug, PartialEq, Eq, Hash)]
 #[allow(missing_docs)] // document 01's letters
 pub struct Pair {
@@ -41,11 +41,13 @@ pub struct List<T> {
     of: PhantomData<T>,
 }
 
-/// All cells that reach the largest count, by ascending a and then by ascending beta.
+/// All cells of the XOR table (DDT) that reach the differential uniformity, by ascending a and then by
+/// ascending beta.
 pub type Cells = List<Cell>;
 
-/// All pairs that differ at as few inputs as the nonlinearity says: the combinations of fewest outputs
-/// first and of those the smaller c, then by ascending w, then by ascending b.
+/// All best linear approximations, pairs that differ at as few inputs as the nonlinearity says: the
+/// combinations of fewest outputs first and of those the smaller c, then by ascending w, then by
+/// ascending b.
 pub type NearestPairs = List<Pair>;
 
 impl<T> List<T> {

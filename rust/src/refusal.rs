@@ -2,15 +2,16 @@
 use std::error::Error;
 use std::fmt;
 
-/// Why a call ended without its result: the first check that applies gives the number.
+/// The error code of a call that ended without its result: the first check that applies gives the number.
 ///
 /// ```
 /// use satmegwo::{Refusal, Sbox};
 ///
-/// let refused = Sbox::new(3, 2, [3, 1, 4, 0, 2, 5, 6, 7]).unwrap_err();
-/// assert_eq!(refused, Refusal::Value);
-/// assert_eq!(refused.number(), 4);
-/// assert_eq!(refused.to_string(), "refused 4: a row is not below 2^m, or a truth value is above 1");
+/// let refused = Sbox::new(3, 3, [3, 1, 4, 0, 2, 5, 6, 7])?.nonlinearity(4).unwrap_err();
+/// assert_eq!(refused, Refusal::Parameter);
+/// assert_eq!(refused.number(), 6);
+/// assert_eq!(refused.to_string(), format!("refused 6: {}", refused.sentence()));
+/// # Ok::<(), Refusal>(())
 /// ```
 #[derive(Clone, Copy, Debug, PartialEq, Eq, Hash, PartialOrd, Ord)]
 #[repr(u32)]
@@ -71,7 +72,7 @@ impl Refusal {
         self as u32
     }
 
-    /// The condition, in the words of the header.
+    /// The condition, in the words of the header's `satmegwo_refusal_text`.
     pub fn sentence(self) -> &'static str {
         match self {
             Refusal::InputWidth => "n is not 1 to 8 (in the two enlargements not 1 to 7, in the bent form not 2, 4, 6 or 8)",

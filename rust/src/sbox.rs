@@ -1,26 +1,34 @@
-//! Boxes and their figures.
+//! S-boxes and their figures.
 use crate::figures::{Autocorrelation, Degree, DynamicDistance, LargestCell, Nonlinearity, RaisingSwap, SumNonlinearity};
 use crate::lists::{Cells, List, NearestPairs};
 use crate::refusal::{accepted, answer};
-use crate::{slices, Refusal, TruthTable};
+use crate::{slices, DetailedRefusal, FileError, Refusal, TruthTable};
+use std::fs::File;
+use std::io::Read;
+use std::path::Path;
 
 /// The bytes of the longest sheet.
 const SHEET_BYTES: usize = 332;
+/// The bytes of the longest box file.
+const FILE_BYTES: u64 = 1026;
 
-/// A box that the library accepts: n inputs (1 to 8), m outputs (1 to 32), and 2^n rows below 2^m.
+/// An S-box that the library accepts: n inputs (1 to 8), m outputs (1 to 32), and 2^n rows below 2^m.
 ///
-/// Bit 1 is the lowest. Combination c is the parity of the ones in (row AND c). A limit i, from 1 to m,
-/// is the most outputs that a combination may have; with i = m a call goes over all 2^m − 1 of them,
-/// which takes about a tenth of a microsecond each at 8 inputs, and cannot be stopped; a long sweep is asked for
-/// in parts ([`Sbox::nonlinearity_between`]).
+/// Bit 1 is the lowest. Combination c (a component function, c being its output mask) is the parity of the
+/// ones in (row AND c). A limit i, from 1 to m, is the most outputs that a combination may have; with i = m
+/// a call goes over all 2^m − 1 of them, which takes about a tenth of a microsecond each at 8 inputs, and
+/// cannot be stopped; a long sweep is divided into parts ([`Sbox::nonlinearity_between`]).
+///
+/// `sbox[x]` is the output for input x, `sbox.len()` is 2^n, and a loop over `&sbox` goes over the outputs.
 ///
 /// ```
 /// use satmegwo::{Nonlinearity, Sbox};
 ///
 /// let sbox = Sbox::new(3, 3, [3, 1, 4, 0, 2, 5, 6, 7])?;
 /// // The three outputs together are w·x with w = 7; no two of them are affine.
-/// assert_eq!(sbox.nonlinearity(3)?, Nonlinearity { figure: 0, c: 7, w: 7, b: 0 });
+/// assert_eq!(sbox.nonlinearity(3)?, Nonlinearity { figure: 0, c: 7, w: 7, b: 0, limit: 3 });
 /// assert_eq!(sbox.nonlinearity(2)?.figure, 2);
+/// assert_eq!((sbox[2], sbox.len(), sbox.iter().max()), (4, 8, Some(7)));
 /// assert!(sbox.is_bijective() && sbox.is_complete());
 /// # Ok::<(), satmegwo::Refusal>(())
 /// ```
@@ -32,10 +40,10 @@ pub struct Sbox {
 }
 
 impl Sbox {
-    /// A box of these widths and rows. Refusals: 1, 2, 3, 4.
-    pub fn new(n: u32, m: u32, rows: impl Into<Vec<u32>>) -> Result<Sbox, Refusal> {
+    /// An S-box of these widths and rows. Refusals: 1, 2, 3, 4.
+    pub fn new(n: u32, m: u32, rows: impl Into<Vec<u32>>) -> Result<Sbox, DetailedRefusal> {
         let rows = rows.into();
-        answer(slices::check_box(n, m, &rows))?;
+        answer(slices::check_box(n, m, &rows)).map_err(|refusal| DetailedRefusal::of_box(refusal, n, m, &rows))?;
         Ok(Sbox { n, m, rows })
     }
 
@@ -54,28 +62,44 @@ impl Sbox {
         &self.rows
     }
 
-    /// The box of a box file: n and m in a byte each, then the rows, four bytes each, low byte first.
-    /// Refusals: 10, 1, 2, 4.
+    /// The S-box of the bytes of a box file: n and m in a byte each, then the rows, four bytes each, low
+    /// byte first. `Sbox::try_from` does the same. Refusals: 10, 1, 2, 4.
     ///
     /// ```
     /// use satmegwo::{Refusal, Sbox};
     ///
-    /// let sbox = Sbox::from_file(&[1, 2, 3, 0, 0, 0, 1, 0, 0, 0])?;
+    /// let sbox = Sbox::from_bytes(&[1, 2, 3, 0, 0, 0, 1, 0, 0, 0])?;
     /// assert_eq!((sbox.inputs(), sbox.outputs(), sbox.rows()), (1, 2, &[3, 1][..]));
-    /// assert_eq!(sbox.to_file(), [1, 2, 3, 0, 0, 0, 1, 0, 0, 0]);
-    /// assert_eq!(Sbox::from_file(&[1, 2, 3]), Err(Refusal::FileLength));
+    /// assert_eq!(sbox.to_bytes(), [1, 2, 3, 0, 0, 0, 1, 0, 0, 0]);
+    /// assert_eq!(Sbox::from_bytes(&[1, 2, 3]).unwrap_err().refusal, Refusal::FileLength);
     /// # Ok::<(), satmegwo::Refusal>(())
     /// ```
-    pub fn from_file(file: &[u8]) -> Result<Sbox, Refusal> {
-        // Where the first byte is no width the file is refused before the rows' length is looked at.
+    pub fn from_bytes(file: &[u8]) -> Result<Sbox, DetailedRefusal> {
+        // If the first byte is not a width, the file is refused before the length of the rows is checked.
         let n = file.first().copied().filter(|n| (1..=8).contains(n)).unwrap_or(1);
         let (mut rows, mut widths) = (vec![0; 1 << n], [0; 2]);
-        answer(slices::read_box(file, &mut rows, &mut widths))?;
+        answer(slices::read_box(file, &mut rows, &mut widths)).map_err(|refusal| DetailedRefusal::of_file(refusal, file))?;
         Ok(Sbox { n: widths[0], m: widths[1], rows })
     }
 
-    /// Its box file. Reading that file gives this box.
-    pub fn to_file(&self) -> Vec<u8> {
+    /// The S-box of a box file on disk; a table of numbers is no box file.
+    ///
+    /// ```no_run
+    /// let sbox = satmegwo::Sbox::from_path("aes.box")?;
+    /// println!("{}", sbox.sheet());
+    /// # Ok::<(), satmegwo::FileError>(())
+    /// ```
+    pub fn from_path(path: impl AsRef<Path>) -> Result<Sbox, FileError> {
+        let path = path.as_ref();
+        let mut file = Vec::new();
+        // One byte more than the longest box file has is enough to see that this one is longer.
+        let read = File::open(path).and_then(|opened| opened.take(FILE_BYTES + 1).read_to_end(&mut file));
+        read.map_err(|error| FileError::Unreadable { path: path.into(), error })?;
+        Sbox::from_bytes(&file).map_err(|error| FileError::Refused { path: path.into(), error })
+    }
+
+    /// The bytes of its box file. [`Sbox::from_bytes`] gives this S-box back.
+    pub fn to_bytes(&self) -> Vec<u8> {
         let mut file = vec![0; 2 + 4 * self.rows.len()];
         accepted(slices::write_box(self.n, self.m, &self.rows, &mut file));
         file
@@ -83,10 +107,10 @@ impl Sbox {
 
     /// The sheet, as the program `boxsheet` prints it for the box file.
     pub fn sheet(&self) -> String {
-        sheet_of_file(&self.to_file())
+        sheet_of_bytes(&self.to_bytes())
     }
 
-    /// The box of packed columns. Refusals: 1, 2, 3, 16.
+    /// The S-box of packed columns (coordinate functions). Refusals: 1, 2, 3, 16.
     ///
     /// ```
     /// use satmegwo::Sbox;
@@ -102,7 +126,7 @@ impl Sbox {
         Ok(Sbox { n, m, rows })
     }
 
-    /// The columns, packed for the mask: column 1 first, the truth values in input order, eight to a
+    /// The columns (coordinate functions), packed for the mask: column 1 first, the truth values in input order, eight to a
     /// byte, lowest bit first.
     pub fn to_packed(&self) -> Vec<u8> {
         let mut packed = vec![0; self.m as usize * self.rows.len().div_ceil(8)];
@@ -110,24 +134,25 @@ impl Sbox {
         packed
     }
 
-    /// The spectrum of combination c: for each w the number of inputs where it equals w·x, less
-    /// 2^(n−1). Refusals: 6.
+    /// The Walsh spectrum, halved, of a component function: the entries of the linear approximation table
+    /// (LAT) for output mask c. For each input mask w it is the number of inputs where combination c equals
+    /// w·x, less 2^(n−1). Refusals: 6.
     pub fn component_spectrum(&self, c: u32) -> Result<Vec<i32>, Refusal> {
         let mut values = vec![0; self.rows.len()];
         answer(slices::component_spectrum(self.n, self.m, &self.rows, c, &mut values))?;
         Ok(values)
     }
 
-    /// The nonlinearity within the limit i. Refusals: 6.
+    /// The nonlinearity d within the limit i; the linearity is 2^n − 2d. Refusals: 6.
     pub fn nonlinearity(&self, i: u32) -> Result<Nonlinearity, Refusal> {
         let mut figures = [0; 4];
         answer(slices::nonlinearity(self.n, self.m, &self.rows, i, &mut figures))?;
         let [figure, c, w, b] = figures;
-        Ok(Nonlinearity { figure, c, w, b })
+        Ok(Nonlinearity { figure, c, w, b, limit: i })
     }
 
-    /// All pairs of a combination within the limit i and an affine function that differ at as few
-    /// inputs as the nonlinearity says. Refusals: 6.
+    /// All best linear approximations: pairs of a combination within the limit i and an affine function
+    /// that differ at as few inputs as the nonlinearity says. Refusals: 6.
     ///
     /// ```
     /// use satmegwo::{Pair, Sbox};
@@ -141,7 +166,7 @@ impl Sbox {
     /// ```
     pub fn nearest_pairs(&self, i: u32) -> Result<NearestPairs, Refusal> {
         let (mut list, mut number) = (vec![0; 4096], [0]);
-        // A call with too short a list does not tell the number, so a longer one is tried.
+        // A call with too short a list does not give the number, so a longer one is tried.
         loop {
             match answer(slices::nearest_pairs(self.n, self.m, &self.rows, i, &mut list, &mut number)) {
                 Err(Refusal::ListTooShort) => list = vec![0; 16 * list.len()],
@@ -153,23 +178,23 @@ impl Sbox {
         Ok(List::of(list))
     }
 
-    /// The box with the affine function w·x XOR b added to column j, which leaves the nonlinearity as
-    /// it is within every limit. Refusals: 6.
+    /// The S-box with the affine function w·x XOR b added to column j (a coordinate function), which
+    /// leaves the nonlinearity as it is within every limit. Refusals: 6.
     pub fn add_to_column(&self, j: u32, w: u32, b: u32) -> Result<Sbox, Refusal> {
         let mut rows = vec![0; self.rows.len()];
         answer(slices::add_to_column(self.n, self.m, &self.rows, j, w, b, &mut rows))?;
         Ok(Sbox { rows, ..*self })
     }
 
-    /// Row a of the XOR table, of a box of at most 16 outputs: for each beta the number of x with
-    /// S(x) XOR S(x XOR a) = beta. Refusals: 2, 6.
+    /// Row a of the difference distribution table (DDT), here called XOR table, of a box of at most 16
+    /// outputs: for each beta the number of x with S(x) XOR S(x XOR a) = beta. Refusals: 2, 6.
     pub fn xor_row(&self, a: u32) -> Result<Vec<u16>, Refusal> {
         let mut counts = vec![0; 1 << self.m.min(16)];
         answer(slices::xor_row(self.n, self.m, &self.rows, a, &mut counts))?;
         Ok(counts)
     }
 
-    /// The largest cell of the XOR table.
+    /// The differential uniformity: the largest cell of the XOR table (DDT).
     pub fn largest_cell(&self) -> LargestCell {
         let mut figures = [0; 3];
         accepted(slices::largest_cell(self.n, self.m, &self.rows, &mut figures));
@@ -177,7 +202,7 @@ impl Sbox {
         LargestCell { figure, a, beta }
     }
 
-    /// All cells of the XOR table that reach the largest count.
+    /// All cells of the XOR table (DDT) that reach the differential uniformity.
     ///
     /// ```
     /// use satmegwo::{Cell, Sbox};
@@ -189,7 +214,7 @@ impl Sbox {
     /// # Ok::<(), satmegwo::Refusal>(())
     /// ```
     pub fn largest_cells(&self) -> Cells {
-        // One for each pair of unlike inputs: no box has more cells.
+        // One for each pair of different inputs: no box has more cells.
         let most = (self.rows.len() - 1) * self.rows.len() / 2;
         let (mut list, mut number) = (vec![0; most], [0]);
         accepted(slices::largest_cells(self.n, self.m, &self.rows, &mut list, &mut number));
@@ -197,47 +222,50 @@ impl Sbox {
         List::of(list)
     }
 
-    /// The autocorrelation within the limit i. Refusals: 6.
+    /// The absolute indicator, the largest autocorrelation within the limit i. Refusals: 6.
     pub fn autocorrelation(&self, i: u32) -> Result<Autocorrelation, Refusal> {
         let mut figures = [0; 3];
         answer(slices::autocorrelation(self.n, self.m, &self.rows, i, &mut figures))?;
         let [figure, c, s] = figures;
-        Ok(Autocorrelation { figure, c, s })
+        Ok(Autocorrelation { figure, c, s, limit: i })
     }
 
-    /// The dynamic distance of order (i, j), doubled: over combinations within the limit i, and changes
-    /// of 1 to j input bits. The strict avalanche criterion holds where order (1, 1) gives 0, the bit
-    /// independence criterion where (2, 1) does. Refusals: 6.
+    /// The dynamic distance of order (i, j), which measures SAC and BIC, doubled: over combinations within
+    /// the limit i, and changes of 1 to j input bits. The strict avalanche criterion (SAC) holds where
+    /// order (1, 1) gives 0, and the bit independence criterion (BIC) where (2, 1) does; this BIC is not
+    /// the correlation of Webster and Tavares. Refusals: 6.
     pub fn dynamic_distance(&self, i: u32, j: u32) -> Result<DynamicDistance, Refusal> {
         let mut figures = [0; 3];
         answer(slices::dynamic_distance(self.n, self.m, &self.rows, i, j, &mut figures))?;
         let [figure, c, d] = figures;
-        Ok(DynamicDistance { figure, c, d })
+        Ok(DynamicDistance { figure, c, d, limit: i, flips: j })
     }
 
-    /// The least degree of a combination within the limit i. Refusals: 6.
+    /// The least algebraic degree (Sage's `min_degree`) of a combination (component function) within the
+    /// limit i; others give the largest. Refusals: 6.
     pub fn degree(&self, i: u32) -> Result<Degree, Refusal> {
         let mut figures = [0; 2];
         answer(slices::degree(self.n, self.m, &self.rows, i, &mut figures))?;
         let [figure, c] = figures;
-        Ok(Degree { figure, c })
+        Ok(Degree { figure, c, limit: i })
     }
 
-    /// Whether every input bit changes every column at some input.
+    /// Whether the S-box is complete: every input bit changes every column (coordinate function) at some
+    /// input.
     pub fn is_complete(&self) -> bool {
         let mut figures = [0];
         accepted(slices::complete(self.n, self.m, &self.rows, &mut figures));
         figures[0] == 1
     }
 
-    /// Whether n = m and no two rows are equal.
+    /// Whether the S-box is a permutation: n = m and no two rows are equal.
     pub fn is_bijective(&self) -> bool {
         let mut figures = [0];
         accepted(slices::bijective(self.n, self.m, &self.rows, &mut figures));
         figures[0] == 1
     }
 
-    /// A box of n inputs and n outputs becomes one of n + 1 of each: its columns are enlarged by k with
+    /// An S-box of n inputs and n outputs becomes one of n + 1 of each: its columns are enlarged by k with
     /// the constant 0, and the new highest output bit is the truth table enlarged by k with the constant
     /// 1. Refusals: 1 (n = 8), 3 (the table has other inputs), 4 (a row is not below 2^n), 6 (k).
     ///
@@ -256,7 +284,7 @@ impl Sbox {
         Ok(Sbox { n: self.n + 1, m: self.n + 1, rows })
     }
 
-    /// The smallest swap of two unlike rows that raises the nonlinearity over all combinations, or
+    /// The smallest swap of two different rows that raises the nonlinearity over all combinations, or
     /// `None` exactly where no swap does. Boxes of at most 8 outputs. Refusals: 2.
     ///
     /// ```
@@ -277,25 +305,43 @@ impl Sbox {
     }
 }
 
-/// The sheet of the bytes of a file: nine lines, or the one line `refused N` where they are no box file.
+/// The S-box of the bytes of a box file, as [`Sbox::from_bytes`] has it.
+///
+/// ```
+/// use satmegwo::Sbox;
+///
+/// let bytes: &[u8] = &[1, 2, 3, 0, 0, 0, 1, 0, 0, 0];
+/// let sbox: Sbox = bytes.try_into()?;
+/// assert_eq!(sbox, Sbox::new(1, 2, [3, 1])?);
+/// # Ok::<(), satmegwo::Refusal>(())
+/// ```
+impl TryFrom<&[u8]> for Sbox {
+    type Error = DetailedRefusal;
+
+    fn try_from(file: &[u8]) -> Result<Sbox, DetailedRefusal> {
+        Sbox::from_bytes(file)
+    }
+}
+
+/// The sheet of the bytes of a box file: nine lines, or the one line `refused N` where they are none.
 ///
 /// ```
 /// let file = [1, 1, 0, 0, 0, 0, 1, 0, 0, 0];
 /// let lines = "box 1 1\nnonlinearity 0 1 1 0 1\nxor 2 1 1\nautocorrelation 2 1 1 1\nsac 1 1 1\nbic none\n\
 ///              degree 1 1 1\ncomplete yes\nbijective yes\n";
-/// assert_eq!(satmegwo::sheet_of_file(&file), lines);
-/// assert_eq!(satmegwo::sheet_of_file(b"1 0"), "refused 1\n");
+/// assert_eq!(satmegwo::sheet_of_bytes(&file), lines);
+/// assert_eq!(satmegwo::sheet_of_bytes(b"1 0"), "refused 1\n");
 /// ```
-pub fn sheet_of_file(file: &[u8]) -> String {
+pub fn sheet_of_bytes(file: &[u8]) -> String {
     let (mut text, mut length) = (vec![0; SHEET_BYTES], [0]);
     accepted(slices::sheet(file, &mut text, &mut length));
     text.truncate(length[0] as usize);
     String::from_utf8(text).expect("a sheet is plain text")
 }
 
-/// The nonlinearity within the limit i of one to four boxes whose outputs are added by XOR, each fed by
-/// its own inputs: the least count over all their inputs together, up to 2^32.
-/// Refusals: 11 (another number of boxes), 12 (unlike numbers of outputs), 6.
+/// The nonlinearity within the limit i of one to four S-boxes whose outputs are added by XOR, each with
+/// its own input bits: the least count over all their inputs together, up to 2^32.
+/// Refusals: 11 (another number of boxes), 12 (different numbers of outputs), 6.
 ///
 /// ```
 /// use satmegwo::{sum_nonlinearity, Sbox};
@@ -311,5 +357,6 @@ pub fn sum_nonlinearity(boxes: &[&Sbox], i: u32) -> Result<SumNonlinearity, Refu
     let lent = std::array::from_fn(|k| boxes.get(k).map_or((0, 0, &[][..]), |one| (one.n, one.m, &one.rows[..])));
     let mut figures = vec![0; 3 + count];
     answer(slices::sum_nonlinearity(count as u32, lent, i, &mut figures))?;
-    Ok(SumNonlinearity { figure: figures[0], c: figures[1], masks: figures[2..2 + count].to_vec(), b: figures[2 + count] })
+    let (masks, b) = (figures[2..2 + count].to_vec(), figures[2 + count]);
+    Ok(SumNonlinearity { figure: figures[0], c: figures[1], masks, b, limit: i })
 }

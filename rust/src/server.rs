@@ -1,4 +1,4 @@
-//! Boxes under analysis.
+//! S-boxes under analysis.
 use crate::figures::Nonlinearity;
 use crate::raw::{self, ServerOutcome};
 use crate::refusal::answer;
@@ -6,8 +6,9 @@ use crate::slices::server as calls;
 use crate::{Refusal, Sbox};
 use std::fmt;
 
-/// An evaluation server: up to eight boxes, of at most 16 outputs, under analysis for their nonlinearity
-/// over all combinations, one combination a step, in turns. A refused call leaves it as it was.
+/// An evaluation server: up to eight S-boxes, of at most 16 outputs, under analysis for their nonlinearity
+/// over all combinations (component functions), one combination a step, in turns. A refused call leaves it
+/// as it was.
 ///
 /// ```
 /// use satmegwo::{Refusal, Sbox, Server};
@@ -57,7 +58,7 @@ impl Server {
         *self.state = calls::step(*self.state);
     }
 
-    /// So many steps, or fewer where no box is unfinished any more: `u32::MAX` means to the end.
+    /// Makes `budget` steps, or fewer if no box is unfinished any more: `u32::MAX` means to the end.
     pub fn run(&mut self, budget: u32) {
         *self.state = calls::run(*self.state, budget);
     }
@@ -68,7 +69,8 @@ impl Server {
         let mut figures = [0; 5];
         answer(calls::ask(*self.state, place, &mut figures))?;
         let [finished, figure, c, w, b] = figures;
-        Ok((finished == 1).then_some(Nonlinearity { figure, c, w, b }))
+        let limit = self.state.places[place as usize - 1].m;
+        Ok((finished == 1).then_some(Nonlinearity { figure, c, w, b, limit }))
     }
 
     /// The place last served, if there was a step that served one.

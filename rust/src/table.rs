@@ -1,8 +1,9 @@
 //! Truth tables.
 use crate::refusal::{accepted, answer};
-use crate::{slices, Refusal};
+use crate::{slices, DetailedRefusal, Refusal};
 
-/// A truth table that the library accepts: 2^n values, each 0 or 1, with n from 1 to 8.
+/// A Boolean function as a truth table that the library accepts: 2^n values, each 0 or 1, with n from 1
+/// to 8.
 ///
 /// ```
 /// use satmegwo::{Refusal, TruthTable};
@@ -22,10 +23,11 @@ pub struct TruthTable {
 
 impl TruthTable {
     /// A table of these values. Refusals: 1, 3, 4.
-    pub fn new(n: u32, values: impl Into<Vec<u8>>) -> Result<TruthTable, Refusal> {
+    pub fn new(n: u32, values: impl Into<Vec<u8>>) -> Result<TruthTable, DetailedRefusal> {
         let values = values.into();
         // No call only checks a table; the normal form does it in the same order.
-        answer(slices::normal_form(n, &values, &mut vec![0; values.len()]))?;
+        let checked = answer(slices::normal_form(n, &values, &mut vec![0; values.len()]));
+        checked.map_err(|refusal| DetailedRefusal::of_table(refusal, n, &values))?;
         Ok(TruthTable { n, values })
     }
 
@@ -39,22 +41,22 @@ impl TruthTable {
         &self.values
     }
 
-    /// The linear approximation values: for each w the number of inputs where the function equals w·x,
-    /// less 2^(n−1).
+    /// The Walsh spectrum, halved, which is the linear approximation values: for each w the number of
+    /// inputs where the function equals w·x, less 2^(n−1).
     pub fn spectrum(&self) -> Vec<i32> {
         let mut values = vec![0; self.values.len()];
         accepted(slices::spectrum(self.n, &self.values, &mut values));
         values
     }
 
-    /// The only table that has these linear approximation values. Refusals: 1, 3, 8.
+    /// The inverse Walsh transform: the only table that has these values (half of Walsh's). Refusals: 1, 3, 8.
     pub fn from_spectrum(n: u32, spectrum: &[i32]) -> Result<TruthTable, Refusal> {
         let mut values = vec![0; spectrum.len()];
         answer(slices::inverse_spectrum(n, spectrum, &mut values))?;
         Ok(TruthTable { n, values })
     }
 
-    /// The coefficients of the algebraic normal form: at u the XOR of the values at all x whose ones lie
+    /// The coefficients of the algebraic normal form (ANF): at u the XOR of the values at all x whose ones lie
     /// within u. The normal form of the normal form is the table again.
     pub fn normal_form(&self) -> TruthTable {
         let mut values = vec![0; self.values.len()];
@@ -78,7 +80,7 @@ impl TruthTable {
         Ok(TruthTable { n: self.n + 1, values })
     }
 
-    /// A bent function of n = 2h inputs by the form of Maiorana and McFarland: at x × 2^h + y the parity
+    /// A bent function of n = 2h inputs by the construction of Maiorana and McFarland: at x × 2^h + y the parity
     /// of the ones in (`permutation[x]` AND y), XOR `added[x]`. Refusals: 1, 3, 4, 5.
     ///
     /// ```

@@ -1,7 +1,8 @@
 //! The crate on the stored boxes of examples/, and its refusals. (The figures themselves are compared with
 //! the second program in tests/, call by call; here it is what the types make of them.)
-use satmegwo::{merged, sheet_of_file, sum_nonlinearity, sum_nonlinearity_between};
-use satmegwo::{Catalogue, Design, Pair, Part, Refusal, Sbox, Server, TruthTable};
+use satmegwo::{merged, sheet_of_bytes, sum_nonlinearity, sum_nonlinearity_between};
+use satmegwo::{Catalogue, Design, Detail, FileError, Pair, Part, Refusal, Sbox, Server, TruthTable};
+use std::error::Error;
 use std::fs;
 use std::path::{Path, PathBuf};
 
@@ -11,10 +12,15 @@ fn stored() -> Vec<(PathBuf, Sbox)> {
     let boxes: Vec<PathBuf> = entries.filter(|path| path.extension().is_some_and(|end| end == "box")).collect();
     assert!(boxes.len() >= 24);
     let read = |path: PathBuf| {
-        let sbox = Sbox::from_file(&fs::read(&path).expect("it can be read")).expect("it is a box file");
+        let sbox = Sbox::from_path(&path).expect("it is a box file");
         (path, sbox)
     };
     boxes.into_iter().map(read).collect()
+}
+
+/// The refusal of what must be refused, with a detail or without.
+fn refusal<T: std::fmt::Debug, E: Into<Refusal> + std::fmt::Debug>(result: Result<T, E>) -> Refusal {
+    result.expect_err("it is refused").into()
 }
 
 fn example() -> Sbox {
@@ -24,8 +30,9 @@ fn example() -> Sbox {
 #[test]
 fn files_and_packed_columns_go_there_and_back() {
     for (path, sbox) in stored() {
-        assert_eq!(sbox.to_file(), fs::read(&path).expect("it can be read"));
-        assert_eq!(Sbox::from_file(&sbox.to_file()), Ok(sbox.clone()));
+        assert_eq!(sbox.to_bytes(), fs::read(&path).expect("it can be read"));
+        assert_eq!(Sbox::from_bytes(&sbox.to_bytes()), Ok(sbox.clone()));
+        assert_eq!(Sbox::try_from(&sbox.to_bytes()[..]), Ok(sbox.clone()));
         assert_eq!(Sbox::from_packed(sbox.inputs(), sbox.outputs(), &sbox.to_packed()), Ok(sbox.clone()));
         assert_eq!(Sbox::new(sbox.inputs(), sbox.outputs(), sbox.rows()), Ok(sbox));
     }
@@ -90,19 +97,19 @@ fn a_long_list_of_pairs_is_found() {
 
 #[test]
 fn what_is_no_box_is_refused_by_its_number() {
-    assert_eq!(Sbox::new(0, 1, [0]), Err(Refusal::InputWidth));
-    assert_eq!(Sbox::new(9, 1, vec![0; 512]), Err(Refusal::InputWidth));
-    assert_eq!(Sbox::new(1, 33, [0, 1]), Err(Refusal::OutputWidth));
-    assert_eq!(Sbox::new(1, 1, [0, 1, 0]), Err(Refusal::ReadLength));
-    assert_eq!(Sbox::new(1, 1, [0, 2]), Err(Refusal::Value));
-    assert_eq!(Sbox::from_file(&[]), Err(Refusal::FileLength));
-    assert_eq!(Sbox::from_file(&[0, 1]), Err(Refusal::InputWidth));
-    assert_eq!(Sbox::from_file(&[255, 1]), Err(Refusal::InputWidth));
-    assert_eq!(Sbox::from_file(&[8, 33]), Err(Refusal::OutputWidth));
-    assert_eq!(Sbox::from_file(&[1, 1, 0, 0, 0, 0, 2, 0, 0, 0]), Err(Refusal::Value));
-    assert_eq!(Sbox::from_packed(9, 1, &[0]), Err(Refusal::InputWidth));
-    assert_eq!(Sbox::from_packed(2, 1, &[16]), Err(Refusal::UnusedBit));
-    assert_eq!(sheet_of_file(&[3]), "refused 10\n");
+    assert_eq!(refusal(Sbox::new(0, 1, [0])), Refusal::InputWidth);
+    assert_eq!(refusal(Sbox::new(9, 1, vec![0; 512])), Refusal::InputWidth);
+    assert_eq!(refusal(Sbox::new(1, 33, [0, 1])), Refusal::OutputWidth);
+    assert_eq!(refusal(Sbox::new(1, 1, [0, 1, 0])), Refusal::ReadLength);
+    assert_eq!(refusal(Sbox::new(1, 1, [0, 2])), Refusal::Value);
+    assert_eq!(refusal(Sbox::from_bytes(&[])), Refusal::FileLength);
+    assert_eq!(refusal(Sbox::from_bytes(&[0, 1])), Refusal::InputWidth);
+    assert_eq!(refusal(Sbox::from_bytes(&[255, 1])), Refusal::InputWidth);
+    assert_eq!(refusal(Sbox::from_bytes(&[8, 33])), Refusal::OutputWidth);
+    assert_eq!(refusal(Sbox::from_bytes(&[1, 1, 0, 0, 0, 0, 2, 0, 0, 0])), Refusal::Value);
+    assert_eq!(refusal(Sbox::from_packed(9, 1, &[0])), Refusal::InputWidth);
+    assert_eq!(refusal(Sbox::from_packed(2, 1, &[16])), Refusal::UnusedBit);
+    assert_eq!(sheet_of_bytes(&[3]), "refused 10\n");
 }
 
 #[test]
@@ -125,9 +132,9 @@ fn parameters_out_of_range_are_refused() {
 
 #[test]
 fn truth_tables_are_checked() {
-    assert_eq!(TruthTable::new(0, [0]), Err(Refusal::InputWidth));
-    assert_eq!(TruthTable::new(1, [0]), Err(Refusal::ReadLength));
-    assert_eq!(TruthTable::new(1, [0, 2]), Err(Refusal::Value));
+    assert_eq!(refusal(TruthTable::new(0, [0])), Refusal::InputWidth);
+    assert_eq!(refusal(TruthTable::new(1, [0])), Refusal::ReadLength);
+    assert_eq!(refusal(TruthTable::new(1, [0, 2])), Refusal::Value);
     assert_eq!(TruthTable::from_spectrum(2, &[1; 3]), Err(Refusal::ReadLength));
     assert_eq!(TruthTable::bent(3, &[0, 1], &[0, 0]), Err(Refusal::InputWidth));
     assert_eq!(TruthTable::bent(2, &[0, 0], &[0, 0]), Err(Refusal::Permutation));
@@ -159,7 +166,7 @@ fn a_catalogue_keeps_all_boxes() {
         assert_eq!(catalogue.add_box(sbox), Ok(k as u32));
     }
     assert_eq!(catalogue.len() as usize, boxes.len());
-    let kept = |catalogue: &Catalogue| catalogue.records().map(|file| Sbox::from_file(file).unwrap()).collect::<Vec<Sbox>>();
+    let kept = |catalogue: &Catalogue| catalogue.records().map(|file| Sbox::from_bytes(file).unwrap()).collect::<Vec<Sbox>>();
     assert!(kept(&catalogue).iter().eq(boxes.iter().map(|(_, sbox)| sbox)));
     catalogue.remove(0).unwrap();
     catalogue.compact();
@@ -241,13 +248,111 @@ fn parts_are_refused_and_merged_by_the_library() {
     assert_eq!(sum_nonlinearity_between(&[], 1, 1..=7), Err(Refusal::BoxCount));
     assert_eq!(sum_nonlinearity_between(&[&sbox; 5], 1, 1..=7), Err(Refusal::BoxCount));
     // Of equal figures 4 comes before 3: it has fewer ones.
-    let found = |c| Some(satmegwo::Nonlinearity { figure: 2, c, w: 0, b: 0 });
+    let found = |c| Some(satmegwo::Nonlinearity { figure: 2, c, w: 0, b: 0, limit: 2 });
     assert_eq!([merged(&found(3), &found(4)), merged(&found(4), &found(3))], [Ok(found(4)), Ok(found(4))]);
     assert_eq!([merged(&None, &found(3)), merged(&found(3), &None)], [Ok(found(3)), Ok(found(3))]);
     assert_eq!(merged::<satmegwo::Nonlinearity>(&None, &None), Ok(None));
     let (one, two) = (sum_nonlinearity(&[&sbox], 1).ok(), sum_nonlinearity(&[&sbox; 2], 1).ok());
     assert_eq!([merged(&one, &two), merged(&two, &one)], [Err(Refusal::ReadLength), Err(Refusal::ReadLength)]);
     assert_eq!(merged(&None, &two), Ok(two));
+}
+
+/// Parts of one figure have one limit, and of a dynamic distance one order: others are no parts of it.
+#[test]
+fn parts_of_different_limits_are_not_merged() {
+    let sbox = example();
+    let least = |i| sbox.nonlinearity_between(i, 1..=7).unwrap();
+    assert_eq!(merged(&least(2), &least(3)), Err(Refusal::Parameter));
+    assert_eq!(merged(&least(2), &least(2)), Ok(least(2)));
+    let distance = |i, j| sbox.dynamic_distance_between(i, j, 1..=7).unwrap();
+    assert_eq!(merged(&distance(2, 1), &distance(2, 2)), Err(Refusal::Parameter));
+    assert_eq!(merged(&distance(2, 2), &None), Ok(distance(2, 2)));
+}
+
+/// Each figure says the limit that it was asked for with, in parts and on a server too.
+#[test]
+fn figures_carry_their_limit() {
+    let sbox = example();
+    for i in 1..=3 {
+        let limits = [
+            sbox.nonlinearity(i).unwrap().limit,
+            sbox.autocorrelation(i).unwrap().limit,
+            sbox.degree(i).unwrap().limit,
+            sbox.dynamic_distance(i, 2).unwrap().limit,
+            sum_nonlinearity(&[&sbox], i).unwrap().limit,
+            sbox.nonlinearity_between(i, 1..=7).unwrap().unwrap().limit,
+            sbox.autocorrelation_between(i, 1..=7).unwrap().unwrap().limit,
+            sum_nonlinearity_between(&[&sbox], i, 1..=7).unwrap().unwrap().limit,
+        ];
+        assert_eq!(limits, [i; 8]);
+        let distance = sbox.dynamic_distance_between(i, 2, 1..=7).unwrap().unwrap();
+        assert_eq!((distance.limit, distance.flips, sbox.dynamic_distance(3, i).unwrap().flips), (i, 2, i));
+    }
+    let mut server = Server::begin();
+    server.put(8, &Sbox::new(2, 1, [0, 0, 0, 1]).unwrap()).unwrap();
+    server.run(1);
+    assert_eq!(server.ask(8).unwrap().unwrap().limit, 1);
+}
+
+/// A refused box, file or table says which number, row or value met the condition.
+#[test]
+fn refusals_say_what_met_their_condition() {
+    let said = |result: Result<Sbox, satmegwo::DetailedRefusal>| result.unwrap_err().detail;
+    assert_eq!(said(Sbox::new(9, 3, [0])), Detail::Inputs(9));
+    assert_eq!(said(Sbox::new(3, 33, [0])), Detail::Outputs(33));
+    assert_eq!(said(Sbox::new(3, 3, [0; 7])), Detail::Rows { given: 7, inputs: 3 });
+    assert_eq!(said(Sbox::new(1, 31, [1 << 31, u32::MAX])), Detail::Row { input: 0, value: 1 << 31, outputs: 31 });
+    assert_eq!(said(Sbox::from_bytes(&[3])), Detail::Bytes { given: 1, inputs: None });
+    assert_eq!(said(Sbox::from_bytes(&[8, 1, 0])), Detail::Bytes { given: 3, inputs: Some(8) });
+    assert_eq!(said(Sbox::from_bytes(&[0, 1, 0])), Detail::Inputs(0));
+    assert_eq!(said(Sbox::from_bytes(&[8, 33, 0])), Detail::Outputs(33));
+    assert_eq!(said(Sbox::from_bytes(&[1, 9, 1, 0, 0, 0, 0, 2, 0, 0])), Detail::Row { input: 1, value: 512, outputs: 9 });
+    let table = |n, values: &[u8]| TruthTable::new(n, values).unwrap_err().detail;
+    assert_eq!(table(0, &[0]), Detail::Inputs(0));
+    assert_eq!(table(2, &[0; 3]), Detail::TruthValues { given: 3, inputs: 2 });
+    assert_eq!(table(2, &[0, 1, 0, 7]), Detail::TruthValue { input: 3, value: 7 });
+    for (detail, text) in [
+        (Detail::Inputs(9), "n is 9"),
+        (Detail::Outputs(33), "m is 33"),
+        (Detail::Rows { given: 7, inputs: 3 }, "7 rows are given, and 3 inputs need 8"),
+        (Detail::Row { input: 0, value: 1 << 31, outputs: 31 }, "the row for input 0 is 2147483648, and 31 outputs end at 2147483647"),
+        (Detail::TruthValues { given: 3, inputs: 2 }, "3 truth values are given, and 2 inputs need 4"),
+        (Detail::TruthValue { input: 3, value: 7 }, "the truth value for input 3 is 7"),
+        (Detail::Bytes { given: 3, inputs: Some(8) }, "3 bytes are given, and a box file of 8 inputs has 1026"),
+        (Detail::Bytes { given: 1, inputs: None }, "1 bytes are given, and a box file has 10 or more"),
+    ] {
+        assert_eq!(detail.to_string(), text);
+    }
+    let whole = Sbox::new(3, 3, [0; 7]).unwrap_err();
+    assert_eq!(whole.to_string(), format!("7 rows are given, and 3 inputs need 8 ({})", Refusal::ReadLength));
+}
+
+/// A file that gives no box is named, with what is wrong with it; the longest is not read whole.
+#[test]
+fn a_file_that_gives_no_box_is_named() {
+    let missing = Sbox::from_path("nowhere/a.box").unwrap_err();
+    assert!(matches!(missing, FileError::Unreadable { .. }) && missing.to_string().starts_with("nowhere/a.box: "));
+    let text = Sbox::from_path(concat!(env!("CARGO_MANIFEST_DIR"), "/Cargo.toml")).unwrap_err();
+    assert!(text.path().ends_with("Cargo.toml") && text.to_string().contains("Cargo.toml: n is 91 (refused 1: "), "{text}");
+    assert!(text.source().is_some());
+    let endless = Sbox::from_path("/dev/zero").unwrap_err();
+    assert!(matches!(endless, FileError::Refused { error, .. } if error.refusal == Refusal::InputWidth));
+}
+
+/// A box and a truth table are looked up, counted and looped over like slices.
+#[test]
+fn tables_are_looked_up_by_their_input() {
+    let sbox = example();
+    assert_eq!((sbox[0], sbox[7], sbox.len()), (3, 7, 8));
+    assert_eq!(sbox.iter().rev().collect::<Vec<u32>>(), [7, 6, 5, 2, 0, 4, 1, 3]);
+    let mut sum = 0;
+    for row in &sbox {
+        sum += row;
+    }
+    assert_eq!((sum, AsRef::<[u32]>::as_ref(&sbox)), (28, sbox.rows()));
+    let table = TruthTable::new(1, [0, 1]).unwrap();
+    assert_eq!((table[1], table.len(), table.iter().sum::<u8>(), table.into_iter().count()), (1, 2, 1, 2));
+    assert!(std::panic::catch_unwind(|| example()[8]).is_err());
 }
 
 /// Calls share nothing: the same from many threads at once.
