@@ -74,11 +74,15 @@ class Make(unittest.TestCase):
         self.write(file, text)
         (self.tree / file).chmod(0o755)
 
-    def run_in_tree(self, *words):
+    def run_in_tree(self, *words, stderr=subprocess.STDOUT):
         path = f"{self.tree}/bin:{os.environ['PATH']}"
         unset = ("MAKEFLAGS", "MAKELEVEL", "MFLAGS")
         env = {**{name: value for name, value in os.environ.items() if name not in unset}, "PATH": path}
-        return subprocess.run(words, cwd=self.tree, env=env, stdout=subprocess.PIPE, stderr=subprocess.STDOUT, text=True)
+        return subprocess.run(words, cwd=self.tree, env=env, stdout=subprocess.PIPE, stderr=stderr, text=True)
+
+    def gate(self, *parts):
+        """Runs parts of the gate. What it writes to standard error is kept apart."""
+        return self.run_in_tree(".ci/run", *parts, stderr=subprocess.PIPE)
 
     def age(self):
         """Makes all that is there an hour older, in its order."""
@@ -184,16 +188,34 @@ class Make(unittest.TestCase):
 
     def test_the_gate_tells_what_is_old(self):
         whole = "==== install\ninstalled\n"
-        self.assertEqual(self.run_in_tree(".ci/run", "install").stdout, whole)
+        self.assertEqual(self.gate("install").stdout, whole)
         self.edit("crates/design/src/lib.rt")
         line = "target/staticlib/libsatmegwo_design.a is older than crates/design/src/lib.rt: run make\n"
-        told = self.run_in_tree(".ci/run", "install")
+        told = self.gate("install")
         self.assertEqual((told.returncode, told.stdout), (0, line + whole + line))
         self.edit("crates/sheet/src/lib.rt")
         told = self.make("--silent", "stale").stdout.splitlines()
         self.assertEqual([text.split()[0] for text in told], [MADE[name] for name in ("satmegwo", "satmegwo_design", "boxsheet")])
         self.make()
-        self.assertEqual(self.run_in_tree(".ci/run", "install").stdout, whole)
+        self.assertEqual(self.gate("install").stdout, whole)
+
+    def test_the_gate_says_which_part_runs(self):
+        clock = "[0-2][0-9]:[0-5][0-9]:[0-5][0-9]"
+        self.program(".ci/install", "#!/bin/sh\nsleep 1.1\n")
+        told = self.gate("install", "install")
+        self.assertEqual((told.returncode, told.stdout), (0, 2 * "==== install\n"))
+        self.assertRegex(told.stderr, rf"\A(install began at {clock}\ninstall ended at {clock}, after [1-9][0-9]* s\n){{2}}\Z")
+        self.program(".ci/install", "#!/bin/sh\nexit 3\n")
+        told = self.gate("install", "install")
+        self.assertEqual((told.returncode, told.stdout), (1, "==== install\n==== install failed\n"))
+        self.assertRegex(told.stderr, rf"\Ainstall began at {clock}\ninstall failed at {clock}, after [0-9]+ s\n\Z")
+        told = self.gate("install", "nowhere")
+        self.assertEqual((told.returncode, told.stdout, told.stderr), (2, "", "no such part: nowhere\n"))
+
+    def test_the_gate_says_that_a_part_began_while_it_runs(self):
+        self.program(".ci/install", "#!/bin/sh\ncat told\n")
+        with open(self.tree / "told", "w") as told:
+            self.assertRegex(self.run_in_tree(".ci/run", "install", stderr=told).stdout, r"\A==== install\ninstall began at \S+\n\Z")
 
 
 if __name__ == "__main__":
