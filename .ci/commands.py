@@ -8,7 +8,10 @@ left out. Where nothing is shown, nothing is compared.
 All commands run in one shell, in the order of the pages: README first, then docs/ by name. Each begins at the root and ends there, has the status 0,
 and leaves nothing behind that git would show. The gate itself, .ci/run, is not run.
 
+With --section it runs nothing, and prints the lines of the ```sh blocks below one heading of a page: .ci/install runs those of docs/C.md.
+
 usage: commands.py ROOT [PAGE..]
+       commands.py --section PAGE HEADING
 """
 import dataclasses
 import pathlib
@@ -51,6 +54,12 @@ def blocks(text):
         else:
             at += 1
     return found
+
+
+def shell_lines(text, heading):
+    """The lines of the ```sh blocks between a heading of a page and the next heading of its level."""
+    section = re.split(r"^## ", text.partition(f"\n## {heading}\n")[2], maxsplit=1, flags=re.M)[0]
+    return [line for block in re.findall(r"^```sh\n(.*?)^```$", section, re.M | re.S) for line in block.splitlines()]
 
 
 def commands(page, text):
@@ -129,9 +138,18 @@ def pages(root, given):
     return given or ["README.md"] + [f"docs/{file.name}" for file in sorted((root / "docs").glob("*.md"))]
 
 
+def print_section(page, heading):
+    lines = shell_lines(pathlib.Path(page).read_text(encoding="utf-8"), heading)
+    if not lines:
+        sys.exit(f"{page} has no ```sh block below the heading {heading}")
+    print("\n".join(lines))
+
+
 def main():
-    if len(sys.argv) < 2:
-        sys.exit("usage: commands.py ROOT [PAGE..]")
+    if len(sys.argv) == 4 and sys.argv[1] == "--section":
+        return print_section(*sys.argv[2:])
+    if len(sys.argv) < 2 or sys.argv[1].startswith("-"):
+        sys.exit("usage: commands.py ROOT [PAGE..], or commands.py --section PAGE HEADING")
     root, began = pathlib.Path(sys.argv[1]).resolve(), time.monotonic()
     listed = [command for page in pages(root, sys.argv[2:]) for command in commands(page, (root / page).read_text(encoding="utf-8"))]
     before = status(root)

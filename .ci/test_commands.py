@@ -2,6 +2,7 @@
 """Tests of commands.py on planted pages: each kind of fault is found, and what a page shows rightly is none."""
 import pathlib
 import subprocess
+import sys
 import tempfile
 import unittest
 
@@ -43,6 +44,19 @@ class Parsed(unittest.TestCase):
         self.assertEqual([command.text for command in found], ["echo one && echo two", "seq 1 5", "export WORD=kept \\\n    MORE=too", "echo $WORD $MORE     # a comment"])
         self.assertEqual([command.shown for command in found], [["one", "two"], ["1", "..", "5"], [], ["kept too"]])
         self.assertEqual([command.line for command in found], [5, 9, 20, 22])
+
+    def test_the_shell_lines_of_a_section(self):
+        page = "# A\n\n## One\n\n```sh\nfirst\n\nsecond  # more\n```\n\nWords.\n\n```c\nint x;\n```\n\n```sh\nthird\n```\n\n## Two\n\n```sh\nother\n```\n"
+        self.assertEqual(commands.shell_lines(page, "One"), ["first", "", "second  # more", "third"])
+        self.assertEqual(commands.shell_lines(page, "Two"), ["other"])
+        self.assertEqual(commands.shell_lines(page, "Three"), [])
+        self.assertEqual(commands.shell_lines(page, "On"), [])
+
+    def test_a_section_without_a_block_is_a_fault(self):
+        script = pathlib.Path(commands.__file__)
+        told = subprocess.run([sys.executable, script, "--section", script.parent.parent / "docs/C.md", "Threads"], capture_output=True, text=True)
+        self.assertEqual((told.returncode, told.stdout), (1, ""))
+        self.assertIn("has no ```sh block below the heading Threads", told.stderr)
 
     def test_left_out_lines(self):
         self.assertTrue(commands.agrees(["a", "..", "d"], ["a", "b", "c", "d"]))
