@@ -26,7 +26,7 @@ KEY = r"(?:(?:D[123]|01|02|beside)\.[^\]\s|,]+|parts\.\d+)"
 WORDS = set(
     "rt cargo gcc g++ clang make ar objdump objcopy python3 git pip pkg-config rustc simp rw search requires ensures match pub fn use let else "
     "ghost self bool return static inline extern unsafe record data where Type typedef struct enum const abbrev unfoldable u8 u16 u32 u64 i32 "
-    "size_t uint8_t uint32_t int32_t uint64_t memcpy memset allow-holes libs cflags ldconfig".split()
+    "size_t uint8_t uint32_t int32_t uint64_t memcpy memset allow-holes libs cflags ldconfig must-fail".split()
 )
 CODE = {".rt", ".antt", ".rs", ".c", ".h", ".py", ".edit", ".toml", ".txt", ".md", ".box", ".sheet", ".stdout", ".svg", ".html", ".sh"}
 BUILT = ("target/", "lib")
