@@ -1,4 +1,8 @@
-"""Satmegwo from Python: the figures of substitution boxes, each proved to be the figure of its definition, and the counts behind them.
+"""Satmegwo from Python: the figures of S-boxes (substitution boxes), each proved to equal its definition, and the counts behind them.
+
+The field's names beside ours: combination: component function (output mask c); column: coordinate function; spectrum: Walsh spectrum, halved;
+`Box.lat`: LAT, its rows being output masks; `Box.ddt`: DDT, the XOR table; `Box.largest_cell`: differential uniformity; 2^n - 2d for the
+nonlinearity d: linearity; `Box.autocorrelation`: absolute indicator; `Box.degree`: the least algebraic degree over the component functions.
 
     >>> from satmegwo import Box
     >>> box = Box([3, 1, 4, 0, 2, 5, 6, 7], n=3, m=3)
@@ -8,11 +12,10 @@
     nonlinearity 0: c = 7, w = 7, b = 0, limit 3
     ...
 
-A refused call raises `Refusal`, with the number and the sentence of the documents.
+A refused call raises `Refusal`, with what was wrong, and the number (error code) and the sentence of the documents.
 """
-from .box import (
+from .answers import (
     Autocorrelation,
-    Box,
     Cell,
     Change,
     Combination,
@@ -25,9 +28,8 @@ from .box import (
     SumNonlinearity,
     SumPair,
     Swap,
-    sheet,
-    sum_nonlinearity,
 )
+from .box import Box, sheet
 from .explaining import Contradiction, Explanation
 from .functions import bent_function, enlarge_column, inverse_spectrum, normal_form, spectrum
 from .keeping import Catalogue, Design, Record, Server
@@ -35,6 +37,8 @@ from .library import MissingLibrary, version
 from .reading import Unreadable
 from .refusals import Refusal
 from .states import UnusableState
+from .sums import sum_nonlinearity
+from .tables import TooWide
 
 __version__ = "1.0.0"
 __all__ = [
@@ -60,6 +64,7 @@ __all__ = [
     "SumNonlinearity",
     "SumPair",
     "Swap",
+    "TooWide",
     "Unreadable",
     "UnusableState",
     "bent_function",

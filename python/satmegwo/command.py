@@ -14,7 +14,8 @@ import sys
 from typing import Any, Callable, Iterator, Optional, Sequence, Union
 
 from . import explaining, page, pictures, reading, sweeping, writing
-from .box import Box, sum_nonlinearity
+from .box import Box
+from .sums import sum_nonlinearity
 from .explaining import Contradiction
 from .library import MissingLibrary
 from .pictures import Undrawable

@@ -1,4 +1,4 @@
-"""Truth tables: the spectrum and the way back, the normal form, the enlargement of a column, the bent form."""
+"""Boolean functions as truth tables: Walsh spectrum and the way back, algebraic normal form, enlargement of a coordinate function, bent form."""
 from __future__ import annotations
 
 import collections.abc
@@ -6,6 +6,7 @@ import operator
 from typing import Iterable, Optional, SupportsIndex
 
 from .library import BYTES, MOST_INPUTS, SIGNED, call, lent, number, room
+from .refusals import Argument, ranged
 
 
 def width(count: int) -> int:
@@ -54,7 +55,10 @@ def _inputs(n: Optional[SupportsIndex], count: int) -> int:
 
 
 def spectrum(table: Iterable[SupportsIndex], n: Optional[int] = None) -> list[int]:
-    """The linear approximation values of a truth table, for w from 0: the inputs where it equals w·x, less 2^(n-1)."""
+    """Half the Walsh spectrum of a truth table, for w from 0: the inputs where it equals w·x, less 2^(n-1).
+
+    These are its linear approximation values; the Walsh value is twice as much.
+    """
     values = truth_values(table)
     inputs = _inputs(n, len(values))
     out = room(SIGNED, _size(inputs))
@@ -63,7 +67,7 @@ def spectrum(table: Iterable[SupportsIndex], n: Optional[int] = None) -> list[in
 
 
 def inverse_spectrum(values: Iterable[SupportsIndex], n: Optional[int] = None) -> list[int]:
-    """The truth table that has these linear approximation values; refused by 8 where no function has them."""
+    """The inverse of the Walsh spectrum: the truth table that has these halves of it; refused by 8 where no function has them."""
     # No function has a value above 128, so one that does not fit 32 bits is handed over as another that no function has.
     fitting = [value if -(2**31) <= value < 2**31 else 2**31 - 1 for value in wholes(values, "the value at w")]
     inputs = _inputs(n, len(fitting))
@@ -73,7 +77,7 @@ def inverse_spectrum(values: Iterable[SupportsIndex], n: Optional[int] = None) -
 
 
 def normal_form(table: Iterable[SupportsIndex], n: Optional[int] = None) -> list[int]:
-    """The coefficients of a truth table's algebraic normal form, for u from 0; of coefficients, the truth table."""
+    """The algebraic normal form (ANF) of a truth table: its coefficients, for u from 0; of coefficients, the truth table."""
     values = truth_values(table)
     inputs = _inputs(n, len(values))
     out = room(BYTES, _size(inputs))
@@ -84,11 +88,12 @@ def normal_form(table: Iterable[SupportsIndex], n: Optional[int] = None) -> list
 def enlarge_column(
     table: Iterable[SupportsIndex], k: SupportsIndex, a: SupportsIndex, n: Optional[int] = None
 ) -> list[int]:
-    """A column with one more input (document 000): the table, and behind it the table with input k flipped, XOR a."""
+    """A coordinate function with one more input (document 000): the table, and behind it the table with input k flipped, XOR a."""
     values = truth_values(table)
     inputs = _inputs(n, len(values))
     out = room(BYTES, 2 * _size(inputs))
-    call("enlarge_column", inputs, lent(BYTES, values), number(k), number(a, 2), out)
+    with ranged(Argument("the input k", k, 1, inputs), Argument("the constant a", a, 0, 1)):
+        call("enlarge_column", inputs, lent(BYTES, values), number(k), number(a, 2), out)
     return list(out)
 
 

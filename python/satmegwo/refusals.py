@@ -1,5 +1,9 @@
-"""The numbered refusals of documents 01 and 02 as an exception."""
+"""The numbered refusals (error codes) of documents 01 and 02 as an exception."""
 from __future__ import annotations
+
+import contextlib
+import operator
+from typing import Callable, Iterator, NamedTuple, SupportsIndex
 
 # The sentences of include/satmegwo.h.
 SENTENCES: dict[int, str] = {
@@ -35,4 +39,40 @@ class Refusal(Exception):
         super().__init__(number, detail)
 
     def __str__(self) -> str:
-        return f"refused {self.number}: {self.sentence}" + (f"; {self.detail}" if self.detail else "")
+        if self.detail:
+            return f"{self.detail} (refused {self.number}: {self.sentence})"
+        return f"{self.sentence} (refused {self.number})"
+
+
+@contextlib.contextmanager
+def detailed(detail: Callable[[int], str]) -> Iterator[None]:
+    """Meanwhile a refusal that says nothing of its own is told with what `detail` says of its number."""
+    try:
+        yield
+    except Refusal as refusal:
+        if refusal.detail:
+            raise
+        raise Refusal(refusal.number, detail(refusal.number)) from None
+
+
+class Argument(NamedTuple):
+    """An argument of a call: what it is, the value that is given, and the range in which it must be."""
+
+    name: str
+    value: SupportsIndex
+    least: int
+    most: int
+
+
+def outside(number: int, *arguments: Argument) -> str:
+    """Of refusal 6: the first argument that is outside its range, and the range."""
+    for name, value, least, most in arguments:
+        given = operator.index(value)
+        if number == 6 and not least <= given <= most:
+            return f"{name} is {given}, and must be " + (f"{least} to {most}" if least < most else f"{least}")
+    return ""
+
+
+def ranged(*arguments: Argument) -> contextlib.AbstractContextManager[None]:
+    """Meanwhile refusal 6 is told with the argument that is outside its range."""
+    return detailed(lambda number: outside(number, *arguments))

@@ -1,4 +1,5 @@
 """Boxes and figures: the stored sheets, document 01's cases, tables against their figures, and ways back."""
+import hashlib
 import random
 import unittest
 import unittest.mock
@@ -139,6 +140,55 @@ class Tables(unittest.TestCase):
             self.assertEqual(box.normal_form(c), [definitions.ones_within(table, u) % 2 for u in range(64)])
 
 
+class WholeTables(unittest.TestCase):
+    """Every value of the whole tables, counted by the definition; and where no whole table is given."""
+
+    def boxes(self):
+        chance = random.Random(5)
+        for n, m in ((1, 1), (2, 5), (3, 3), (4, 4), (5, 2)):
+            yield Box([chance.randrange(2**m) for _ in range(2**n)], n, m)
+
+    def test_lat(self):
+        for box in self.boxes():
+            half, masks = 2 ** (box.n - 1), range(2**box.n)
+            functions = [definitions.combination(box.rows, c) for c in range(2**box.m)]
+            affine = [definitions.affine(box.n, w, 0) for w in masks]
+            counted = [[half - len(definitions.unlike(one, other)) for other in affine] for one in functions]
+            self.assertEqual(box.lat(), counted)
+
+    def test_ddt(self):
+        for box in self.boxes():
+            counted = [[0] * 2**box.m for _ in range(2**box.n)]
+            for a in range(2**box.n):
+                for x in range(2**box.n):
+                    counted[a][box(x) ^ box(x ^ a)] += 1
+            self.assertEqual(box.ddt(), counted)
+
+    def test_autocorrelation(self):
+        for box in self.boxes():
+            counted = []
+            for c in range(2**box.m):
+                values = definitions.combination(box.rows, c)
+                changing = [len(definitions.unlike(values, definitions.flipped(values, s))) for s in range(2**box.n)]
+                counted.append([2**box.n - 2 * count for count in changing])
+            self.assertEqual(box.autocorrelation_table(), counted)
+            largest = max(abs(value) for row in counted[1:] for value in row[1:])
+            self.assertEqual(box.autocorrelation(box.m).figure, largest)
+
+    def test_distances(self):
+        for box in self.boxes():
+            affine = [definitions.affine(box.n, w, b) for w in range(2**box.n) for b in (0, 1)]
+            functions = [definitions.combination(box.rows, c) for c in range(2**box.m)]
+            self.assertEqual(box.distances(), [min(len(definitions.unlike(one, other)) for other in affine) for one in functions])
+
+    def test_no_whole_table_above_16_outputs(self):
+        widest, wide = Box([0, 65535], n=1, m=16), Box([0, 1], n=1, m=17)
+        for name in ("lat", "ddt", "autocorrelation_table", "distances"):
+            self.assertEqual(len(getattr(widest, name)()), 2 if name == "ddt" else 2**16, name)
+            with self.assertRaisesRegex(satmegwo.TooWide, "is given whole up to 16 outputs, and this box has 17: "):
+                getattr(wide, name)()
+
+
 class WaysBack(unittest.TestCase):
     def test_all_widths(self):
         chance = random.Random(2)
@@ -164,9 +214,18 @@ class WaysBack(unittest.TestCase):
         self.assertEqual(eval(repr(EXAMPLE)), EXAMPLE)
         self.assertEqual(len({EXAMPLE, Box(EXAMPLE.rows, n=3, m=3), Box(EXAMPLE.rows, n=3, m=4)}), 2)
         self.assertEqual([EXAMPLE(x) for x in range(8)], list(EXAMPLE.rows))
+        self.assertEqual(([EXAMPLE[x] for x in range(8)], list(EXAMPLE), len(EXAMPLE)), (list(EXAMPLE.rows), list(EXAMPLE.rows), 8))
         for outside in (-1, 8):
             with self.assertRaises(IndexError):
                 EXAMPLE(outside)
+            with self.assertRaises(IndexError):
+                EXAMPLE[outside]
+        for wrong in (1.0, "1", slice(0, 2)):
+            with self.assertRaises(TypeError):
+                EXAMPLE[wrong]
+        same, other = Box(EXAMPLE.rows, n=3, m=3, name="same"), Box(EXAMPLE.rows, n=3, m=4)
+        self.assertEqual(EXAMPLE.sha256, hashlib.sha256(EXAMPLE.to_bytes()).hexdigest())
+        self.assertEqual((same.sha256 == EXAMPLE.sha256, other.sha256 == EXAMPLE.sha256), (True, False))
         with self.assertRaises(AttributeError):
             EXAMPLE.rows = (0, 1)
 

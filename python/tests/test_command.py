@@ -120,7 +120,7 @@ class Command(unittest.TestCase):
         self.failed(
             1,
             run("sheet", "-", "-n", "3", "-m", "2", given=ROWS),
-            "refused 4: a row is not below 2^m, or a truth value is above 1; the row for input 2 is 4",
+            "-: the row for input 2 is 4, and 2 outputs end at 3 (refused 4: a row is not below 2^m, or a truth value is above 1)\n",
         )
         self.failed(1, run("sheet", "-", "-n", "4", "-m", "3", given=ROWS), "refused 3")
         self.failed(1, run("sheet", "-", "-n", "9", "-m", "3", given=ROWS), "refused 1")
@@ -131,8 +131,8 @@ class Command(unittest.TestCase):
         )
 
     def test_unreadable(self):
-        self.failed(2, run("sheet", "-", given=ROWS), "state n")
-        self.failed(2, run("sheet", "-", "-n", "3", given=ROWS), "state m")
+        self.failed(2, run("sheet", "-", given=ROWS), "how many inputs the box has: state it (in the command -n or --inputs)")
+        self.failed(2, run("sheet", "-", "-n", "3", given=ROWS), "how many outputs the box has: state it (in the command -m or --outputs)")
         self.failed(2, run("sheet", "-", "-n", "1", "-m", "1", given=b"#NUM! 1"), "line 1, number 1: #NUM!")
         self.failed(2, run("sheet", "-", "-n", "1", "-m", "1", given=b"1 " * 600_000), "longer than")
         self.failed(2, run("sheet", "-", "-n", "1", "-m", "1"), "nothing in it")

@@ -3,36 +3,21 @@ import doctest
 import importlib.util
 import inspect
 import pathlib
+import pkgutil
 import subprocess
 import sys
 import tempfile
 import unittest
 
 import satmegwo
-from satmegwo import (
-    command,
-    definitions,
-    explaining,
-    functions,
-    library,
-    page,
-    pictures,
-    progress,
-    reading,
-    refusals,
-    states,
-    svg,
-    sweeping,
-    theorems,
-    writing,
-)
 
 from .places import PACKAGE, ROOT
 
-MODULES = (
-    satmegwo.box, command, definitions, explaining, functions, satmegwo.keeping, library, page, pictures, progress, reading,
-    refusals, states, svg, sweeping, theorems, writing,
-)  # fmt: skip
+MODULES = [
+    importlib.import_module(f"satmegwo.{found.name}")
+    for found in pkgutil.iter_modules(satmegwo.__path__)
+    if found.name != "__main__"
+]
 
 
 @unittest.skipUnless(importlib.util.find_spec("pip"), "this Python has no pip")

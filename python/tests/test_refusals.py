@@ -24,14 +24,73 @@ class Refusals(unittest.TestCase):
     def test_a_refusal_says_what_met_its_condition(self):
         self.assertEqual(
             self.refused(4, Box, EIGHT[:7] + [8], n=3, m=3),
-            "refused 4: a row is not below 2^m, or a truth value is above 1; the row for input 7 is 8, and 3 outputs end at 7",
+            "the row for input 7 is 8, and 3 outputs end at 7 (refused 4: a row is not below 2^m, or a truth value is above 1)",
         )
         self.assertIn("7 rows are given, and 3 inputs need 8", self.refused(3, Box, EIGHT[:7], n=3, m=3))
         self.assertIn("n is 9", self.refused(1, Box, EIGHT, n=9, m=3))
         self.assertIn("m is 33", self.refused(2, Box, EIGHT, n=3, m=33))
         self.assertIn("a text and no box file", self.refused(1, Box.from_bytes, b"3 1 4 0 2 5 6 7"))
+        self.assertIn("1 row is given, and 1 input needs 2", self.refused(3, Box, [0], n=1, m=1))
+        self.assertEqual(str(Refusal(8)), "no function has this spectrum (refused 8)")
         kept = pickle.loads(pickle.dumps(Refusal(4, "here")))
         self.assertEqual((kept.number, kept.detail), (4, "here"))
+
+    def test_refused_files_and_columns_say_what_met_the_condition(self):
+        for number, words, data in (
+            (10, "it has 0 bytes", b""),
+            (10, "it has 1 byte", b"\3"),
+            (10, "it has 3 bytes, and a box file of 3 inputs has 34", b"\3\3\0"),
+            (1, "n is 0, and must be 1 to 8", bytes([0, 1, 0, 0, 0, 0])),
+            (2, "m is 33, and must be 1 to 32", bytes([1, 33]) + bytes(8)),
+            (4, "the row for input 1 is 258, and 8 outputs end at 255", bytes([1, 8, 0, 0, 0, 0, 2, 1, 0, 0])),
+        ):
+            self.assertEqual(self.refused(number, Box.from_bytes, data).split(" (refused ")[0], words)
+        for number, words, packed, n, m in (
+            (1, "n is 9, and must be 1 to 8", b"", 9, 1),
+            (2, "m is 0, and must be 1 to 32", b"", 1, 0),
+            (3, "it has 1 byte, and 2 columns of 4 inputs need 4 bytes", b"a", 4, 2),
+            (16, "the byte of column 2 is 16, and only its lowest 4 bits may be set", b"\1\x10", 2, 2),
+        ):
+            self.assertEqual(self.refused(number, Box.from_packed, packed, n, m).split(" (refused ")[0], words)
+
+    def test_refusal_6_names_the_argument_and_its_range(self):
+        box = example("des-s1")
+        limit, flips = "the limit i is {}, and must be 1 to 4", "the number j of flipped inputs is {}, and must be 1 to 6"
+        combination, mask = "the combination c is {}, and must be 1 to 15", "the mask w is {}, and must be 0 to 63"
+        for value in (-1, 2**40, 64):
+            for words, call, arguments in (
+                (limit, box.nonlinearity, [value]),
+                (limit, box.nearest_pairs, [value]),
+                (limit, box.autocorrelation, [value]),
+                (limit, box.degree, [value]),
+                (limit, box.dynamic_distance, [value, 0]),
+                (flips, box.dynamic_distance, [4, value]),
+                (limit, satmegwo.sum_nonlinearity, [[box, box], value]),
+                (combination, box.spectrum, [value]),
+                (combination, box.combination, [value]),
+                (combination, box.normal_form, [value]),
+                ("the input difference a is {}, and must be 1 to 63", box.xor_row, [value]),
+                ("the column j is {}, and must be 1 to 4", box.add_to_column, [value, 0, 0]),
+                (mask, box.add_to_column, [4, value, 2]),
+                ("the constant b is {}, and must be 0 to 1", box.add_to_column, [4, 63, value]),
+                ("the input x is {}, and must be 0 to 63", box.swapped, [value, value]),
+                ("the input y is {}, and must be 0 to 63", box.swapped, [0, value]),
+                ("the input k is {}, and must be 1 to 3", Box(EIGHT, 3, 3).enlarge, [8 * [0], value]),
+                ("the input k is {}, and must be 1 to 3", satmegwo.enlarge_column, [8 * [0], value, 0]),
+                ("the constant a is {}, and must be 0 to 1", satmegwo.enlarge_column, [8 * [0], 1, value]),
+            ):
+                told = self.refused(6, call, *arguments)
+                self.assertEqual(told.split(" (refused 6: ")[0], words.format(value))
+        self.assertIn("the limit i is 2, and must be 1 (refused 6", self.refused(6, Box([0, 1], n=1, m=1).bic))
+
+    def test_other_refusals_say_what_met_the_condition(self):
+        box, other = Box(EIGHT, n=3, m=3), Box([0, 1], n=1, m=1)
+        self.assertIn("5 boxes are given, and must be 1 to 4 (", self.refused(11, satmegwo.sum_nonlinearity, 5 * [box]))
+        self.assertIn("the boxes have 3, 1 outputs", self.refused(12, satmegwo.sum_nonlinearity, [box, other]))
+        self.assertIn("the box has 9 outputs", self.refused(2, Box(EIGHT, n=3, m=9).raising_swap))
+        self.assertIn("the box has 17 outputs", self.refused(2, Box(EIGHT, n=3, m=17).xor_row, 0))
+        with self.assertRaisesRegex(TypeError, "a list of boxes"):
+            satmegwo.sum_nonlinearity(box)
 
     def test_boxes(self):
         self.refused(1, Box, EIGHT, n=0, m=3)
