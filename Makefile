@@ -3,7 +3,8 @@
 #   make                        the four archives and the program boxsheet, proved by `rt` where they are missing or a source of theirs was
 #                               changed, and the shared library
 #   make shared                 the shared library alone, target/lib/libsatmegwo.so: the calls of all four archives
-#   make install PREFIX=/usr    headers, archives, shared library, boxsheet and the file satmegwo.pc for pkg-config (/usr/local if nothing is said)
+#   make install PREFIX=/usr    headers, archives, shared library, boxsheet, the file satmegwo.pc for pkg-config, the manual pages, the completion of bash
+#                               and the licence (/usr/local if nothing is said)
 #   make stale                  says which of the archives and boxsheet are older than a source of theirs, and makes nothing
 #
 # All of it is for Linux on x86-64.
@@ -18,6 +19,7 @@ ARCHIVES = $(LIBRARIES:%=target/staticlib/lib%.a)
 HEADERS = $(LIBRARIES:%=include/%.h)
 SHARED = target/lib/libsatmegwo.so
 PROGRAM = target/bin/boxsheet
+MANUAL = docs/man/boxsheet.1 docs/man/satmegwo.1
 
 # The version stands in the header.
 number = $(shell sed -n 's/^.define SATMEGWO_VERSION_$(1) //p' include/satmegwo.h)
@@ -89,6 +91,10 @@ install: all
 	ln -sf libsatmegwo.so.$(MAJOR) $(TO)/lib/libsatmegwo.so
 	install -m 755 $(PROGRAM) $(TO)/bin
 	echo "$$PKG_CONFIG" > $(TO)/lib/pkgconfig/satmegwo.pc
+	install -d $(TO)/share/man/man1 $(TO)/share/bash-completion/completions $(TO)/share/doc/satmegwo
+	install -m 644 $(MANUAL) $(TO)/share/man/man1
+	install -m 644 python/completion.bash $(TO)/share/bash-completion/completions/satmegwo
+	install -m 644 LICENSE $(TO)/share/doc/satmegwo
 
 # Two runs of `rt` would prove the same crates twice.
 .NOTPARALLEL:
