@@ -44,9 +44,9 @@ class Combination(NamedTuple):
 
 
 class Nonlinearity(NamedTuple):
-    """The nonlinearity: the least number of inputs in which a component function within the limit differs from an affine function.
+    """The nonlinearity d, which makes the linearity (the largest Walsh value) 2^n - 2d, and the first pair that reaches it.
 
-    The witness is the first pair that reaches it. The linearity of the S-box, its largest Walsh value, is 2^n - 2 * figure.
+    It is the least number of inputs in which a component function within the limit differs from an affine function.
     """
 
     figure: int

@@ -251,7 +251,9 @@ class Box:
         state: Union[None, str, os.PathLike[str]] = None,
         workers: Optional[int] = None,
     ) -> Nonlinearity:
-        """The nonlinearity over the component functions of at most i outputs; without i with the sheet's limit. (Linearity: 2^n - 2d.)
+        """The nonlinearity d over the component functions of at most i outputs, so that the linearity within them is 2^n - 2d.
+
+        Without i it is that within the sheet's limit.
 
         Where there are many combinations they are swept in parts of about a second, and Ctrl-C is heard: on all cores, or on `workers`
         threads, or by any `executor` of concurrent.futures, of processes or of a cluster. `progress` is True for a line on standard error,

@@ -1,6 +1,8 @@
 """The commands that list, improve and pack; numbers and long names of options; what goes to a terminal."""
 import os
 import pathlib
+import re
+import shlex
 import subprocess
 import sys
 import tempfile
@@ -143,6 +145,11 @@ class Options(unittest.TestCase):
         self.assertIn("is no order, such as 2,1", run("distance", DES, "--order", "2").stderr.decode())
         self.assertIn("0 is less than 1", run("sheet", DES, "-j", "0").stderr.decode())
         self.assertIn("the limit i is -1, and must be 1 to 4", run("sheet", DES, "--limit", "-1").stderr.decode())
+
+    def test_the_lines_of_the_read_me_file(self):
+        lines = re.findall(r"^    \$ satmegwo (.*)$", (PACKAGE / "README.md").read_text(encoding="utf-8"), re.MULTILINE)
+        asked = [command.parser().parse_args(shlex.split(line, comments=True)) for line in lines]
+        self.assertEqual({args.command for args in asked} | {"xor", "spectrum", "counts"}, set(COMMANDS))
 
     def test_the_name_of_the_program(self):
         for name, told in (("/usr/bin/satmegwo", "satmegwo"), ("/x/satmegwo/__main__.py", "python3 -m satmegwo")):
