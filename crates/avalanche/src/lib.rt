@@ -81,18 +81,18 @@ pub fn check_distance_part(
     masks::check_part(m, low, high)
 }
 
-// Each value is replaced by the square of its double.
-fn square_all(values: &mut [i32])
-    requires { ⌜ ((k : ℕ) → natAbs (valueAt (now values) k) ≤ 128) ⌝ }
-    ensures { λ _. ⌜ now (values .exit)
+// The square of each value's double, which a 16-bit value may not hold.
+fn square_all(values: &[i16], squares: &mut [i32])
+    requires { ⌜ ((k : ℕ) → natAbs (valueAt (now values) k) ≤ 128) × (length (now squares) ≡ length (now values)) ⌝ }
+    ensures { λ _. ⌜ now (squares .exit)
         ≡ listBelow (length (now (values .entry)))
         (λ k. pos (square (valueAt (now (values .entry)) k +ℤ valueAt (now (values .entry)) k))) ⌝ }
 {
     let mut k = 0;
     while k < values.len() {
-        let value = values[k];
+        let value = values[k] as i32;
         let double = value + value;
-        values[k] = double * double;
+        squares[k] = double * double;
         k += 1;
     }
 }
@@ -106,13 +106,15 @@ fn correlate(
     rows: &[u32],
     c: u64,
     table: &[u8],
+    work: &mut [i16],
     values: &mut [i32],
 )
-    requires { ⌜ PairsSwept n m (now rows) (now table) (now values) × Spectra (now fixed) × (now table ≡ truthTable n (now rows) c) ⌝ }
-    ensures { λ _. ⌜ now (values .exit) ≡ correlations n (now (rows .entry)) c ⌝ }
+    requires { ⌜ PairsSwept n m (now rows) (now table) (now work) × Spectra (now fixed) × (now table ≡ truthTable n (now rows) c)
+        × (length (now values) ≡ 2 ^ n) ⌝ }
+    ensures { λ _. ⌜ (now (values .exit) ≡ correlations n (now (rows .entry)) c) × AnyContent (now (work .entry)) (now (work .exit)) ⌝ }
 {
-    walsh::descend(fixed, n, table, values);
-    square_all(values);
+    walsh::short_spectrum(fixed, n, table, work);
+    square_all(work, values);
     walsh::transform(n, values);
 }
 
@@ -126,15 +128,16 @@ fn next_correlation(
     last: u64,
     c: u64,
     table: &mut [u8],
+    work: &mut [i16],
     values: &mut [i32],
 )
-    requires { ⌜ PairsSwept n m (now rows) (now table) (now values) × Spectra (now fixed)
-        × Stepping m (now rows) (now steps) last c (now table) ⌝ }
+    requires { ⌜ PairsSwept n m (now rows) (now table) (now work) × Spectra (now fixed)
+        × Stepping m (now rows) (now steps) last c (now table) × (length (now values) ≡ 2 ^ n) ⌝ }
     ensures { λ _. ⌜ (now (values .exit) ≡ correlations n (now (rows .entry)) c)
-        × (now (table .exit) ≡ truthTable n (now (rows .entry)) c) ⌝ }
+        × (now (table .exit) ≡ truthTable n (now (rows .entry)) c) × AnyContent (now (work .entry)) (now (work .exit)) ⌝ }
 {
     masks::next_component(m, rows, steps, last, c, table);
-    correlate(fixed, n, m, rows, c, table, values);
+    correlate(fixed, n, m, rows, c, table, work, values);
 }
 
 // One change more: it is listed where it has at most j ones.
@@ -323,28 +326,28 @@ fn sweep(
     last: u32,
     steps: &mut [u8],
     table: &mut [u8],
+    work: &mut [i16],
     values: &mut [i32],
 ) -> FoundChange
-    requires { ⌜ PairsSwept n m (now rows) (now table) (now values) × Spectra (now fixed)
+    requires { ⌜ PairsSwept n m (now rows) (now table) (now work) × Spectra (now fixed)
         × (length (now steps) ≡ m * length (now rows)) × (1 ≤ i) × (1 ≤ j) × (j < n → Listed j (2 ^ n) (now list))
-        × PartSwept m i first last ⌝ }
+        × PartSwept m i first last × (length (now values) ≡ 2 ^ n) ⌝ }
     ensures { λ r. ⌜ (changeCandidate r ≡ firstLargest (measuredBetween n m i j first last (correlated n (now (rows .entry)))))
-        × (now (steps .exit) ≡ stepTables m (now (rows .entry)))
-        × AnyContent (now (table .entry)) (now (table .exit)) × AnyContent (now (values .entry)) (now (values .exit)) ⌝ }
+        × (now (steps .exit) ≡ stepTables m (now (rows .entry))) × AnyContent (now (table .entry)) (now (table .exit))
+        × AnyContent (now (work .entry)) (now (work .exit)) × AnyContent (now (values .entry)) (now (values .exit)) ⌝ }
 {
     masks::write_steps(m, rows, steps);
-    let prior = first - 1;
-    masks::write_component(rows, prior, table);
+    masks::write_component(rows, first - 1, table);
     let end = last as u64 + 1;
     let mut found = FoundChange {
         figure: 0,
         c: first,
         s: 1,
     };
-    let mut before = prior as u64;
     let mut c = first as u64;
+    let mut before = c - 1;
     while c < end {
-        next_correlation(fixed, n, m, rows, steps, before, c, table, values);
+        next_correlation(fixed, n, m, rows, steps, before, c, table, work, values);
         found = with_correlation(found, n, m, rows, j, list, c as u32, values);
         before = c;
         c = masks::next_mask(i, c);
@@ -370,6 +373,7 @@ fn largest_correlation(
     let mut list = [0u32; 256];
     let mut steps = [0u8; 8192];
     let mut table = [0u8; 256];
+    let mut work = [0i16; 256];
     let mut values = [0i32; 256];
     let size = rows.len();
     let count = list_changes(n, j, &mut list[..size]);
@@ -386,6 +390,7 @@ fn largest_correlation(
         last,
         &mut steps[..total],
         &mut table[..size],
+        &mut work[..size],
         &mut values[..size],
     )
 }

@@ -228,6 +228,14 @@ pub fn transform(n: u32, values: &mut [i32])
     }
 }
 
+// The spectrum of an accepted table in 16-bit values, for callers that go on with its values: the autocorrelation squares them.
+pub fn short_spectrum(fixed: &[i16; 2048], n: u32, table: &[u8], out: &mut [i16])
+    requires { ⌜ Ready n (now table) (now out) × Spectra (now fixed) ⌝ }
+    ensures { λ _. ⌜ now (out .exit) ≡ functions.spectrum n (at (now (table .entry))) ⌝ }
+{
+    narrow::descend(fixed, n, table, out);
+}
+
 // The spectrum of a truth table.
 pub fn spectrum(n: u32, table: &[u8], out: &mut [i32]) -> Written
     ensures { λ r. ⌜ SpectrumCalled n (now (table .entry)) (now (out .entry)) r (now (out .exit)) ⌝ }

@@ -5,13 +5,14 @@ use Prim.Native.Nat.{ℕ}
 use Rattle.boolean.specs.Functions.{at, component, spectrum}
 use Rattle.refusals.specs.Table.{Table}
 use Rattle.linear.proofs.Components.{table-is, table-spectrum}
+use Rattle.linear.proofs.Nearest.{values-length}
 use Rattle.avalanche.proofs.Correlating.{spectrum-small, squares-summable, squares-correlate}
 use borrow.Author.Needs.{needs}
 use Rattle.avalanche.proofs.correlate.Statement.{statement}
 use Rattle.avalanche.proofs.correlate.Tie as tie
 
-descend-requires : tie.Need-descend-requires
-descend-requires c κs =
+short-spectrum-requires : tie.Need-short-spectrum-requires
+short-spectrum-requires c κs =
     let start = c .before .before .before in
     let a = start .args in (
       record {
@@ -21,26 +22,28 @@ descend-requires c κs =
       start .pre .1,
     )
 
--- the spectrum of the truth table is the spectrum-is
-spectrum-is : (c : tie.After-descend) →
+-- the spectrum of the truth table is the component's
+spectrum-is : (c : tie.After-short-spectrum) →
     let start = c .before .before .before .before in
-    c .descend .last .1 .1 .1 .0 ≡ spectrum (start .args .n) (component (start .args .rows .now) (start .args .c))
+    c .short-spectrum .last .1 .1 .1 .0 ≡ spectrum (start .args .n) (component (start .args .rows .now) (start .args .c))
 spectrum-is c =
     let start = c .before .before .before .before in
     let a = start .args in
-    c .descend .ensures ∙ ap (λ (t : List ℕ). spectrum (a .n) (at t)) (start .pre .2) ∙ table-spectrum (a .n) (a .rows .now) (a .c)
+    c .short-spectrum .ensures ∙ ap (λ (t : List ℕ). spectrum (a .n) (at t)) (start .pre .2) ∙ table-spectrum (a .n) (a .rows .now) (a .c)
 
 square-all-requires : tie.Need-square-all-requires
 square-all-requires c κs =
-    let done = c .before .before in
+    let done = c .before .before .before in
     let start = done .before .before .before .before in
-    let a = start .args in
-    spectrum-small (a .n) (a .rows .now) (a .c) (start .pre .0 .box .n-low) (start .pre .0 .box .n-high) (spectrum-is done)
+    let a = start .args in (
+      spectrum-small (a .n) (a .rows .now) (a .c) (start .pre .0 .box .n-low) (start .pre .0 .box .n-high) (spectrum-is done),
+      start .pre .3 ∙ sym (values-length (a .n) (a .rows .now) (a .c) (spectrum-is done)),
+    )
 
 transform-requires : tie.Need-transform-requires
 transform-requires c κs =
     let squared = c .before .before in
-    let done = squared .before .before .before in
+    let done = squared .before .before .before .before in
     let start = done .before .before .before .before in
     let a = start .args in
     squares-summable (a .n) (a .rows .now) (a .c) (start .pre .0 .box .n-low) (start .pre .0 .box .n-high) (spectrum-is done) (squared .square-all .ensures)
@@ -48,13 +51,15 @@ transform-requires c κs =
 returns : tie.Need-returns
 returns c =
     let squared = c .before .before .before .before in
-    let done = squared .before .before .before in
+    let done = squared .before .before .before .before in
     let start = done .before .before .before .before in
-    let a = start .args in
-    c .before .transform .ensures
-    ∙ squares-correlate (a .n) (a .rows .now) (a .c) (start .pre .0 .box .n-low) (start .pre .0 .box .n-high) (spectrum-is done) (squared .square-all .ensures)
+    let a = start .args in (
+      c .before .transform .ensures
+          ∙ squares-correlate (a .n) (a .rows .now) (a .c) (start .pre .0 .box .n-low) (start .pre .0 .box .n-high) (spectrum-is done) (squared .square-all .ensures),
+      values-length (a .n) (a .rows .now) (a .c) (spectrum-is done) ∙ sym (start .pre .0 .out-size),
+    )
 
 pub correlate-spec : {M : Type 1} → statement M
 correlate-spec =
     tie.close
-    (tie.spec descend-requires square-all-requires transform-requires (λ c. search needs) returns)
+    (tie.spec short-spectrum-requires square-all-requires transform-requires (λ c. search needs) (λ c. search needs) returns)

@@ -48,9 +48,12 @@ slice-aggregate-sweep-3 c = sym (length-take-le _ _ (c .before .before .before .
 slice-aggregate-sweep-4 : tie.Need-slice-aggregate-sweep-4
 slice-aggregate-sweep-4 c = sym (length-take-le _ _ (c .before .before .before .before .before .before .before .before .before .before .pre .0 .small))
 
+slice-aggregate-sweep-5 : tie.Need-slice-aggregate-sweep-5
+slice-aggregate-sweep-5 c = sym (length-take-le _ _ (c .before .before .before .before .before .before .before .before .before .before .before .pre .0 .small))
+
 sweep-requires : tie.Need-sweep-requires
 sweep-requires c κs =
-    let called = c .before .before .before .before .before .before in
+    let called = c .before .before .before .before .before .before .before in
     let pre = called .before .before .before .before .pre in
     let b = pre .0 in (
       record { box = b; table-size = length-take-le _ _ (b .small) ∙ b .size; out-size = length-take-le _ _ (b .small) ∙ b .size },
@@ -60,6 +63,7 @@ sweep-requires c κs =
       pre .2,
       λ l. subst (Listed _ _) (sym (take-append-le _ _ _ (few called))) (called .list-changes .ensures .1 l),
       pre .3,
+      length-take-le _ _ (b .small) ∙ b .size,
     )
 
 pub largest-correlation-spec : {M : Type 1} → statement M
@@ -67,4 +71,5 @@ largest-correlation-spec =
     tie.close
     (tie.spec (λ c κs. search needs) (λ c. search needs) slice-aggregate-list-changes list-changes-requires mul-total
     array-share-prefix-list slice-aggregate-sweep array-borrow-prefix-steps slice-aggregate-sweep-2 (λ c. search needs)
-    slice-aggregate-sweep-3 (λ c. search needs) slice-aggregate-sweep-4 sweep-requires (λ c. search needs))
+    slice-aggregate-sweep-3 (λ c. search needs) slice-aggregate-sweep-4 (λ c. search needs) slice-aggregate-sweep-5 sweep-requires
+    (λ c. search needs))

@@ -19,17 +19,18 @@ truth c =
 
 correlate-requires : tie.Need-correlate-requires
 correlate-requires c κs =
-    let next = c .before .before .before .before in
+    let next = c .before .before .before .before .before in
     let start = next .before .before .before .before .before in (
       record { box = start .pre .0 .box; table-size = ap length (truth next) ∙ length-listBelow _ _; out-size = start .pre .0 .out-size },
       start .pre .1,
       truth next,
+      start .pre .3,
     )
 
 returns : tie.Need-returns
-returns c = (c .before .correlate .ensures, truth (c .before .before .before .before .before .before))
+returns c = let done = c .before .before in (done .correlate .ensures .0, truth (done .before .before .before .before .before .before), done .correlate .ensures .1)
 
 pub next-correlation-spec : {M : Type 1} → statement M
 next-correlation-spec =
     tie.close
-    (tie.spec (λ c κs. search needs) correlate-requires (λ c. search needs) (λ c. search needs) returns)
+    (tie.spec (λ c κs. search needs) correlate-requires (λ c. search needs) (λ c. search needs) (λ c. search needs) returns)
