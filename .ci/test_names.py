@@ -153,6 +153,11 @@ class Names(unittest.TestCase):
     def test_the_landings_are_records(self):
         self.assertNotIn("docs/landings/01-old.md", names.pages(names.Tree(FILES)))
 
+    def test_the_table_of_their_names_is_true(self):
+        self.assertEqual(names.faults(names.Tree({**FILES, "docs/landings/README.md": "| gone-long-ago | `linear` |\n"})), names.faults(names.Tree(FILES)))
+        found = names.faults(names.Tree({**FILES, "docs/landings/README.md": "| old | `gone-long-ago` |\n"}))
+        self.assertTrue(any("docs/landings/README.md:1: no gone-long-ago" in fault for fault in found), found)
+
     def test_a_dead_name_in_a_header(self):
         self.one_fault("satmegwo_degree", header=HEADER.replace("See satmegwo_nonlinearity", "See satmegwo_degree"))
         self.one_fault("SATMEGWO_ROOM", header=HEADER.replace("Stack: SATMEGWO_STACK", "Stack: SATMEGWO_ROOM"))
