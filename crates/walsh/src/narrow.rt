@@ -115,12 +115,16 @@ fn one_twenty_eight(fixed: &[i16; 2048], table: &[u8], out: &mut [i16])
     butterfly(out, 64);
 }
 
-// Up to five inputs, by the one that is written out for their number.
+// Up to seven inputs, by the one that is written out for their number.
 fn at_once(fixed: &[i16; 2048], n: u32, table: &[u8], out: &mut [i16])
-    requires { ⌜ (n ≤ 5) × Ready n (now table) (now out) × Spectra (now fixed) ⌝ }
+    requires { ⌜ (n ≤ 7) × Ready n (now table) (now out) × Spectra (now fixed) ⌝ }
     ensures { λ _. ⌜ now (out .exit) ≡ functions.spectrum n (at (now (table .entry))) ⌝ }
 {
-    if n == 5 {
+    if n == 7 {
+        one_twenty_eight(fixed, table, out);
+    } else if n == 6 {
+        sixty_four(fixed, table, out);
+    } else if n == 5 {
         thirty_two(fixed, table, out);
     } else if n == 4 {
         sixteen(fixed, table, out);
@@ -128,6 +132,22 @@ fn at_once(fixed: &[i16; 2048], n: u32, table: &[u8], out: &mut [i16])
         eight(fixed, table, out);
     } else {
         by_definition(n, table, out);
+    }
+}
+
+// The spectrum of an accepted table. Above width 7 the table and the array are cut in halves, and the transform calls itself on each; the
+// width falls by one at each cut.
+pub fn descend(fixed: &[i16; 2048], n: u32, table: &[u8], out: &mut [i16])
+    requires { ⌜ Ready n (now table) (now out) × Spectra (now fixed) ⌝ }
+    ensures { λ _. ⌜ now (out .exit) ≡ functions.spectrum n (at (now (table .entry))) ⌝ }
+{
+    if n <= 7 {
+        at_once(fixed, n, table, out);
+    } else {
+        let h = table.len() / 2;
+        descend(fixed, n - 1, &table[..h], &mut out[..h]);
+        descend(fixed, n - 1, &table[h..], &mut out[h..]);
+        butterfly(out, h);
     }
 }
 
