@@ -1,11 +1,12 @@
-// The largest magnitude of a spectrum, in 16-bit values, which hold every one of them: the sweeps take it of each component, and the machine
-// adds eight such values at once.
+// The largest magnitude of a spectrum, in 16-bit values, which hold every one of them: the sweeps take it of each component, and the
+// machine adds eight such values at once.
 use crate::number;
 use crate::value;
 ghost use mathlib.Core.Path.{_≡_};
 ghost use Prim.Native.Nat.{_+_, _^_, _≤_};
 ghost use lib.ListN.{length};
 ghost use lib.IntN.{natAbs};
+ghost use Rattle.boolean.specs.Sums.{AnyContent};
 ghost use Rattle.boolean.specs.Functions.{at};
 ghost use Rattle.boolean.specs.Functions as functions;
 ghost use Rattle.walsh.specs.FixedTable.{Spectra};
@@ -195,7 +196,8 @@ fn largest_sum(values: &[i16], h: usize) -> u16
 // is A + B and A − B, and is not made.
 fn peak_of_sixty_four(fixed: &[i16; 2048], table: &[u8], work: &mut [i16]) -> u16
     requires { ⌜ Ready 6 (now table) (now work) × Spectra (now fixed) ⌝ }
-    ensures { λ r. ⌜ r ≡ largestMagnitude (functions.spectrum 6 (at (now (table .entry)))) ⌝ }
+    ensures { λ r. ⌜ (r ≡ largestMagnitude (functions.spectrum 6 (at (now (table .entry)))))
+        × AnyContent (now (work .entry)) (now (work .exit)) ⌝ }
 {
     thirty_two(fixed, &table[..32], &mut work[..32]);
     thirty_two(fixed, &table[32..], &mut work[32..]);
@@ -205,7 +207,8 @@ fn peak_of_sixty_four(fixed: &[i16; 2048], table: &[u8], work: &mut [i16]) -> u1
 // Seven inputs.
 fn peak_of_one_twenty_eight(fixed: &[i16; 2048], table: &[u8], work: &mut [i16]) -> u16
     requires { ⌜ Ready 7 (now table) (now work) × Spectra (now fixed) ⌝ }
-    ensures { λ r. ⌜ r ≡ largestMagnitude (functions.spectrum 7 (at (now (table .entry)))) ⌝ }
+    ensures { λ r. ⌜ (r ≡ largestMagnitude (functions.spectrum 7 (at (now (table .entry)))))
+        × AnyContent (now (work .entry)) (now (work .exit)) ⌝ }
 {
     sixty_four(fixed, &table[..64], &mut work[..64]);
     sixty_four(fixed, &table[64..], &mut work[64..]);
@@ -215,18 +218,19 @@ fn peak_of_one_twenty_eight(fixed: &[i16; 2048], table: &[u8], work: &mut [i16])
 // Eight inputs.
 fn peak_of_two_fifty_six(fixed: &[i16; 2048], table: &[u8], work: &mut [i16]) -> u16
     requires { ⌜ Ready 8 (now table) (now work) × Spectra (now fixed) ⌝ }
-    ensures { λ r. ⌜ r ≡ largestMagnitude (functions.spectrum 8 (at (now (table .entry)))) ⌝ }
+    ensures { λ r. ⌜ (r ≡ largestMagnitude (functions.spectrum 8 (at (now (table .entry)))))
+        × AnyContent (now (work .entry)) (now (work .exit)) ⌝ }
 {
     one_twenty_eight(fixed, &table[..128], &mut work[..128]);
     one_twenty_eight(fixed, &table[128..], &mut work[128..]);
     largest_sum(work, 128)
 }
 
-// The largest magnitude in the spectrum of an accepted table. Up to five inputs the whole spectrum is made: at so few values the sums of
-// magnitudes save nothing.
+// The largest magnitude in the spectrum of an accepted table. Up to five inputs, where little time goes, the whole spectrum is made.
 pub fn peak(fixed: &[i16; 2048], n: u32, table: &[u8], work: &mut [i16]) -> u16
     requires { ⌜ Ready n (now table) (now work) × Spectra (now fixed) ⌝ }
-    ensures { λ r. ⌜ r ≡ largestMagnitude (functions.spectrum n (at (now (table .entry)))) ⌝ }
+    ensures { λ r. ⌜ (r ≡ largestMagnitude (functions.spectrum n (at (now (table .entry)))))
+        × AnyContent (now (work .entry)) (now (work .exit)) ⌝ }
 {
     if n == 8 {
         peak_of_two_fifty_six(fixed, table, work)

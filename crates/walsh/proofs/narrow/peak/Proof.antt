@@ -34,16 +34,27 @@ at-once-requires c κs =
     (omega (arith, s .pre .0 .read .n-high, e .before .before .if1 .left, e .before .if2 .left, e .if3 .left), s .pre .0, s .pre .1)
 
 returns : tie.Need-returns
-returns c = let e = c .before .before .before in told (e .before .before) 8 _ (e .if1 .taken) (c .before .peak-of-two-fifty-six .ensures)
+returns c =
+    let e = c .before .before .before in
+    let called = c .before .peak-of-two-fifty-six .ensures in
+    (told (e .before .before) 8 _ (e .if1 .taken) (called .0), called .1)
 
 returns-2 : tie.Need-returns-2
-returns-2 c = let e = c .before .before .before in told (e .before .before .before) 7 _ (e .if2 .taken) (c .before .peak-of-one-twenty-eight .ensures)
+returns-2 c =
+    let e = c .before .before .before in
+    let called = c .before .peak-of-one-twenty-eight .ensures in
+    (told (e .before .before .before) 7 _ (e .if2 .taken) (called .0), called .1)
 
 returns-3 : tie.Need-returns-3
-returns-3 c = let e = c .before .before .before in told (e .before .before .before .before) 6 _ (e .if3 .taken) (c .before .peak-of-sixty-four .ensures)
+returns-3 c =
+    let e = c .before .before .before in
+    let called = c .before .peak-of-sixty-four .ensures in
+    (told (e .before .before .before .before) 6 _ (e .if3 .taken) (called .0), called .1)
 
 returns-4 : tie.Need-returns-4
-returns-4 c = c .largest-magnitude .ensures ∙ ap largestMagnitude (c .before .before .before .at-once .ensures)
+returns-4 c =
+    let called = c .before .before .before .at-once in
+    (c .largest-magnitude .ensures ∙ ap largestMagnitude (called .ensures), called .kept .1 .1 .1 .0)
 
 pub peak-spec : {M : Type 1} → statement M
 peak-spec =

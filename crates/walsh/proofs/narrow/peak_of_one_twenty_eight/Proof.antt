@@ -37,9 +37,11 @@ returns : tie.Need-returns
 returns c =
     let second = c .before .before .before in
     let first = second .before .before .before .before in
-    c .largest-sum .ensures
-    ∙ halves.peak-is (cut (first .before .before .before .before))
-    (first .sixty-four .last .1 .1 .0) (first .sixty-four .ensures) (second .sixty-four2 .last .1 .1 .0) (second .sixty-four2 .ensures)
+    let whole = cut (first .before .before .before .before) in (
+      c .largest-sum .ensures
+          ∙ halves.peak-is whole (first .sixty-four .last .1 .1 .0) (first .sixty-four .ensures) (second .sixty-four2 .last .1 .1 .0) (second .sixty-four2 .ensures),
+      halves.same-long whole (first .sixty-four .last .1 .1 .0) (first .sixty-four .ensures) (second .sixty-four2 .last .1 .1 .0) (second .sixty-four2 .ensures),
+    )
 
 pub peak-of-one-twenty-eight-spec : {M : Type 1} → statement M
 peak-of-one-twenty-eight-spec =

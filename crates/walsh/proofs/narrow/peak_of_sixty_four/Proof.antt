@@ -37,9 +37,11 @@ returns : tie.Need-returns
 returns c =
     let second = c .before .before .before in
     let first = second .before .before .before .before in
-    c .largest-sum .ensures
-    ∙ halves.peak-is (cut (first .before .before .before .before))
-    (first .thirty-two .last .1 .1 .0) (first .thirty-two .ensures) (second .thirty-two2 .last .1 .1 .0) (second .thirty-two2 .ensures)
+    let whole = cut (first .before .before .before .before) in (
+      c .largest-sum .ensures
+          ∙ halves.peak-is whole (first .thirty-two .last .1 .1 .0) (first .thirty-two .ensures) (second .thirty-two2 .last .1 .1 .0) (second .thirty-two2 .ensures),
+      halves.same-long whole (first .thirty-two .last .1 .1 .0) (first .thirty-two .ensures) (second .thirty-two2 .last .1 .1 .0) (second .thirty-two2 .ensures),
+    )
 
 pub peak-of-sixty-four-spec : {M : Type 1} → statement M
 peak-of-sixty-four-spec =

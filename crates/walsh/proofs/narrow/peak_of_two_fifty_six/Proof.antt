@@ -37,9 +37,11 @@ returns : tie.Need-returns
 returns c =
     let second = c .before .before .before in
     let first = second .before .before .before .before in
-    c .largest-sum .ensures
-    ∙ halves.peak-is (cut (first .before .before .before .before))
-    (first .one-twenty-eight .last .1 .1 .0) (first .one-twenty-eight .ensures) (second .one-twenty-eight2 .last .1 .1 .0) (second .one-twenty-eight2 .ensures)
+    let whole = cut (first .before .before .before .before) in (
+      c .largest-sum .ensures
+          ∙ halves.peak-is whole (first .one-twenty-eight .last .1 .1 .0) (first .one-twenty-eight .ensures) (second .one-twenty-eight2 .last .1 .1 .0) (second .one-twenty-eight2 .ensures),
+      halves.same-long whole (first .one-twenty-eight .last .1 .1 .0) (first .one-twenty-eight .ensures) (second .one-twenty-eight2 .last .1 .1 .0) (second .one-twenty-eight2 .ensures),
+    )
 
 pub peak-of-two-fifty-six-spec : {M : Type 1} → statement M
 peak-of-two-fifty-six-spec =
