@@ -145,16 +145,12 @@ impl FileError {
 
 impl fmt::Display for FileError {
     fn fmt(&self, f: &mut fmt::Formatter<'_>) -> fmt::Result {
-        let cause = self.source().expect("both have one");
-        write!(f, "{}: {cause}", self.path().display())
-    }
-}
-
-impl Error for FileError {
-    fn source(&self) -> Option<&(dyn Error + 'static)> {
         match self {
-            FileError::Unreadable { error, .. } => Some(error),
-            FileError::Refused { error, .. } => Some(error),
+            FileError::Unreadable { path, error } => write!(f, "{}: {error}", path.display()),
+            FileError::Refused { path, error } => write!(f, "{}: {error}", path.display()),
         }
     }
 }
+
+// The text has the cause, so that it is no source as well: reports that follow sources would say it twice.
+impl Error for FileError {}

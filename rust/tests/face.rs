@@ -2,7 +2,6 @@
 //! the second program in tests/, call by call; here it is what the types make of them.)
 use satmegwo::{merged, sheet_of_bytes, sum_nonlinearity, sum_nonlinearity_between};
 use satmegwo::{Catalogue, Design, Detail, FileError, Pair, Part, Refusal, Sbox, Server, TruthTable};
-use std::error::Error;
 use std::fs;
 use std::path::{Path, PathBuf};
 
@@ -334,7 +333,6 @@ fn a_file_that_gives_no_box_is_named() {
     assert!(matches!(missing, FileError::Unreadable { .. }) && missing.to_string().starts_with("nowhere/a.box: "));
     let text = Sbox::from_path(concat!(env!("CARGO_MANIFEST_DIR"), "/Cargo.toml")).unwrap_err();
     assert!(text.path().ends_with("Cargo.toml") && text.to_string().contains("Cargo.toml: n is 91 (refused 1: "), "{text}");
-    assert!(text.source().is_some());
     let endless = Sbox::from_path("/dev/zero").unwrap_err();
     assert!(matches!(endless, FileError::Refused { error, .. } if error.refusal == Refusal::InputWidth));
 }
