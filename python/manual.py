@@ -6,6 +6,7 @@
 `make -C python manual` writes both; the tests compare what is stored with what is made.
 """
 import argparse
+import functools
 import sys
 
 from satmegwo import __version__, command
@@ -54,6 +55,7 @@ EXAMPLES = (
 # ---- what the parser has
 
 
+@functools.lru_cache(maxsize=None)
 def commands():
     """The commands with their parsers; another name of a command is with it in the text alone."""
     (subparsers,) = [action for action in command.parser()._actions if isinstance(action, argparse._SubParsersAction)]
@@ -65,6 +67,7 @@ def options(parser):
     return {tuple(action.option_strings): action for action in parser._actions if action.option_strings and action.dest != "help"}
 
 
+@functools.lru_cache(maxsize=None)
 def common():
     """The options that every command has."""
     first, *others = (options(parser) for parser in commands().values())

@@ -26,6 +26,8 @@ def whole(word: str) -> int:
 
 def limit(word: str) -> Union[str, int]:
     """A number of outputs, or all of them."""
+    if word != ALL and not WHOLE.fullmatch(word):
+        raise argparse.ArgumentTypeError(f"{word} is neither a number of outputs nor the word {ALL}")
     return word if word == ALL else whole(word)
 
 

@@ -182,9 +182,9 @@ class WholeTables(unittest.TestCase):
             self.assertEqual(box.distances(), [min(len(definitions.unlike(one, other)) for other in affine) for one in functions])
 
     def test_no_whole_table_above_16_outputs(self):
-        widest, wide = Box([0, 65535], n=1, m=16), Box([0, 1], n=1, m=17)
+        wide = Box([0, 1], n=1, m=17)
+        self.assertEqual(Box([0, 65535], n=1, m=16).ddt()[1], 65535 * [0] + [2])
         for name in ("lat", "ddt", "autocorrelation_table", "distances"):
-            self.assertEqual(len(getattr(widest, name)()), 2 if name == "ddt" else 2**16, name)
             with self.assertRaisesRegex(satmegwo.TooWide, "is given whole up to 16 outputs, and this box has 17: "):
                 getattr(wide, name)()
 

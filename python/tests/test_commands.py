@@ -135,13 +135,13 @@ class Options(unittest.TestCase):
             ["spectrum", DES, "--combination", "1.0"],
             ["spectrum", DES, "--combination", "1_0"],
             ["spectrum", DES, "--combination", "0x"],
-            ["sheet", DES, "--limit", "most"],
             ["distance", DES, "--order", "1,"],
             ["sheet", DES, "-n", ""],
         ):
             done = run(*words)
             self.assertEqual((done.returncode, done.stdout), (2, b""), words)
             self.assertIn("is no whole number, such as 12 or 0x0c", done.stderr.decode())
+        self.assertIn("most is neither a number of outputs nor the word all", run("sheet", DES, "--limit", "most").stderr.decode())
         self.assertIn("is no order, such as 2,1", run("distance", DES, "--order", "2").stderr.decode())
         self.assertIn("0 is less than 1", run("sheet", DES, "-j", "0").stderr.decode())
         self.assertIn("the limit i is -1, and must be 1 to 4", run("sheet", DES, "--limit", "-1").stderr.decode())
@@ -164,8 +164,6 @@ class Output(unittest.TestCase):
             (["pack", DES], True),
             (["improve", DES, "-o", "-"], True),
             (["pack", DES, "--hex"], False),
-            (["improve", DES], False),
-            (["sheet", DES], False),
         ):
             ours, theirs = os.openpty()
             done = run_alone(*words, stdout=theirs)

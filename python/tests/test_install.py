@@ -62,6 +62,17 @@ class Installed(unittest.TestCase):
                 ("share/bash-completion/completions/satmegwo", PACKAGE / "completion.bash"),
             ):
                 self.assertEqual(pathlib.Path(folder, shared).read_bytes(), stored.read_bytes())
+            self.describes(folder)
+
+    def describes(self, folder):
+        """What pip shows of the package."""
+        (info,) = pathlib.Path(folder).glob("*.dist-info")
+        told = email.message_from_bytes((info / "METADATA").read_bytes())
+        self.assertEqual((told["Name"], told["Version"], told["License"]), ("satmegwo", satmegwo.__version__, "MIT"))
+        self.assertIn("S-boxes", told["Summary"])
+        self.assertEqual(told["Description-Content-Type"], "text/markdown")
+        self.assertEqual(told.get_payload(decode=True).decode(), (PACKAGE / "README.md").read_text(encoding="utf-8"))
+        self.assertEqual((info / "LICENSE").read_bytes(), (ROOT / "LICENSE").read_bytes())
 
     def test_editable(self):
         with tempfile.TemporaryDirectory() as folder:
@@ -71,17 +82,6 @@ class Installed(unittest.TestCase):
             told = f"{PACKAGE / 'satmegwo' / '__init__.py'} {ROOT / 'target' / 'lib' / 'libsatmegwo.so'}\n"
             self.assertEqual(done.stdout, told, done.stderr)
             self.runs(pathlib.Path(folder, "bin", "satmegwo"), PACKAGE)
-
-    def test_metadata(self):
-        with tempfile.TemporaryDirectory() as folder:
-            pip("--target", folder, PACKAGE)
-            (info,) = pathlib.Path(folder).glob("*.dist-info")
-            told = email.message_from_bytes((info / "METADATA").read_bytes())
-            self.assertEqual((told["Name"], told["Version"], told["License"]), ("satmegwo", satmegwo.__version__, "MIT"))
-            self.assertIn("S-boxes", told["Summary"])
-            self.assertEqual(told["Description-Content-Type"], "text/markdown")
-            self.assertEqual(told.get_payload(decode=True).decode(), (PACKAGE / "README.md").read_text(encoding="utf-8"))
-            self.assertEqual((info / "LICENSE").read_bytes(), (ROOT / "LICENSE").read_bytes())
 
 
 class Licence(unittest.TestCase):

@@ -239,7 +239,7 @@ class Figures(unittest.TestCase):
             for m, drawn, given in ((8, 0, 0), (9, 2, 0), (16, 2, 0), (17, 2, 2)):
                 table = pathlib.Path(folder, f"{m}.csv")
                 table.write_text(f"0\n{2**m - 1}\n")
-                for command in ("lat", "xor", "counts"):
+                for command in ("lat", "xor", "counts") if m != 16 else ("xor",):
                     words = (command, table, "-n", "1", "-m", m)
                     done = run(*words)
                     self.assertEqual((done.returncode, b"as data (--csv or --json) it is given up to 16" in done.stderr), (drawn, drawn == 2))
