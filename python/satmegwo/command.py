@@ -240,6 +240,8 @@ def _stopped(args: argparse.Namespace) -> str:
     """How to go on after Ctrl-C."""
     if not hasattr(args, "state"):
         return "stopped"
+    if args.command == "sheet" and args.more:
+        return "stopped, and nothing is kept: of one FILE, with --state KEPT, the command can be stopped and goes on"
     if args.state is None:
         return "stopped, and nothing is kept: with --state KEPT the same command can be stopped and goes on"
     return f"stopped; what was done is kept in {args.state}, and the same command goes on from there"

@@ -76,13 +76,9 @@ class Sheet(NamedTuple):
     given: Given
     lines: dict[str, str]
 
-    def figures(self) -> dict[str, Any]:
-        """The lines with named fields; of a box of one output the line bic is None."""
-        return {word: _fields(text) for word, text in self.lines.items() if word != "box"}
-
     def members(self) -> dict[str, Any]:
-        """The box and its figures, for JSON."""
-        return {"box": self.given.members(), **self.figures()}
+        """The box and its figures, for JSON; of a box of one output the member bic is None."""
+        return said("sheet", box=self.given.members(), **{word: _fields(text) for word, text in self.lines.items() if word != "box"})
 
 
 def _fields(text: str) -> Union[None, bool, dict[str, int]]:
@@ -136,7 +132,7 @@ class Outcome(NamedTuple):
     def members(self) -> dict[str, Any]:
         """The sheet for JSON, or what went wrong."""
         if self.sheet:
-            return said("sheet", **self.sheet.members())
+            return self.sheet.members()
         refused = self.error.number if isinstance(self.error, Refusal) else None
         return said("sheet", error={"file": self.file, "status": self.status, "refused": refused, "message": self.reason})
 
@@ -176,7 +172,7 @@ def sheet(given: Sequence[Given], args: argparse.Namespace, progress: Progress) 
     found = sheet_of(given[0], args, progress)
     outcome = Outcome(given[0].file, found)
     return Result(
-        lambda: "".join(found.lines.values()), lambda: _table([outcome], list(found.lines)), lambda: outcome.members()
+        lambda: "".join(found.lines.values()), lambda: _table([outcome], list(found.lines)), lambda: found.members()
     )
 
 
@@ -229,5 +225,5 @@ def compare(given: Sequence[Given], args: argparse.Namespace, progress: Progress
     return Result(
         lambda: _beside(one, other),
         lambda: _fields_beside(one, other),
-        lambda: said("compare", boxes=[sheet.members() for sheet in found], differ=differ, equal=equal),
+        lambda: said("compare", sheets=[sheet.members() for sheet in found], differ=differ, equal=equal),
     )

@@ -8,8 +8,9 @@ import os
 import pathlib
 import tempfile
 import unittest
+import unittest.mock
 
-from satmegwo import Box, sum_nonlinearity
+from satmegwo import Box, sheets, sum_nonlinearity
 from satmegwo.commands import COMMANDS
 from satmegwo.library import version
 
@@ -325,6 +326,17 @@ class Several(unittest.TestCase):
         self.assertEqual([one["error"]["status"] for one in found[1:]], [1, 2])
         self.assertEqual([one["error"]["file"] for one in found[1:]], [self.refused, self.lost])
 
+    def test_ctrl_c(self):
+        for words, told_in_words in (
+            (["sheet", self.good, self.good], "of one FILE, with --state KEPT"),
+            (["sheet", self.good], "with --state KEPT the same command"),
+            (["compare", self.good, self.good], "stopped\n"),
+        ):
+            with unittest.mock.patch.object(sheets, "sheet_of", side_effect=KeyboardInterrupt):
+                done = run(*words)
+            self.assertEqual((done.returncode, done.stdout), (130, b""))
+            self.assertIn(told_in_words, done.stderr.decode())
+
     def test_what_does_not_go_together(self):
         for words, told_in_words in (
             ([self.good, self.good, "--state", self.lost], "a state file is of one box"),
@@ -341,8 +353,7 @@ class Compared(unittest.TestCase):
         one, other = "des-s1", "des-s2"
         found = told("compare", box_file(one), box_file(other))
         sheets = [told("sheet", box_file(name)) for name in (one, other)]
-        for sheet, compared in zip(sheets, found["boxes"]):
-            self.assertEqual(compared, {key: value for key, value in sheet.items() if key not in ("satmegwo", "command")})
+        self.assertEqual(found["sheets"], sheets)
         words = [word for word in sheets[0] if word not in ("satmegwo", "command", "box")]
         figures = [[value["figure"] if isinstance(value, dict) else value for value in (sheet[word] for word in words)] for sheet in sheets]
         self.assertEqual(found["differ"], [word for word, first, second in zip(words, *figures) if first != second])
