@@ -8,7 +8,7 @@ import pathlib
 from concurrent.futures import Executor
 from typing import TYPE_CHECKING, Any, Iterable, Iterator, Optional, SupportsIndex, Union
 
-from . import details, functions, reading, tables
+from . import details, functions, reading, tables, workbook
 from .answers import (
     Autocorrelation,
     Cell,
@@ -95,15 +95,41 @@ class Box:
         return cls(rows, widths[0], widths[1], name)
 
     @classmethod
-    def from_text(cls, text: str, n: int, m: int, name: str = "", **how: Any) -> Box:
+    def from_text(
+        cls,
+        text: str,
+        n: int,
+        m: int,
+        name: str = "",
+        *,
+        base: Optional[int] = None,
+        pairs: Optional[bool] = None,
+        lines: bool = False,
+        heading: bool = False,
+        column: Union[None, int, str] = None,
+    ) -> Box:
         """The box of a table of numbers, read as `reading.rows_of_text` says."""
-        return cls(reading.rows_of_text(text, **how), n, m, name)
+        return cls(reading.rows_of_text(text, base, pairs, lines, heading, column), n, m, name)
 
     @classmethod
     def from_file(
-        cls, path: Union[str, pathlib.Path], n: Optional[int] = None, m: Optional[int] = None, **how: Any
+        cls,
+        path: Union[str, pathlib.Path],
+        n: Optional[int] = None,
+        m: Optional[int] = None,
+        *,
+        base: Optional[int] = None,
+        pairs: Optional[bool] = None,
+        lines: bool = False,
+        heading: bool = False,
+        column: Union[None, int, str] = None,
+        sheet: Optional[str] = None,
     ) -> Box:
-        """The box of a box file, which states its widths, or of a table of numbers, whose n and m must be stated."""
+        """The box of a box file, which states its widths, or of a table of numbers or a workbook, whose n and m must be stated.
+
+        A table is read as `reading.rows_of_text` says, and a workbook as `workbook.rows_of_workbook`.
+        """
+        how: dict[str, Any] = {"base": base, "pairs": pairs, "lines": lines, "heading": heading, "column": column, "sheet": sheet}
         return cls.from_data(reading.bytes_of_file(path), n, m, pathlib.Path(path).name, **how)
 
     @classmethod
@@ -124,7 +150,7 @@ class Box:
             raise reading.Unreadable(
                 f"a table of numbers does not say how many {word} the box has: state it (in the command -{letter} or --{word})"
             )
-        return cls.from_text(reading.text_of_bytes(data), n, m, name, **how)
+        return cls(workbook.rows_of_data(data, **how), n, m, name)
 
     @classmethod
     def from_packed(cls, packed: bytes, n: int, m: int, name: str = "") -> Box:

@@ -35,16 +35,20 @@ TOLD = (Unreadable, Undrawable, TooWide, Contradiction, OSError)
 def _words_of_reading(command: argparse.ArgumentParser) -> None:
     """The words on what is read and where the result goes, which all commands have."""
     add = command.add_argument
-    tables = "a box file, or a table of numbers: a column, a CSV, a list of C or Python; - for standard input"
+    tables = "a box file, a table of numbers (a column, a CSV, a list of C or Python), or a workbook (.xlsx); - for standard input"
     add("file", metavar="FILE", help=tables)
     add("-n", "--inputs", dest="n", type=options.whole, metavar="N", help="the number of inputs, 1 to 8; a box file says it itself")
     add("-m", "--outputs", dest="m", type=options.whole, metavar="M", help="the number of outputs, 1 to 32; a box file says it itself")
     bases = "the base of all numbers; without it 0x means base sixteen, and all else is in base ten"
     add("--base", type=int, choices=[10, 16], help=bases)
-    pairs = "each line of the table is an input and its row, or every number is a row"
+    pairs = "each line of the table is an input and its row; or no column has the inputs, and every number that is read is a row"
     add("--pairs", action=argparse.BooleanOptionalAction, help=pairs)
     lines = "four lines of sixteen numbers, as DES prints its boxes, stand in the order of the inputs"
     add("--lines", action="store_true", help=lines)
+    add("--heading", action="store_true", help="line 1 of the table, or row 1 of the workbook, is a heading")
+    column = "only column K has the rows: its number from 1, or its heading; of a workbook also its letters, such as B"
+    add("--column", metavar="K", help=column)
+    add("--sheet", metavar="NAME", help="the sheet of a workbook; without it the only one there is")
     add("-o", "--output", dest="output", metavar="OUT", help=_words_of_output(command))
 
 
@@ -85,7 +89,7 @@ def _data(args: argparse.Namespace) -> tuple[bytes, str]:
         return reading.bytes_of_file(args.file), pathlib.Path(args.file).name
     if sys.stdin is None:
         raise Unreadable("standard input is closed")
-    return reading.not_too_long(sys.stdin.buffer.read(reading.MOST_BYTES + 1)), ""
+    return reading.bytes_of_stream(sys.stdin.buffer), ""
 
 
 def _read(args: argparse.Namespace) -> Box:
@@ -95,7 +99,8 @@ def _read(args: argparse.Namespace) -> Box:
         if args.n is None or args.m is None:
             raise Unreadable("packed columns do not say how many inputs and outputs the box has: state both, -n and -m")
         return Box.from_packed(data, args.n, args.m, name)
-    return Box.from_data(data, args.n, args.m, name, base=args.base, pairs=args.pairs, lines=args.lines)
+    how = {word: getattr(args, word) for word in ("base", "pairs", "lines", "heading", "column", "sheet")}
+    return Box.from_data(data, args.n, args.m, name, **how)
 
 
 def _files(args: argparse.Namespace) -> list[str]:
