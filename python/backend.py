@@ -26,6 +26,15 @@ def _table(name):
     return dict(re.findall(r'^([\w-]+) = "([^"]*)"$', table, re.MULTILINE))
 
 
+def _extras():
+    """The lines on what pyproject.toml says is needed for more; each extra is a list in one line."""
+    table = (HERE / "pyproject.toml").read_text(encoding="utf-8").split("[project.optional-dependencies]\n")[1].split("\n[")[0]
+    for extra, listed in re.findall(r"^([\w-]+) = \[(.*)\]$", table, re.MULTILINE):
+        yield f"Provides-Extra: {extra}"
+        for needed in re.findall(r'"([^"]+)"', listed):
+            yield f'Requires-Dist: {needed}; extra == "{extra}"'
+
+
 def _package():
     """The files of the package, by their names in the wheel."""
     files = {
@@ -48,6 +57,7 @@ def _metadata(project):
         "License-File: LICENSE",
         "Classifier: License :: OSI Approved :: MIT License",
         f"Requires-Python: {project['requires-python']}",
+        *_extras(),
         "Description-Content-Type: text/markdown",
     ]
     return "\n".join([*lines, "", (HERE / project["readme"]).read_text(encoding="utf-8")])
