@@ -6,6 +6,7 @@ An explanation does not repeat the library's figure. It counts, by `definitions`
 from __future__ import annotations
 
 import html
+import re
 from typing import Any, Callable, NamedTuple, Optional, Sequence
 
 from . import definitions, theorems
@@ -13,6 +14,9 @@ from .box import Box
 
 LISTED = 16  # so many inputs are named one by one
 SHORT = 64  # with more columns than this a page shows one cell for each
+# A table on a page, in pixels of 96 to the inch: what A4 has between margins of 10 mm (a page's column on a screen is wider), a letter of
+# its type at 9 points, what its style has around a cell and beside a label, and the last column with its counts, or with its head too.
+ACROSS, LETTER, AROUND, BESIDE, COUNTS, COUNT = 718.0, 7.23, 7.2, 12.0, 31.0, 44.0
 
 
 class Contradiction(AssertionError):
@@ -20,10 +24,18 @@ class Contradiction(AssertionError):
 
 
 class Line(NamedTuple):
-    """A line of a table: what stands in it, and a value for each column."""
+    """A line of a table: what stands in it, a name and behind a comma what it means, and a value for each column."""
 
     label: str
     values: Sequence[int]
+
+    @property
+    def name(self) -> str:
+        return self.label.partition(", ")[0]
+
+    @property
+    def meaning(self) -> str:
+        return self.label.partition(", ")[2]
 
 
 class Explanation:
@@ -53,15 +65,15 @@ class Explanation:
     def _count(self, block: range) -> int:
         return sum(place in self.counted for place in block)
 
-    def _addition(self) -> list[str]:
+    def _addition(self, blocks: Sequence[range]) -> list[str]:
         """The counts of the blocks, added up."""
-        counts = [self._count(block) for block in self._blocks]
+        counts = [self._count(block) for block in blocks]
         return [f"{' + '.join(map(str, counts))} = {sum(counts)}"] if len(counts) > 1 else []
 
     # ---- as text
 
     def __str__(self) -> str:
-        parts = [self.heading, "", *self.before, "", *self._table(), *self._addition(), *self.after]
+        parts = [self.heading, "", *self.before, "", *self._table(), *self._addition(self._blocks), *self.after]
         return "\n".join(parts) + "\n"
 
     def _table(self) -> list[str]:
@@ -79,54 +91,72 @@ class Explanation:
 
     def html(self, whole: bool = False) -> str:
         """The same as HTML. A table of more than 64 columns has one cell for each, with the values that are compared, unless `whole`."""
-        rows = self._whole() if whole or len(self.lines[0].values) <= SHORT else self._short()
+        is_short = not whole and len(self.lines[0].values) > SHORT
+        blocks, rows = self._short() if is_short else self._whole()
         parts = [
             f"<h3>{html.escape(self.heading)}</h3>",
             *map(_paragraph, self.before),
             '<div class="wide"><table class="count">',
+            *self._caption(is_short),
             *rows,
             "</table></div>",
         ]
-        return "\n".join(parts + list(map(_paragraph, self._addition() + self.after)))
+        return "\n".join(parts + list(map(_paragraph, self._addition(blocks) + self.after)))
+
+    def _caption(self, is_short: bool) -> list[str]:
+        """What stands in the cells: above the table, since a first column of so many words would push the others out of the page."""
+        lines = [self.lines[at] for at in self.compared] if is_short else self.lines
+        words = [f"In each cell: {' | '.join(line.name for line in lines)}."] if is_short else []
+        meanings = "; ".join(f"{line.name}: {line.meaning}" for line in lines if line.meaning)
+        words += [f"{meanings}."] if meanings else []
+        words += [f"Shaded: {self.mark}."] if is_short else []
+        return [f"<caption>{html.escape(' '.join(words))}</caption>"] if words else []
+
+    def _blocks_of_page(self, label: int, cell: int, last: float) -> list[range]:
+        """The columns in blocks as broad as the page takes, where labels and cells have so many letters."""
+        total, left = len(self.lines[0].values), ACROSS - (LETTER * label + BESIDE) - last
+        step = next((step for step in (16, 8, 4) if step * (LETTER * cell + AROUND) <= left), 2)
+        return [range(start, min(start + step, total)) for start in range(0, total, step)]
 
     def _cell(self, place: int, words: str) -> str:
         return f'<td class="counted">{words}</td>' if place in self.counted else f"<td>{words}</td>"
 
-    def _whole(self) -> list[str]:
+    def _whole(self) -> tuple[list[range], list[str]]:
         """All lines, a block of columns at a time, and behind each block its count."""
+        label = max(len(name) for name in [self.mark] + [line.name for line in self.lines])
+        blocks = self._blocks_of_page(label, max(len(str(value)) for line in self.lines for value in line.values), COUNTS)
         rows = []
-        for block in self._blocks:
+        for block in blocks:
             for at, line in enumerate(self.lines):
                 first = ' class="first"' if at == 0 else ""
                 cells = "".join(self._cell(place, str(line.values[place])) for place in block)
-                rows.append(f'<tr{first}><th scope="row">{html.escape(line.label)}</th>{cells}<td></td></tr>')
+                rows.append(f'<tr{first}><th scope="row">{html.escape(line.name)}</th>{cells}<td></td></tr>')
             marks = "".join(self._cell(place, "*" if place in self.counted else "") for place in block)
             rows.append(
                 f'<tr><th scope="row">{html.escape(self.mark)}</th>{marks}<td class="sum">{self._count(block)}</td></tr>'
             )
-        return rows
+        return blocks, rows
 
-    def _short(self) -> list[str]:
+    def _short(self) -> tuple[list[range], list[str]]:
         """A cell for each column, with the values that are compared."""
-        labels = " | ".join(self.lines[at].label for at in self.compared)
-        across = "".join(f'<th scope="col">+{step}</th>' for step in range(len(self._blocks[0])))
-        rows = [
-            f'<tr class="first"><th scope="row">{html.escape(labels)}</th>{across}<th scope="col">{html.escape(self.mark)}</th></tr>'
-        ]
-        for block in self._blocks:
-            cells = "".join(
-                self._cell(place, "|".join(str(self.lines[at].values[place]) for at in self.compared))
-                for place in block
-            )
-            rows.append(
-                f'<tr><th scope="row">{html.escape(self.lines[0].label)} = {block[0]}</th>{cells}'
-                f'<td class="sum">{self._count(block)}</td></tr>'
-            )
-        return rows
+        first = self.lines[0]
+        texts = ["|".join(str(self.lines[at].values[place]) for at in self.compared) for place in first.values]
+        blocks = self._blocks_of_page(len(str(first.values[-1])), max(map(len, ["+15", *texts])), COUNT)
+        across = "".join(f'<th scope="col">+{step}</th>' for step in range(len(blocks[0])))
+        rows = [f'<tr class="first"><th scope="col">{first.name}</th>{across}<th scope="col">count</th></tr>']
+        for block in blocks:
+            cells = "".join(self._cell(place, texts[place]) for place in block)
+            rows.append(f'<tr><th scope="row">{block[0]}</th>{cells}<td class="sum">{self._count(block)}</td></tr>')
+        return blocks, rows
+
+
+def in_html(sentence: str) -> str:
+    """A sentence as HTML, in which a command is not broken."""
+    return re.sub(r"\b\w+ FILE --\w+ [\w,]+\w", r"<code>\g<0></code>", html.escape(sentence))
 
 
 def _paragraph(sentence: str) -> str:
-    return f"<p>{html.escape(sentence)}</p>"
+    return f"<p>{in_html(sentence)}</p>"
 
 
 # ---- words
@@ -199,11 +229,13 @@ def over_all(kind: str, figure: int, limit: int, m: int, name: str, command: str
     """With a limit below m: on which side of the figure that over all combinations lies, and which command counts it."""
     if limit == m:
         return []
+    unseen, all_of_them = f"Combinations of more than {limit} of the {m} outputs are not looked at here", f"all {2**m - 1:,} combinations"
     side = "at most" if kind in ("nonlinearity", "degree") else "at least"
+    if (side, figure) == ("at least", 0):  # which says nothing
+        return [f"{unseen}: the command {command} counts the {name} over {all_of_them}."]
     return [
-        f"Combinations of more than {limit} of the {m} outputs are not looked at here: over all combinations the {name} is {side} {figure}"
-        f" (proved: {theorems.LIMITS[kind]}).",
-        f"The command {command} counts it over all {2**m - 1:,} combinations"
+        f"{unseen}: over all combinations the {name} is {side} {figure} (proved: {theorems.LIMITS[kind]}).",
+        f"The command {command} counts it over {all_of_them}"
         + (f", and that can matter: {CAST}." if kind == "nonlinearity" else "."),
     ]
 
@@ -263,7 +295,7 @@ def xor(box: Box) -> Explanation:
             Line("x", range(2**box.n)),
             Line("S(x)", box.rows),
             Line(f"S(x XOR {a})", other),
-            Line("XOR of the two", differences),
+            Line(f"difference, S(x) XOR S(x XOR {a})", differences),
         ],
         [3],
         giving,

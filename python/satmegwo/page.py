@@ -4,54 +4,62 @@ The page is one file of HTML that needs no other, and prints on A4. The same box
 """
 from __future__ import annotations
 
+import hashlib
 import html
 from typing import Callable, NamedTuple
 
 from . import explaining, pictures, theorems
 from .box import Box, Distance
-from .explaining import inputs, over_all, within
+from .explaining import in_html, inputs, over_all, within
 from .library import version
 
 STYLE = """
 @page { size: A4; margin: 10mm }
 body { font: 14px/1.45 "DejaVu Sans", Verdana, Arial, sans-serif; color: #1a1a1a; background: #fff }
-body { max-width: 62em; margin: 0 auto; padding: 1em }
+body { max-width: 62em; margin: 0 auto; padding: 1em; overflow-wrap: break-word }
 h1 { font-size: 1.5em; margin: 0 0 .4em }
 h2 { font-size: 1.15em; margin: 1.6em 0 .5em; padding-bottom: .15em; border-bottom: 2px solid #1a1a1a; break-after: avoid }
 h3 { font-size: 1em; margin: 1.2em 0 .2em; break-after: avoid }
 p { margin: .25em 0; max-width: 52em }
-pre, .count { font-family: "DejaVu Sans Mono", Consolas, monospace }
-pre { margin: .3em 0; font-size: .93em; line-height: 1.35 }
-.wide { overflow-x: auto; margin: .3em 0 }
+pre, code, .count { font-family: "DejaVu Sans Mono", Consolas, monospace }
+pre { margin: .3em 0; font-size: 13px; line-height: 1.35 }
+.wide, .frame { overflow-x: auto }
+.wide { margin: .3em 0 }
 table { border-collapse: collapse }
 .sheet th, .sheet td { text-align: left; vertical-align: top; padding: .3em 1em .3em 0; border-bottom: 1px solid #c8c8c8 }
+.sheet thead th { font-weight: normal; color: #595959 }
 .sheet .figure { text-align: right; font-weight: bold }
 .sheet tr { break-inside: avoid }
-.witness { white-space: nowrap }
-figure { display: inline-block; vertical-align: top; margin: 0 0 6px; overflow-x: auto; max-width: 100%; break-inside: avoid }
+.witness, .kept, code { white-space: nowrap }
+code.digest { white-space: normal }
+figure { display: inline-block; vertical-align: top; width: min-content; min-width: min(354px, 100%); max-width: 100% }
+figure { margin: 0 0 10px; break-inside: avoid }
+figcaption { font-size: 13px; font-weight: bold; break-after: avoid }
+figure p { font-size: 12px; margin: 0 0 .4em }
 section { break-inside: avoid }
 .pictures { orphans: 1; widows: 1 }
 figure svg { display: block }
 .count { font-size: 12px; line-height: 1.3 }
-.count th, .count td { text-align: right; padding: 0 .4em; font-weight: normal; white-space: nowrap }
-.count th[scope=row] { text-align: left; padding: 0 1em 0 0 }
+.count caption { text-align: left; font-family: "DejaVu Sans", Verdana, Arial, sans-serif; padding-bottom: .3em }
+.count th, .count td { text-align: right; padding: 0 .3em; font-weight: normal; white-space: nowrap }
+.count th:first-child { text-align: left; padding: 0 1em 0 0 }
 .count .first th, .count .first td { border-top: 1px solid #c8c8c8; padding-top: .25em; color: #595959 }
 .count .counted { background: #f0d9b5; color: #000; font-weight: bold; text-decoration: underline }
 .count .sum { padding-left: 1em; font-weight: bold }
 footer { margin-top: 1.6em; border-top: 1px solid #c8c8c8; padding-top: .5em; color: #595959 }
 @media screen and (max-width: 44em) {
+  .sheet thead { display: none }
   .sheet tr { display: block; padding: .4em 0; border-bottom: 1px solid #c8c8c8 }
   .sheet th, .sheet td { border: 0; padding: 0 .8em 0 0; display: inline-block }
   .sheet td:last-child { display: block }
 }
 @media print {
-  body { font-size: 10px; max-width: none; padding: 0 }
+  body { font-size: 12px; max-width: none; padding: 0 }
+  pre { font-size: 12px }
   p { max-width: none }
   h2 { margin-top: 1em }
   .sheet th, .sheet td { padding-top: .12em; padding-bottom: .12em }
-  .wide { overflow: visible }
-  figure { overflow: visible }
-  .count { font-size: 8px }
+  .wide, .frame { overflow: visible }
   * { -webkit-print-color-adjust: exact; print-color-adjust: exact }
 }
 """
@@ -95,8 +103,8 @@ def _criterion(box: Box, word: str, distance: Callable[[], Distance], what: str,
 def _nonlinearity(box: Box) -> Sentence:
     figure, (c, w, b), limit = box.nonlinearity()
     says = (
-        f"Every {within(limit, box.m)} differs from every affine function at {inputs(figure)} or more; this pair is the first that"
-        f" differs at exactly {figure}."
+        f"Every {within(limit, box.m)} (component function) differs from every affine function at {inputs(figure)} or more; this pair is"
+        f" the first that differs at exactly {figure}."
     )
     return _bounded("nonlinearity", figure, f"c = {c}, w = {w}, b = {b}", says, limit, box.m)
 
@@ -104,8 +112,8 @@ def _nonlinearity(box: Box) -> Sentence:
 def _xor(box: Box) -> Sentence:
     figure, (a, beta) = box.largest_cell()
     says = (
-        f"No nonzero input difference gives any output difference at more than {inputs(figure)}; this is the first that does at"
-        f" {figure}."
+        f"The largest cell of the XOR table (difference distribution table, DDT), its differential uniformity: no nonzero input"
+        f" difference gives any output difference at more than {inputs(figure)}; this is the first that does at {figure}."
     )
     return Sentence("xor", figure, f"a = {a}, β = {beta}", says)
 
@@ -113,15 +121,18 @@ def _xor(box: Box) -> Sentence:
 def _autocorrelation(box: Box) -> Sentence:
     figure, (c, s), limit = box.autocorrelation()
     says = (
-        f"For no {within(limit, box.m)} and no nonzero change of the inputs do the inputs at which it changes and those at which it does"
-        f" not differ in number by more than {figure}; this is the first where they do by {figure}."
+        f"For every {within(limit, box.m)} and every nonzero input change, the inputs where it changes and those where it stays differ in"
+        f" number by at most {figure} (absolute indicator); this is the first case of {figure}."
     )
     return _bounded("autocorrelation", figure, f"c = {c}, s = {s}", says, limit, box.m)
 
 
 def _degree(box: Box) -> Sentence:
     figure, (c,), limit = box.degree()
-    says = f"Every {within(limit, box.m)} has degree {figure} or more; this is the first of exactly {figure}."
+    says = (
+        f"Every {within(limit, box.m)} has degree {figure} or more (algebraic degree, here the least over the components); this is the first"
+        f" of exactly {figure}."
+    )
     return _bounded("degree", figure, f"c = {c}", says, limit, box.m)
 
 
@@ -158,34 +169,38 @@ def _rows(box: Box) -> str:
 
 
 def _sheet_in_sentences(box: Box) -> list[str]:
-    parts = ['<div class="wide"><table class="sheet">']
+    heads = "".join(f'<th scope="col">{words}</th>' for words in ("line of the sheet", "figure", "witness", "what it says"))
+    parts = [f'<div class="wide"><table class="sheet">\n<thead><tr>{heads}</tr></thead>\n<tbody>']
     for word, figure, witness, says in sentences(box):
         parts.append(
             f'<tr><th scope="row">{word}</th><td class="figure">{figure}</td><td class="witness">{html.escape(witness)}</td>'
         )
-        parts.append(f"<td>{html.escape(says)}</td></tr>")
-    return parts + ["</table></div>"]
+        parts.append(f"<td>{in_html(says)}</td></tr>")
+    return parts + ["</tbody></table></div>"]
 
 
 def _pictures(box: Box, say: Callable[[str], None]) -> list[str]:
-    drawn: dict[str, Callable[[Box], str]] = {"spectrum": pictures.spectrum_bars}
+    drawn: dict[str, Callable[[Box], pictures.Picture]] = {
+        "histogram of the distances": pictures.histogram,
+        "spectrum": pictures.spectrum,
+    }
     parts = []
     if box.m <= pictures.MOST_OUTPUTS:
         drawn = {
-            "linear approximation table": pictures.lat_map,
-            "distances": pictures.distance_bars,
-            "spectrum": pictures.spectrum_bars,
-            "XOR table": pictures.xor_map,
+            "linear approximation table": pictures.lat,
+            "distances": pictures.distances,
+            "spectrum": pictures.spectrum,
+            "XOR table": pictures.xor,
         }
     else:
         parts.append(
             f"<p>The two tables and the distance of each combination are drawn up to {pictures.MOST_OUTPUTS} outputs; this box has"
-            f" {box.m}, so that only the spectrum of the nonlinearity's witness is shown.</p>"
+            f" {box.m}. Shown are how many combinations have each distance, and the spectrum of the nonlinearity's witness.</p>"
         )
     parts.append('<div class="pictures">')
     for name, draw in drawn.items():
-        say(f"picture of the {name}")
-        parts.append(f"<figure>{draw(box)}</figure>")
+        say(f"picture of the {name}" if "histogram" not in name else name)
+        parts.append(draw(box).html())
     return parts + ["</div>"]
 
 
@@ -198,21 +213,32 @@ def _counts(box: Box, say: Callable[[str], None]) -> list[str]:
     return parts
 
 
+def _conditions(box: Box) -> list[str]:
+    """The certificate's conditions; with a limit below m the one on combinations says it."""
+    narrowed = f"Every {within(box.limit, box.m)}"
+    return [condition.replace("Every nonzero combination of outputs", narrowed) for condition in CONDITIONS]
+
+
 def _certified(box: Box) -> list[str]:
     """The certificate's conditions, what is proved, and what is not."""
-    limit = box.limit
-    covered = "all of them" if limit == box.m else f"those of at most {limit} outputs"
+    covered = "all of them" if box.limit == box.m else f"those of at most {box.limit} outputs"
     return [
-        f"<p>{html.escape(' '.join(CONDITIONS))}</p>",
+        f"<p>{html.escape(' '.join(_conditions(box)))}</p>",
         f"<p>Here: {box.n} inputs, {box.m} outputs; of the nonzero combinations {covered}.</p>",
         "<p>Proved, by a machine and for every box: the figures, their witnesses, the values of the tables and the text of the sheet,"
-        " which come from the library, are those of their definitions. The theorems named on this page, as"
+        " which come from the library, are those of their definitions. The theorems named on this page, such as"
         f" {theorems.BOUNDS['nonlinearity'].name}, stand in crates/*/proofs.</p>",
         "<p>Not proved: the program that read the box and made this page. It counted each figure again from its definition at the"
         " witness, and compared the tables with the figures; where one had differed there would be no page. Nor are the compiler's"
         " last step, the operating system or the machine part of the proof.</p>",
         "<p>There is no blended score. A figure says what it counts, and nothing more.</p>",
     ]
+
+
+def _fingerprint(box: Box) -> str:
+    """What tells one box from another on paper."""
+    digest = hashlib.sha256(box.to_bytes()).hexdigest()
+    return f'<p>SHA-256 of its box file, which the command boxfile writes: <code class="digest">{digest}</code></p>'
 
 
 def page(box: Box, say: Callable[[str], None] = lambda step: None) -> str:
@@ -224,6 +250,7 @@ def page(box: Box, say: Callable[[str], None] = lambda step: None) -> str:
         '\n<meta name="viewport" content="width=device-width, initial-scale=1">'
         f"\n<title>{title}</title>\n<style>{STYLE}</style>\n</head>\n<body>\n<h1>{title}</h1>",
         f'<p>The rows in base sixteen, for the inputs 0 to {2**box.n - 1}:</p>\n<div class="wide"><pre>{_rows(box)}</pre></div>',
+        _fingerprint(box),
         "<h2>The sheet in sentences</h2>",
         *_sheet_in_sentences(box),
         "<h2>Pictures</h2>",

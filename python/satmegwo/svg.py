@@ -110,12 +110,13 @@ class Drawing:
         self._add("image", {"x": x, "y": y, "width": width, "height": height, **how})
         self._reach(y + height)
 
-    def svg(self, title: str) -> str:
-        """The picture."""
+    def svg(self, title: str, description: str = "") -> str:
+        """The picture; its title and description are for those who cannot see it."""
         width, height = shortest(self.width), shortest(self.height)
+        told = f"<desc>{html.escape(description)}</desc>" if description else ""
         return (
             f'<svg xmlns="http://www.w3.org/2000/svg" width="{width}" height="{height}" viewBox="0 0 {width} {height}"'
-            f' font-family="{FONT}" role="img"><title>{html.escape(title)}</title>'
+            f' font-family="{FONT}" role="img"><title>{html.escape(title)}</title>{told}'
             f'<rect width="{width}" height="{height}" fill="#ffffff"/>' + "\n".join(self._parts) + "</svg>\n"
         )
 

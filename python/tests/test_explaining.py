@@ -86,8 +86,19 @@ class Explained(unittest.TestCase):
             self.assertEqual("88 within four outputs, and 74 over all." in str(explanation), figure == "nonlinearity")
             self.assertNotIn("over all combinations", str(example("aes").explain(figure)))
         self.assertIn("over all combinations the nonlinearity is at most 2", str(EXAMPLE.explain("nonlinearity", i=2)))
-        self.assertIn("dynamic distance of order (3, 1) is at least 0", str(EXAMPLE.explain("sac")))
-        self.assertIn("distance FILE --order all,1 counts it over all 7 combinations.", str(EXAMPLE.explain("sac")))
+
+    def test_a_bound_that_says_nothing_is_left_out(self):
+        told = str(EXAMPLE.explain("sac"))
+        self.assertEqual(EXAMPLE.sac().figure, 0)
+        self.assertNotIn("at least 0", told)
+        self.assertNotIn(theorems.LIMITS["distance"].name, told)
+        self.assertIn("distance FILE --order all,1 counts the dynamic distance of order (3, 1) over all 7 combinations.", told)
+        des = example("des-s1")
+        self.assertIn(f"is at least {des.sac().figure} (proved: {theorems.LIMITS['distance']}).", str(des.explain("sac")))
+
+    def test_commands_are_not_broken(self):
+        self.assertIn("the command <code>distance FILE --order all,1</code> counts", EXAMPLE.explain("sac").html())
+        self.assertIn("The command <code>sheet FILE --limit all</code> counts it", EXAMPLE.explain("nonlinearity", i=2).html())
 
     def test_refused_and_unknown(self):
         with self.assertRaises(Refusal):

@@ -8,12 +8,13 @@ import xml.etree.ElementTree as tree
 import zlib
 
 import satmegwo
-from satmegwo import Box, Contradiction, Pair, pictures, svg
+from satmegwo import Box, Contradiction, Pair, definitions, pictures, svg
 
 from .places import example
 
 NAMESPACE = "{http://www.w3.org/2000/svg}"
-DRAWN = (pictures.lat_map, pictures.xor_map, pictures.spectrum_bars, pictures.distance_bars)
+DRAWN = (pictures.lat_map, pictures.xor_map, pictures.spectrum_bars, pictures.distance_bars, pictures.distance_histogram)
+PICTURES = (pictures.lat, pictures.xor, pictures.spectrum, pictures.distances, pictures.histogram)
 
 # What letters are wide in DejaVu Sans and in DejaVu Sans Bold, in thousandths of the type size.
 REGULAR = {
@@ -21,6 +22,7 @@ REGULAR = {
     ",": 318,
     ".": 318,
     ":": 337,
+    ";": 337,
     "-": 361,
     "=": 838,
     "(": 390,
@@ -32,12 +34,12 @@ REGULAR = {
 REGULAR.update(zip("0123456789", [636] * 10))
 REGULAR.update(zip("abcdefghijklm", [613, 635, 550, 635, 615, 352, 635, 634, 278, 278, 579, 278, 974]))
 REGULAR.update(zip("nopqrstuvwxyz", [634, 612, 635, 635, 411, 521, 392, 634, 592, 818, 592, 592, 525]))
-REGULAR.update({"L": 557, "X": 685, "O": 787, "R": 695, "S": 635, "D": 770, "N": 748, "M": 863, "T": 611, "W": 989})
+REGULAR.update({"A": 684, "H": 752, "L": 557, "X": 685, "O": 787, "R": 695, "S": 635, "D": 770, "N": 748, "M": 863, "T": 611, "W": 989})
 BOLD = {" ": 348, ",": 380, ".": 380, ":": 400, "-": 415, "=": 838, "\u00a0": 348}
 BOLD.update(zip("0123456789", [696] * 10))
 BOLD.update(zip("abcdefghijklm", [675, 716, 593, 716, 678, 435, 716, 712, 343, 343, 665, 343, 1042]))
 BOLD.update(zip("nopqrstuvwxyz", [712, 687, 716, 716, 493, 595, 478, 712, 652, 924, 645, 652, 582]))
-BOLD.update({"L": 637, "X": 771, "O": 850, "R": 770, "S": 720, "D": 830, "T": 682})
+BOLD.update({"A": 774, "H": 837, "L": 637, "X": 771, "O": 850, "R": 770, "S": 720, "D": 830, "T": 682, "(": 457, ")": 457})
 
 
 def number(element, name):
@@ -293,21 +295,100 @@ class Bars(unittest.TestCase):
         )
 
     def test_many_outputs(self):
-        for m in (9, 16, 17, 32):
+        for m in (9, 17, 32):
             box = made(4, m)
             Drawn(pictures.spectrum_bars(box))
+            Drawn(pictures.distance_histogram(box))
             for draw in (pictures.lat_map, pictures.xor_map, pictures.distance_bars):
                 with self.assertRaisesRegex(pictures.Undrawable, f"up to 8 outputs, and this box has {m}"):
                     draw(box)
 
 
+class Histogram(unittest.TestCase):
+    def counted(self, box):
+        """How many combinations within the limit have each distance, by the definitions."""
+        affine = [definitions.affine(box.n, w, b) for w in range(2**box.n) for b in (0, 1)]
+        counts = {}
+        for c in range(1, 2**box.m):
+            if definitions.ones(c) <= box.limit:
+                values = definitions.combination(box.rows, c)
+                distance = min(len(definitions.unlike(values, one)) for one in affine)
+                counts[distance] = counts.get(distance, 0) + 1
+        return counts
+
+    def test_counts(self):
+        for n, m in ((1, 1), (3, 3), (2, 9), (4, 9), (3, 10), (2, 17)):
+            with self.subTest((n, m)):
+                box = made(n, m)
+                picture, counts = Drawn(pictures.distance_histogram(box)), self.counted(box)
+                listed = [int(text.text) for text in picture.all("text", "distance")]
+                many = [int(text.text.replace(",", "")) for text in picture.all("text", "many")]
+                self.assertEqual(dict(zip(listed, many)), counts)
+                self.assertEqual((listed, len(listed)), (sorted(counts), len(many)))
+                bars = picture.all("rect", "witness") + picture.all("rect", "bar")  # the first is the marked one
+                self.assertEqual(len(picture.all("rect", "witness")), 1)
+                for bar, count in zip(bars, many):
+                    wide = pictures.LONGEST_BAR * count / max(many)
+                    self.assertAlmostEqual(number(bar, "width"), max(wide, 1), delta=0.01)
+                figure, (c, _, _), limit = box.nonlinearity()
+                told = " ".join(text.text for text in picture.all("text"))
+                self.assertIn(f"the least distance, {figure}, which is the nonlinearity; c = {c} is the first", told)
+                self.assertEqual(f"combinations of at most {limit} outputs" in told, limit < m)
+
+    def test_false_figures_are_not_drawn(self):
+        box = made(3, 9)
+        figure, (c, w, b), limit = box.nonlinearity()
+        other = next(one for one in range(1, 512) if max(map(abs, box.spectrum(one))) != max(map(abs, box.spectrum(c))))
+        for answer in (
+            satmegwo.Nonlinearity(figure + 1, Pair(c, w, b), limit),
+            satmegwo.Nonlinearity(figure, Pair(other, w, b), limit),
+        ):
+            with unittest.mock.patch.object(Box, "nonlinearity", lambda *_: answer), self.assertRaises(Contradiction):
+                pictures.histogram(box)
+
+
+class Told(unittest.TestCase):
+    """The title and the sentence: in the picture as a file of its own, beside it on a page, and for those who cannot see it in both."""
+
+    def test_titles_and_descriptions(self):
+        for draw in PICTURES:
+            picture = draw(example("des-s1"))
+            told, note = picture.title, picture.note.replace("\u00a0", " ")
+            self.assertRegex(note, "^(Ringed|Marked): ")
+            own = Drawn(picture.svg())
+            shown = " ".join(text.text for text in own.all("text")).replace("\u00a0", " ")
+            self.assertTrue(told.replace("\u00a0", " ") in shown and note in shown)
+            figure = tree.fromstring(picture.html())
+            bare = figure.find(f".//{NAMESPACE}svg")
+            self.assertEqual(figure.find("figcaption").text, told)
+            self.assertEqual("".join(figure.find("p").itertext()).replace("\u00a0", " "), note)
+            self.assertEqual(figure.find("div").get("class"), "frame")
+            for one in (own.root, bare):
+                self.assertEqual(one.find(NAMESPACE + "title").text, told)
+                self.assertEqual(one.find(NAMESPACE + "desc").text.replace("\u00a0", " "), note)
+            # What is painted is the same, but for the height that it begins at.
+            plain = [text.text for text in bare.iter(NAMESPACE + "text")]
+            self.assertEqual(plain, [text.text for text in own.all("text") if text.text in plain][: len(plain)])
+            self.assertFalse(set(plain) & {words for words in (told, note)})
+            marks = [len([part for part in one.iter() if part.get("class") == "witness"]) for one in (own.root, bare)]
+            self.assertTrue(marks[0] == marks[1] > 0)
+
+    def test_sizes(self):
+        """On paper every text but a number within a cell or over a bar has 9 points: 12 pixels of 96 to the inch."""
+        for box in (example("example"), example("des-s1"), example("aes"), made(4, 9)):
+            for draw in PICTURES if box.m <= 8 else PICTURES[2::2]:
+                for text in Drawn(draw(box).svg()).all("text"):
+                    if text.get("class") not in ("cell", "value"):
+                        self.assertGreaterEqual(number(text, "font-size"), 12, text.text)
+
+
 class Texts(unittest.TestCase):
     def test_no_text_is_cut_off_or_covers_another(self):
-        boxes = [made(n, m) for n, m in WIDTHS] + [
+        boxes = [made(n, m) for n, m in WIDTHS + [(8, 12), (7, 17)]] + [
             example(name) for name in ("example", "des-s1", "aes", "present", "kim-6a")
         ]
         for box in boxes:
-            for draw in DRAWN:
+            for draw in DRAWN if box.m <= 8 else DRAWN[2::2]:
                 with self.subTest((box.name, draw.__name__)):
                     picture = Drawn(draw(box))
                     self.assertLessEqual(
