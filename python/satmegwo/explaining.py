@@ -106,11 +106,13 @@ class Explanation:
     def _caption(self, is_short: bool) -> list[str]:
         """What stands in the cells: above the table, since a first column of so many words would push the others out of the page."""
         lines = [self.lines[at] for at in self.compared] if is_short else self.lines
-        words = [f"In each cell: {' | '.join(line.name for line in lines)}."] if is_short else []
         meanings = "; ".join(f"{line.name}: {line.meaning}" for line in lines if line.meaning)
-        words += [f"{meanings}."] if meanings else []
-        words += [f"Shaded: {self.mark}."] if is_short else []
-        return [f"<caption>{html.escape(' '.join(words))}</caption>"] if words else []
+        words = [f"{meanings}."] if meanings else []
+        if is_short:
+            alone = len(lines) == 1
+            cells = lines[0].label if alone else " | ".join(line.name for line in lines)
+            words = [f"In each cell: {cells}.", *([] if alone else words), f"Shaded: {self.mark}."]
+        return [f"<caption><span>{html.escape(' '.join(words))}</span></caption>"] if words else []
 
     def _blocks_of_page(self, label: int, cell: int, last: float) -> list[range]:
         """The columns in blocks as broad as the page takes, where labels and cells have so many letters."""

@@ -41,6 +41,7 @@ section { break-inside: avoid }
 figure svg { display: block }
 .count { font-size: 12px; line-height: 1.3 }
 .count caption { text-align: left; font-family: "DejaVu Sans", Verdana, Arial, sans-serif; padding-bottom: .3em }
+.count caption span { display: block; max-width: calc(100vw - 3em) }
 .count th, .count td { text-align: right; padding: 0 .3em; font-weight: normal; white-space: nowrap }
 .count th:first-child { text-align: left; padding: 0 1em 0 0 }
 .count .first th, .count .first td { border-top: 1px solid #c8c8c8; padding-top: .25em; color: #595959 }

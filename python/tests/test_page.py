@@ -255,9 +255,12 @@ class Widths(unittest.TestCase):
         for box in (example("aes"), example("des-s1")):
             text = explaining.explain(box, "nonlinearity").html()
             _, (c, w, _), _ = box.nonlinearity()
-            caption = re.search("<caption>(.*)</caption>", text)[1]
+            caption = re.search("<caption><span>(.*)</span></caption>", text)[1]
             self.assertIn(f"f(x): parity of S(x) AND {c}; a(x): parity of x AND {w}, XOR 1.", caption)
             self.assertNotIn("parity", "".join(re.findall("<th.*?</th>", text)))
+        a, beta = example("aes").largest_cell().witness
+        caption = f"<span>In each cell: difference, S(x) XOR S(x XOR {a}). Shaded: is {beta}.</span>"
+        self.assertIn(caption, explaining.explain(example("aes"), "xor").html())
 
     def longest(self, sentence, size):
         """The widths of what is not broken in a line of the sheet in sentences: two words, the witness, and any word of the sentence."""
