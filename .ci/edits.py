@@ -3,14 +3,16 @@
 
 `rt` takes an edit for refused if its crate is not proved, for whatever reason. An edit may make several functions of one crate wrong at
 once, and this script reads the log of its check: every function that the edit names by a line 'refused: NAME', and every law that it names by
-a line 'law: NAME', must be refused in it by an error of its own, and the first such error must be a fact that no longer holds. A proof
-that only no longer fits the code shows nothing, and neither does an edit that changes nothing but arguments that no function reads.
+a line 'law: NAME', must be refused in it by an error of its own that is a fact that no longer holds. Of a function that is an error in what
+it returns or in what a loop of it keeps, or else its first error; of a law it is the first. A proof that only no longer fits the code shows
+nothing, and neither does an edit that changes nothing but arguments that no function reads.
 
 The public contracts are those of the calls and exports of docs/CALLS.md.
 
 usage: edits.py CALLS CRATES LOGS      (docs/CALLS.md, crates/ and target/must-fail/, after `rt ci`)
 """
 import dataclasses
+import itertools
 import pathlib
 import re
 import sys
@@ -19,17 +21,22 @@ import arguments
 import calls
 import sources
 
-# A first error of one of these kinds says that the proof does not fit the code, that something else failed before, or that the check gave up.
-UNFIT = (
+# An error of one of these kinds says that the proof was written for code of another shape: what comes after it may be refused for that alone.
+SHAPE = (
     "that can be named from here",
+    "` has no field `",
+    "but this has type `tie.Need-",
+)
+# An error of one of these kinds says that the proof does not fit the code, that something else failed before, or that the check gave up.
+UNFIT = SHAPE + (
     "was not admitted",
     "`rw`: no occurrence",
     "`rw`: no part of the goal",
     "`simp`: no equation of the list has an instance",
-    "` has no field `",
-    "but this has type `tie.Need-",
     "stopped at the step limit",
 )
+# The needs that say what a function returns, and what a loop of it keeps.
+OUTCOME = re.compile(r"(returns|loop-holds|loop-again)(-\d+)?")
 NOT_SHOWN = "what differs could not be computed"
 OTHER_TEST = "the test has another form"
 ERROR = re.compile(r"^(\S+): error: `([^`]*)`: ")
@@ -123,8 +130,16 @@ def unfit(message):
     return kind or (NOT_SHOWN if not_shown(message) else None) or (OTHER_TEST if other_test(message) else None)
 
 
-def own_fault(own):
-    kind = unfit(own[0])
+def outcome_fails(own):
+    """Whether what a function returns, or what a loop of it keeps, fails by a fact. Of its errors, each with its need, those count that come
+    before one which says that the code has another shape."""
+    kinds = [(need, unfit(message)) for need, message in own]
+    fitting = itertools.takewhile(lambda error: error[1] not in SHAPE, kinds)
+    return any(OUTCOME.fullmatch(need) and kind is None for need, kind in fitting)
+
+
+def first_fault(messages):
+    kind = unfit(messages[0])
     return kind and f"its first error is no fact ({kind})"
 
 
@@ -137,9 +152,9 @@ def function_fault(crate, name, lines, found):
     if told == "proved":
         return "it is proved"
     folder = re.compile(r"/proofs/" + r"/".join(r"\+?" + re.escape(part) for part in name.split("::")) + r"/Proof\.antt:")
-    own = [message for file, _, message in found if folder.search(file)]
+    own = [(need, message) for file, need, message in found if folder.search(file)]
     if own:
-        return own_fault(own)
+        return None if outcome_fails(own) else first_fault([message for _, message in own])
     if told.startswith("no proof: ") and "`search` does not close" in told:
         return None
     return f"it has no error of its own ({told})"
@@ -148,7 +163,7 @@ def function_fault(crate, name, lines, found):
 def law_fault(name, found):
     """What is wrong with the refusal of a law, or None. A law may stand in specs/ too; a need of a function is none."""
     own = [message for file, law, message in found if law == name and re.search("/(proofs|specs)/", file) and "/Proof.antt:" not in file]
-    return own_fault(own) if own else "no error is in its proof"
+    return first_fault(own) if own else "no error is in its proof"
 
 
 # ---- what the edit changes

@@ -27,6 +27,7 @@ new: w = 1
 """
 LAW = "# a definition\nlaw: least\nfile: specs/A.antt\nold: : a\nnew: : b\n"
 SWEEP = "/t/linear/both/proofs/sweep/Proof.antt:31:5: error: `loop-again`: `omega`: the goal fails at c = 3"
+OTHER = SWEEP.replace("loop-again", "next-requires")
 PLACE = "/t/linear/both/proofs/first_place/Proof.antt:12:1: error: `returns`: `search`: no proof of"
 REFUSED = ["fn linear::sweep: not proved", "fn linear::first_place: not proved"]
 AT = "/t/linear/both/proofs/sweep/Proof.antt:31:5: error: "
@@ -62,7 +63,7 @@ class Held(unittest.TestCase):
         self.assertIn(part, found[0])
 
     def unfit(self, message):
-        self.one_fault("no fact", [AT + message, SWEEP, PLACE] + REFUSED)
+        self.one_fault("no fact", [AT + message, OTHER, PLACE] + REFUSED)
 
     def fits(self, message):
         self.assertEqual(self.faults([AT + message, PLACE] + REFUSED), (2, []))
@@ -86,7 +87,28 @@ class Held(unittest.TestCase):
         log = [PLACE, "fn linear::sweep: no proof: expected `sweep-spec` in ..; `search` does not close `returns-7`", REFUSED[1]]
         self.assertEqual(self.faults(log), (2, []))
 
-    # ---- first errors that are no facts
+    # ---- which error counts
+    def test_an_outcome_counts_though_it_is_not_first(self):
+        unfit = AT + "`add-c`: `rw`: no occurrence of `c`"
+        for need in ("returns", "returns-3", "loop-holds", "loop-again-2"):
+            self.assertEqual(self.faults([unfit, SWEEP.replace("loop-again", need), PLACE] + REFUSED), (2, []))
+
+    def test_no_other_need_counts_after_an_error_that_is_no_fact(self):
+        for need in ("next-requires", "loop-less", "returned", "sweep-spec"):
+            self.one_fault("no fact", [AT + "`add-c`: `rw`: no occurrence of `c`", SWEEP.replace("loop-again", need), PLACE] + REFUSED)
+
+    def test_a_first_error_in_another_need_counts(self):
+        unfit = AT + "`returns`: `mask` was not admitted"
+        self.assertEqual(self.faults([OTHER, unfit, PLACE] + REFUSED), (2, []))
+
+    def test_no_outcome_counts_after_code_of_another_shape(self):
+        self.one_fault("no fact", [AT + "`add-c`: `tie` has no `Need-add-c` that can be named from here", SWEEP, PLACE] + REFUSED)
+        self.assertEqual(self.faults([SWEEP, AT + "`add-c`: `tie` has no `Need-add-c` that can be named from here", PLACE] + REFUSED), (2, []))
+
+    def test_all_errors_unfit_fails(self):
+        self.one_fault("no fact", [AT + "`returns`: `mask` was not admitted", AT + "`loop-again`: `rw`: no occurrence of `c`", PLACE] + REFUSED)
+
+    # ---- errors that are no facts
     def test_a_proof_that_does_not_fit_fails(self):
         self.unfit("`add-c`: `tie` has no `Need-add-c` that can be named from here")
         self.unfit("`add-c`: `tie` has no `Need-add-c`\n  that can be named from here")
