@@ -82,8 +82,8 @@ pub fn next_peak(
     walsh::peak(fixed, n, table, work)
 }
 
-// The largest magnitude in the spectrum of component c, for callers that need few of the spectra themselves: the array to work in has 16-bit
-// values. The other array is left with the component's truth table.
+// The largest magnitude in the spectrum of component c, for callers that need few of the spectra themselves: the array to work in has
+// 16-bit values. The other array is left with the component's truth table.
 pub fn component_peak(
     fixed: &[i16; 2048],
     n: u32,

@@ -15,7 +15,7 @@ use Rattle.boolean.specs.Functions.{valueAt, MaskWithin}
 use Rattle.boolean.proofs.Lists.{each-append, each-from-one, each-from-zero}
 use Rattle.boolean.proofs.Stored.{Stored, stored-none, stored-more}
 use Rattle.nearest.specs.declared.Sought.{Sought}
-use Rattle.nearest.specs.Work.{NextOfOnes, masksWithOnes, pairsAt, pairsOfOnes, pairsOfAll, pairNumberAt, pairNumbers, Lent}
+use Rattle.nearest.specs.Work.{NextOfOnes, masksWithOnes, pairsAt, pairsOfOnes, pairsOfAll, pairNumberAt, pairNumbers, ListLent}
 use Rattle.nearest.proofs.Masks.{masks-none, masks-next, masks-all}
 
 -- ---- the places of a spectrum
@@ -48,8 +48,8 @@ module _ {c size : ℕ} {values : List ℤ} {start : ℕ} {old : List ℕ} where
         (t .stored .place ∙ ap (λ (l : List ℕ). start + length l) is, t .stored .stored ∙ ap (sets old start) is)
 
 -- the arrays to work in, with any content
-pub lent-again : {s : Sought} {rows table table′ : List ℕ} {work work′ values values′ : List ℤ} → Lent s rows table work values
-    → AnyContent table table′ → AnyContent work work′ → AnyContent values values′ → Lent s rows table′ work′ values′
+pub lent-again : {s : Sought} {rows table table′ : List ℕ} {work work′ values values′ : List ℤ} → ListLent s rows table work values
+    → AnyContent table table′ → AnyContent work work′ → AnyContent values values′ → ListLent s rows table′ work′ values′
 lent-again l same-table same-work same-values = record {
   known = l .known;
   arrays = record {
@@ -62,14 +62,14 @@ lent-again l same-table same-work same-values = record {
 
 -- ---- the masks of k ones
 pub record Listing (s : Sought) (rows : List ℕ) (k start : ℕ) (old table : List ℕ) (work values : List ℤ) (next : ℕ) (list : List ℕ) (c : ℕ) : Type 0 where
-  pub lent : Lent s rows table work values
+  pub lent : ListLent s rows table work values
   pub c-low : 1 ≤ c
   pub c-ones : ones c ≡ k
   pub few : next ≤ start + 256 * min c (2 ^ s .m)
   pub stored : Stored start old (each (masksWithOnes k (min c (2 ^ s .m))) (λ c. pairsAt (s .n) rows (s .d) c)) next list
 
 module _ {s : Sought} {rows : List ℕ} {k start : ℕ} {old : List ℕ} where
-  pub listing-none : {table : List ℕ} {work values : List ℤ} {c : ℕ} → Lent s rows table work values → 1 ≤ k → k ≤ s .m → c ≡ 2 ^ k - 1
+  pub listing-none : {table : List ℕ} {work values : List ℤ} {c : ℕ} → ListLent s rows table work values → 1 ≤ k → k ≤ s .m → c ≡ 2 ^ k - 1
       → Listing s rows k start old table work values start old c
   unfolding each
   listing-none {c = c} l low high e =
@@ -94,7 +94,7 @@ module _ {s : Sought} {rows : List ℕ} {k start : ℕ} {old : List ℕ} where
     listing-room l h = omega (arith, t .few, pow-mono {i = s .m} {j = 32} (t .lent .arrays .box .m-high))
 
     pub listing-next : {table′ : List ℕ} {work′ values′ : List ℤ} {after : ℕ} {list′ : List ℕ} {r : ℕ} → c < 2 ^ s .m → NextOfOnes c r
-        → Lent s rows table′ work′ values′ → after ≡ next + length (pairsAt (s .n) rows (s .d) c) → after ≤ next + 256
+        → ListLent s rows table′ work′ values′ → after ≡ next + length (pairsAt (s .n) rows (s .d) c) → after ≤ next + 256
         → list′ ≡ sets list next (pairsAt (s .n) rows (s .d) c) → Listing s rows k start old table′ work′ values′ after list′ r
     unfolding each
     listing-next {after = after} {list′ = list′} {r = r} l next-is again p h q =
@@ -124,14 +124,14 @@ module _ {s : Sought} {rows : List ℕ} {k start : ℕ} {old : List ℕ} where
 
 -- ---- one, two, .. ones
 pub record Rising (s : Sought) (rows old table : List ℕ) (work values : List ℤ) (next : ℕ) (list : List ℕ) (k : ℕ) : Type 0 where
-  pub lent : Lent s rows table work values
+  pub lent : ListLent s rows table work values
   pub k-low : 1 ≤ k
   pub k-high : k ≤ s .i + 1
   pub few : next ≤ 2 ^ 40 * (k - 1)
   pub stored : Stored 0 old (each (listFrom 1 (k - 1) (λ k. k)) (pairsOfOnes s rows)) next list
 
 module _ {s : Sought} {rows old : List ℕ} where
-  pub rising-none : {table : List ℕ} {work values : List ℤ} → Lent s rows table work values → Rising s rows old table work values 0 old 1
+  pub rising-none : {table : List ℕ} {work values : List ℤ} → ListLent s rows table work values → Rising s rows old table work values 0 old 1
   unfolding each listFrom
   rising-none l = record { lent = l; k-low = le-refl 1; k-high = omega (arith, l .known .i-low); few = zero-le; stored = stored-none 0 old }
 
@@ -143,7 +143,7 @@ module _ {s : Sought} {rows old : List ℕ} where
     pub rising-room : k ≤ s .i → next ≤ 2 ^ 61
     rising-room l = omega (arith, t .few, rising-limit)
 
-    pub rising-next : {table′ : List ℕ} {work′ values′ : List ℤ} {after : ℕ} {list′ : List ℕ} → k ≤ s .i → Lent s rows table′ work′ values′
+    pub rising-next : {table′ : List ℕ} {work′ values′ : List ℤ} {after : ℕ} {list′ : List ℕ} → k ≤ s .i → ListLent s rows table′ work′ values′
         → after ≡ next + length (pairsOfOnes s rows k) → after ≤ next + 2 ^ 40 → list′ ≡ sets list next (pairsOfOnes s rows k)
         → Rising s rows old table′ work′ values′ after list′ (k + 1)
     rising-next {after = after} {list′ = list′} l again p h q = record {

@@ -56,7 +56,7 @@ pub record NonlinearityKnown (n m : ℕ) (rows : List ℕ) (i d : ℕ) : Type 0 
   pub least : d ≡ nonlinearity n m rows i .figure
 
 -- the same of what is listed, and three arrays to work in, as long as the box's rows
-pub record Lent (sought : Sought) (rows table : List ℕ) (work values : List ℤ) : Type 0 where
+pub record ListLent (sought : Sought) (rows table : List ℕ) (work values : List ℤ) : Type 0 where
   pub known : NonlinearityKnown (sought .n) (sought .m) rows (sought .i) (sought .d)
   pub arrays : PairsSwept (sought .n) (sought .m) rows table work
   pub values-size : length values ≡ 2 ^ sought .n

@@ -10,7 +10,7 @@ ghost use Rattle.boolean.specs.Functions.{MaskWithin};
 ghost use Rattle.walsh.specs.FixedTable.{Spectra};
 ghost use Rattle.nearest.specs.Calls.{PairsCalled};
 ghost use Rattle.nearest.specs.Work.{NextOfOnes, pairsAt, pairsOfOnes, pairsOfAll, pairNumberAt, pairNumbers};
-ghost use Rattle.nearest.specs.Work.{NonlinearityKnown, Lent};
+ghost use Rattle.nearest.specs.Work.{NonlinearityKnown, ListLent};
 
 // The answer of the call: how many pairs there are, all of which stand in the list.
 pub enum PairList {
@@ -89,7 +89,7 @@ fn list_component(
     list: &mut [u64],
     start: usize,
 ) -> usize
-    requires { ⌜ Lent sought (now rows) (now table) (now work) (now values) × MaskWithin (sought .i) (2 ^ sought .m) c
+    requires { ⌜ ListLent sought (now rows) (now table) (now work) (now values) × MaskWithin (sought .i) (2 ^ sought .m) c
         × Spectra (now fixed) × (start ≤ 2 ^ 62) ⌝ }
     ensures { λ r. ⌜ (r ≡ start + length (pairsAt (sought .n) (now (rows .entry)) (sought .d) c)) × (r ≤ start + 256)
         × (now (list .exit) ≡ sets (now (list .entry)) start (pairsAt (sought .n) (now (rows .entry)) (sought .d) c))
@@ -117,7 +117,7 @@ fn list_of_ones(
     list: &mut [u64],
     start: usize,
 ) -> usize
-    requires { ⌜ Lent sought (now rows) (now table) (now work) (now values) × (1 ≤ k) × (k ≤ sought .i) × Spectra (now fixed)
+    requires { ⌜ ListLent sought (now rows) (now table) (now work) (now values) × (1 ≤ k) × (k ≤ sought .i) × Spectra (now fixed)
         × (start ≤ 2 ^ 61) ⌝ }
     ensures { λ r. ⌜ (r ≡ start + length (pairsOfOnes sought (now (rows .entry)) k)) × (r ≤ start + 2 ^ 40)
         × (now (list .exit) ≡ sets (now (list .entry)) start (pairsOfOnes sought (now (rows .entry)) k))
@@ -144,7 +144,7 @@ fn list_all(
     values: &mut [i32],
     list: &mut [u64],
 ) -> usize
-    requires { ⌜ Lent sought (now rows) (now table) (now work) (now values) × Spectra (now fixed) ⌝ }
+    requires { ⌜ ListLent sought (now rows) (now table) (now work) (now values) × Spectra (now fixed) ⌝ }
     ensures { λ r. ⌜ (r ≡ length (pairsOfAll sought (now (rows .entry))))
         × (now (list .exit) ≡ sets (now (list .entry)) 0 (pairsOfAll sought (now (rows .entry))))
         × AnyContent (now (table .entry)) (now (table .exit)) × AnyContent (now (work .entry)) (now (work .exit))
@@ -170,7 +170,7 @@ fn list_with(
     values: &mut [i32],
     list: &mut [u64],
 ) -> PairList
-    requires { ⌜ Lent sought (now rows) (now table) (now work) (now values) × Spectra (now fixed) ⌝ }
+    requires { ⌜ ListLent sought (now rows) (now table) (now work) (now values) × Spectra (now fixed) ⌝ }
     ensures { λ r. ⌜ PairsCalled (sought .n) (sought .m) (now (rows .entry)) (sought .i) (now (list .entry)) r (now (list .exit))
         × AnyContent (now (table .entry)) (now (table .exit)) × AnyContent (now (work .entry)) (now (work .exit))
         × AnyContent (now (values .entry)) (now (values .exit)) ⌝ }

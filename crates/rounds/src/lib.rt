@@ -223,7 +223,8 @@ fn size_at(
     bits: &mut [[u8; 256]; 4],
     out: &mut [i16; 256],
 ) -> u32
-    requires { ⌜ (used ≡ true → Box n m (rowsAt n (now held) k) × (c < 2 ^ m)) × (used ≡ true → SteppedAt n m (now held) last (now steps) (now bits) k)
+    requires { ⌜ (used ≡ true → Box n m (rowsAt n (now held) k) × (c < 2 ^ m))
+        × (used ≡ true → SteppedAt n m (now held) last (now steps) (now bits) k)
         × PowerAdded last c × Spectra (now fixed) × (k < 4) ⌝ }
     ensures { λ r. ⌜ (r ≡ sizeIf used (summandOf n m (rowsAt n (now (held .entry)) k)) c) × (r ≤ 256)
         × (used ≡ true → SteppedAt n m (now (held .entry)) c (now (steps .entry)) (now (bits .exit)) k)
@@ -248,7 +249,8 @@ fn product_at(
     bits: &mut [[u8; 256]; 4],
     out: &mut [i16; 256],
 ) -> u64
-    requires { ⌜ Round count (widths .m1) (boxesHeld count widths (now held)) × AllStepped count widths (now held) last (now steps) (now bits)
+    requires { ⌜ Round count (widths .m1) (boxesHeld count widths (now held))
+        × AllStepped count widths (now held) last (now steps) (now bits)
         × PowerAdded last c × (c < 2 ^ widths .m1) × Spectra (now fixed) ⌝ }
     ensures { λ r. ⌜ (r ≡ product (boxesHeld count widths (now (held .entry))) c)
         × AllStepped count widths (now (held .entry)) c (now (steps .entry)) (now (bits .exit))
