@@ -1,4 +1,4 @@
-// The largest magnitude of a spectrum, in 16-bit values, which hold every one of them: the sweeps take it of each component, and the
+// The spectrum in 16-bit values, which hold every one of them, and its largest magnitude: the sweeps take it of each component, and the
 // machine adds eight such values at once.
 use crate::number;
 use crate::value;
