@@ -131,8 +131,8 @@ def _autocorrelation(box: Box) -> Sentence:
 def _degree(box: Box) -> Sentence:
     figure, (c,), limit = box.degree()
     says = (
-        f"Every {within(limit, box.m)} has degree {figure} or more (algebraic degree, here the least over the components); this is the first"
-        f" of exactly {figure}."
+        f"Every {within(limit, box.m)} has degree {figure} or more (algebraic degree, here the least over the components); this is the"
+        f" first of exactly {figure}."
     )
     return _bounded("degree", figure, f"c = {c}", says, limit, box.m)
 

@@ -440,7 +440,7 @@ def rows_of_text(
 ) -> list[int]:
     """The rows of a table of numbers, read line by line. The words that settle how are those of the command, such as --base:
 
-    base     10 or 16, for numbers that do not say it; without it 0x means base sixteen, and all else must be in base ten without a leading 0
+    base     10 or 16, for numbers that do not say it; without it 0x means base sixteen, and all else is in base ten without a leading 0
     pairs    True: each line is an input and its row; False: every number is a row, even where a column counts
     lines    True: four lines of sixteen numbers, as DES prints its boxes, do stand in the order of the inputs
     heading  True: line 1 is a heading

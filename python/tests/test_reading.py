@@ -355,7 +355,7 @@ class Mutated(unittest.TestCase):
         named = isinstance(column, str) and not column.isdigit()
         unquoted = re.sub(r'"[^"]*"', "", text.partition("\n")[2] if heading or named else text)
         separator = stated[1] if stated else next((letter for letter in ",;\t" if letter in unquoted), None)
-        reader = csv.reader(io.StringIO(text), delimiter=separator or "\0", skipinitialspace=True)
+        reader = csv.reader(io.StringIO(text), delimiter=separator or "\1", skipinitialspace=True)
         table = [[cell.strip() for cell in line] for line in reader]
         if separator is None and '"' not in text:
             table = [line[0].split() for line in table]

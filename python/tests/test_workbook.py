@@ -1,6 +1,7 @@
 """Workbooks: the column that is read, the cells that are turned down by their address, and what is said where openpyxl is missing.
 
-Where this Python has no openpyxl, the tests that need it are run by another that has it; where none has it, a line says that they were left out.
+Where this Python has no openpyxl, the tests that need it are run by another that has it; where none has it, a line says that they were
+left out.
 """
 import contextlib
 import datetime
@@ -203,7 +204,7 @@ class WithoutTheModule(Asked):
         self.turned_down(data, "this is a workbook (.xlsx): state the column of the rows by --column (a letter such as B")
 
     def test_other_files(self):
-        self.turned_down(b"\xd0\xcf\x11\xe0\xa1\xb1\x1a\xe1" + bytes(600), "a workbook of the old form (.xls), which is not read: save it as")
+        self.turned_down(b"\xd0\xcf\x11\xe0\xa1\xb1\x1a\xe1" + bytes(600), "a workbook of the old form (.xls), which is not read")
         self.turned_down(self.archive("mimetype", "content.xml"), "a document of the OpenDocument form (.ods)")
         self.turned_down(self.archive("a.txt"), "this is a zip archive and no workbook")
         self.turned_down(b"PK\3\4" + bytes(50), "begins as a workbook (.xlsx) does, and is damaged or cut off")
