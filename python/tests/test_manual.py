@@ -83,7 +83,7 @@ class Completion(unittest.TestCase):
             self.assertEqual(completed("satmegwo", name, "-"), options, name)
             long = {option for option in options if option.startswith("--")}
             self.assertEqual(completed("satmegwo", name, "a.box", "--"), long, name)
-        self.assertEqual(completed("satmegwo", "ddt", "--c"), {"--csv"})
+        self.assertEqual(completed("satmegwo", "ddt", "--cs"), {"--csv"})
 
     def test_words_of_options(self):
         self.assertEqual(completed("satmegwo", "explain", "--figure", "a"), {"autocorrelation"})
