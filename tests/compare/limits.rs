@@ -192,7 +192,7 @@ fn distances(run: &mut Run, n: u32, m: u32, most: u32) {
 mod tests {
     use super::*;
 
-    /// The numbers that README states.
+    /// The numbers that READING states.
     #[test]
     fn so_many_limits_are_quick() {
         let widths = || (1..=8).flat_map(|n| (17..=32).map(move |m| (n, m)));

@@ -17,7 +17,7 @@
 //! tests hold it to the counts. It is also what the benchmark measures, with `fast_cells`.
 //!
 //! `between` has four figures over a part of the combinations, and merges them, from the text of the calls
-//! alone; the library does not have these calls yet.
+//! alone.
 //!
 //! `sheet` prints the box sheet, and `printed` what the example programs print; `catalogue` keeps
 //! boxes in one buffer; `design` tunes one box; `server` has several boxes under analysis.
