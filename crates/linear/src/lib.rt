@@ -133,8 +133,8 @@ pub fn spectrum_of_component(n: u32, m: u32, rows: &[u32], c: u32, out: &mut [i3
     Written::Done
 }
 
-// The fewest inputs at which component c differs from an affine function, with the fixed table and two arrays to work in lent: they are
-// left with the component's truth table and spectrum.
+// The fewest inputs at which component c differs from an affine function, with the fixed table and two arrays to work in lent: the first is
+// left with the component's truth table.
 pub fn component_count(
     fixed: &[i16; 2048],
     n: u32,
@@ -142,15 +142,14 @@ pub fn component_count(
     rows: &[u32],
     c: u32,
     table: &mut [u8],
-    values: &mut [i32],
+    work: &mut [i16],
 ) -> u32
-    requires { ⌜ PairsSwept n m (now rows) (now table) (now values) × Spectra (now fixed) ⌝ }
+    requires { ⌜ PairsSwept n m (now rows) (now table) (now work) × Spectra (now fixed) ⌝ }
     ensures { λ r. ⌜ (r ≡ firstLeast (pairsOf n (now (rows .entry)) c) .figure)
-        × (now (values .exit) ≡ spectrum n (component (now (rows .entry)) c))
-        × (now (table .exit) ≡ listBelow (2 ^ n) (λ x. component (now (rows .entry)) c x)) ⌝ }
+        × (now (table .exit) ≡ listBelow (2 ^ n) (λ x. component (now (rows .entry)) c x))
+        × AnyContent (now (work .entry)) (now (work .exit)) ⌝ }
 {
-    component_spectrum(fixed, n, m, rows, c, table, values);
-    let largest = walsh::largest_magnitude(values);
+    let largest = component_peak(fixed, n, m, rows, c, table, work);
     rows.len() as u32 / 2 - largest
 }
 

@@ -108,7 +108,7 @@ fn reaching(
     count: u32,
     hint: u32,
     bits: &mut [u8],
-    out: &mut [i32],
+    out: &mut [i16],
 ) -> Attempt
     requires { ⌜ PairsSwept n m (now rows) (now bits) (now out) × Spectra (now fixed) × MaskWithin m (2 ^ m) hint × (m ≤ 8) ⌝ }
     ensures { λ r. ⌜ Tried n m (now (rows .entry)) count r
@@ -239,7 +239,7 @@ fn try_swap(
     high: usize,
     work: &mut [u32],
     bits: &mut [u8],
-    out: &mut [i32],
+    out: &mut [i16],
 ) -> Attempt
     requires { ⌜ Searching (job .n) (job .m) (now rows) (job .figure) (now pairs) (job .count) (now work) (now bits) (now out)
         × Spectra (now fixed) × MaskWithin (job .m) (2 ^ job .m) hint × (low < 2 ^ job .n) × (high < 2 ^ job .n) ⌝ }
@@ -268,7 +268,7 @@ fn search_from(
     low: usize,
     work: &mut [u32],
     bits: &mut [u8],
-    out: &mut [i32],
+    out: &mut [i16],
 ) -> Searched
     requires { ⌜ Searching (job .n) (job .m) (now rows) (job .figure) (now pairs) (job .count) (now work) (now bits) (now out)
         × Spectra (now fixed) × MaskWithin (job .m) (2 ^ job .m) start × (low < 2 ^ job .n) ⌝ }
@@ -299,7 +299,7 @@ fn search_by(
     d: u32,
     work: &mut [u32],
     bits: &mut [u8],
-    out: &mut [i32],
+    out: &mut [i16],
 ) -> Searched
     requires { ⌜ Searching (job .n) (job .m) (now rows) (job .figure) (now pairs) (job .count) (now work) (now bits) (now out)
         × Spectra (now fixed) × MaskWithin (job .m) (2 ^ job .m) start ⌝ }
@@ -329,7 +329,7 @@ fn search(
     start: u32,
     work: &mut [u32],
     bits: &mut [u8],
-    out: &mut [i32],
+    out: &mut [i16],
 ) -> Searched
     requires { ⌜ Searching (job .n) (job .m) (now rows) (job .figure) (now pairs) (job .count) (now work) (now bits) (now out)
         × Spectra (now fixed) × MaskWithin (job .m) (2 ^ job .m) start ⌝ }
@@ -351,7 +351,8 @@ fn search(
     not_found(hint)
 }
 
-// The nearest pairs are gathered from the present witness on, and all swaps are searched with their tables.
+// The nearest pairs are gathered from the present witness on, for which spectra are made in 32 bits, and all swaps are searched with their
+// tables.
 fn gather_and_search(
     fixed: &[i16; 2048],
     n: u32,
@@ -361,15 +362,18 @@ fn gather_and_search(
     tables: &mut [u8],
     work: &mut [u32],
     bits: &mut [u8],
-    out: &mut [i32],
+    out: &mut [i16],
+    values: &mut [i32],
 ) -> Searched
     requires { ⌜ PairsSwept n m (now rows) (now bits) (now out) × Spectra (now fixed) × (m ≤ 8)
-        × (pairCandidate present ≡ nonlinearity n m (now rows) m) × (length (now tables) ≡ 4096) × (length (now work) ≡ 2 ^ n) ⌝ }
+        × (pairCandidate present ≡ nonlinearity n m (now rows) m) × (length (now tables) ≡ 4096) × (length (now work) ≡ 2 ^ n)
+        × (length (now values) ≡ 2 ^ n) ⌝ }
     ensures { λ r. ⌜ SearchedIn n m (now (rows .entry)) (swaps n m (now (rows .entry))) r
         × AnyContent (now (tables .entry)) (now (tables .exit)) × AnyContent (now (work .entry)) (now (work .exit))
-        × AnyContent (now (bits .entry)) (now (bits .exit)) × AnyContent (now (out .entry)) (now (out .exit)) ⌝ }
+        × AnyContent (now (bits .entry)) (now (bits .exit)) × AnyContent (now (out .entry)) (now (out .exit))
+        × AnyContent (now (values .entry)) (now (values .exit)) ⌝ }
 {
-    let count = gather_pairs(fixed, n, m, rows, present, bits, out, tables);
+    let count = gather_pairs(fixed, n, m, rows, present, bits, values, tables);
     let job = Job {
         n,
         m,
@@ -388,7 +392,8 @@ fn search_box(n: u32, m: u32, rows: &[u32], present: Found) -> RaisingSwap
     let mut tables = [0u8; 4096];
     let mut work = [0u32; 256];
     let mut bits = [0u8; 256];
-    let mut out = [0i32; 256];
+    let mut out = [0i16; 256];
+    let mut values = [0i32; 256];
     let size = rows.len();
     let place = gather_and_search(
         &fixed,
@@ -400,6 +405,7 @@ fn search_box(n: u32, m: u32, rows: &[u32], present: Found) -> RaisingSwap
         &mut work[..size],
         &mut bits[..size],
         &mut out[..size],
+        &mut values[..size],
     );
     if !place.found {
         return RaisingSwap::NoSwap;

@@ -8,8 +8,13 @@ use Rattle.swaps.proofs.gather_and_search.Tie as tie
 gather-pairs-requires : tie.Need-gather-pairs-requires
 gather-pairs-requires c κs =
     let start = c .before .before .before .before .before .before .before in
-    let a = start .args in
-    (start .pre .0, start .pre .1, start .pre .2, witness-nearest (a .n) (a .m) (a .rows .now) (start .pre .0 .box) (start .pre .3), start .pre .4)
+    let a = start .args in (
+      record { box = start .pre .0 .box; table-size = start .pre .0 .table-size; out-size = start .pre .6 },
+      start .pre .1,
+      start .pre .2,
+      witness-nearest (a .n) (a .m) (a .rows .now) (start .pre .0 .box) (start .pre .3),
+      start .pre .4,
+    )
 
 search-requires : tie.Need-search-requires
 search-requires c κs =
@@ -23,17 +28,17 @@ search-requires c κs =
         gathered = found .0;
         other-size = start .pre .5;
         table-size = found .1 ∙ start .pre .0 .table-size;
-        values-size = found .2 ∙ start .pre .0 .out-size;
+        values-size = start .pre .0 .out-size;
       },
       start .pre .1,
       witness-nearest (a .n) (a .m) (a .rows .now) (start .pre .0 .box) (start .pre .3) .mask,
     )
 
 returns : tie.Need-returns
-returns c = (c .before .before .before .before .before .search .ensures .0, search needs, search needs, search needs, search needs)
+returns c = (c .before .before .before .before .before .search .ensures .0, search needs, search needs, search needs, search needs, search needs)
 
 pub gather-and-search-spec : {M : Type 1} → statement M
 gather-and-search-spec =
     tie.close
     (tie.spec gather-pairs-requires search-requires (λ c. search needs) (λ c. search needs) (λ c. search needs) (λ c. search needs)
-    returns)
+    (λ c. search needs) returns)
