@@ -129,12 +129,23 @@ class Box:
 
         A table is read as `reading.rows_of_text` says, and a workbook as `workbook.rows_of_workbook`.
         """
-        how: dict[str, Any] = {"base": base, "pairs": pairs, "lines": lines, "heading": heading, "column": column, "sheet": sheet}
-        return cls.from_data(reading.bytes_of_file(path), n, m, pathlib.Path(path).name, **how)
+        data, name = reading.bytes_of_file(path), pathlib.Path(path).name
+        return cls.from_data(data, n, m, name, base=base, pairs=pairs, lines=lines, heading=heading, column=column, sheet=sheet)
 
     @classmethod
     def from_data(
-        cls, data: bytes, n: Optional[int] = None, m: Optional[int] = None, name: str = "", **how: Any
+        cls,
+        data: bytes,
+        n: Optional[int] = None,
+        m: Optional[int] = None,
+        name: str = "",
+        *,
+        base: Optional[int] = None,
+        pairs: Optional[bool] = None,
+        lines: bool = False,
+        heading: bool = False,
+        column: Union[None, int, str] = None,
+        sheet: Optional[str] = None,
     ) -> Box:
         """As `from_file`, of what a file holds. It is a box file where it is named so, or cannot be a text."""
         if not data and not name.endswith(".box"):
@@ -150,7 +161,7 @@ class Box:
             raise reading.Unreadable(
                 f"a table of numbers does not say how many {word} the box has: state it (in the command -{letter} or --{word})"
             )
-        return cls(workbook.rows_of_data(data, **how), n, m, name)
+        return cls(workbook.rows_of_data(data, base, pairs, lines, heading, column, sheet), n, m, name)
 
     @classmethod
     def from_packed(cls, packed: bytes, n: int, m: int, name: str = "") -> Box:
@@ -464,11 +475,11 @@ class Box:
         with ranged(Argument("the input x", x, 0, last), Argument("the input y", y, 0, last)):
             return Design(self).swap(x, y).box
 
-    def explain(self, figure: str = "nonlinearity", **how: Any) -> Explanation:
+    def explain(self, figure: str = "nonlinearity", *, i: Optional[int] = None, j: Optional[int] = None) -> Explanation:
         """The count behind a figure's witness: see `explaining`."""
         from . import explaining
 
-        return explaining.explain(self, figure, **how)
+        return explaining.explain(self, figure, i=i, j=j)
 
 
 def sheet(data: bytes) -> str:

@@ -209,9 +209,8 @@ def _boxfile(given: Sequence[Given], args: argparse.Namespace, progress: Progres
 def _explain(given: Sequence[Given], args: argparse.Namespace, progress: Progress) -> Result:
     box = given[0].box
     limit = None if args.limit is None else limit_of(args.limit, box)
-    asked = {name: value for name, value in (("i", limit), ("j", args.flips)) if value is not None}
     try:
-        explanation = explaining.explain(box, args.figure, **asked)
+        explanation = explaining.explain(box, args.figure, i=limit, j=args.flips)
     except TypeError:
         words = "distance needs --limit and --flips, and xor, sac and bic have neither"
         raise Unreadable(f"{args.figure} takes other words than these: {words}") from None

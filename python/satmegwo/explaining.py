@@ -446,8 +446,9 @@ FIGURES: dict[str, Callable[..., Explanation]] = {
 }
 
 
-def explain(box: Box, figure: str, **how: Any) -> Explanation:
+def explain(box: Box, figure: str, *, i: Optional[int] = None, j: Optional[int] = None) -> Explanation:
     """The explanation of a figure: `i` is the limit where it has one, and for 'distance' i and j are the order."""
     if figure not in FIGURES:
         raise ValueError(f"there is no explanation of {figure!r}, but of {listed(list(FIGURES))}")
-    return FIGURES[figure](box, **how)
+    stated = {name: value for name, value in (("i", i), ("j", j)) if value is not None}
+    return FIGURES[figure](box, **stated)
