@@ -648,17 +648,8 @@ pub fn sum_nonlinearity_between(
     if (last as u64) < start {
         return PartSum::Nothing;
     }
-    let nearest = least_between(
-        count,
-        widths,
-        rows1,
-        rows2,
-        rows3,
-        rows4,
-        i,
-        start as u32,
-        last,
-    );
+    let begin = start as u32;
+    let nearest = least_between(count, widths, rows1, rows2, rows3, rows4, i, begin, last);
     PartSum::Reached {
         figure: nearest.figure,
         c: nearest.c,

@@ -2,6 +2,7 @@
 use mathlib.Core.Path.{refl, _∙_}
 use Prim.Native.Nat.{_*_, _≤_}
 use native.Mathlib.Omega.{arith}
+use lib.Dec.{lit<}
 use Rattle.rounds.specs.Work.{rowsAt}
 use Rattle.rounds.proofs.Entry.{box-1, used-2, used-3, used-4, Handed, box1, box2, box3, box4}
 use Rattle.rounds.proofs.Terms.{product-of, small-2, small-3, small-4}
@@ -40,7 +41,7 @@ size-at-requires : tie.Need-size-at-requires
 size-at-requires c κs =
     let s = c .before .before in
     let p = s .pre in
-    (λ e. (box-1 (box1 (lent s)) (box2 (lent s)) (box3 (lent s)) (box4 (lent s)) (p .0), p .3), λ e. p .1 .one, p .2, p .4, search needs)
+    (λ e. (box-1 (box1 (lent s)) (box2 (lent s)) (box3 (lent s)) (box4 (lent s)) (p .0), p .3), λ e. p .1 .one, p .2, p .4, lit< tt)
 
 size-at-requires-2 : tie.Need-size-at-requires-2
 size-at-requires-2 c κs =
@@ -51,7 +52,7 @@ size-at-requires-2 c κs =
       λ e. stepped-as (before-2 (one .size-at .ensures .3)) (p .1 .two e),
       p .2,
       p .4,
-      search needs,
+      lit< tt,
     )
 
 size-at-requires-3 : tie.Need-size-at-requires-3
@@ -64,7 +65,7 @@ size-at-requires-3 c κs =
       λ e. stepped-as (before-3 (one .size-at .ensures .3) (two .size-at2 .ensures .3)) (p .1 .three e),
       p .2,
       p .4,
-      search needs,
+      lit< tt,
     )
 
 size-at-requires-4 : tie.Need-size-at-requires-4
@@ -78,7 +79,7 @@ size-at-requires-4 c κs =
       λ e. stepped-as (before-4 (one .size-at .ensures .3) (two .size-at2 .ensures .3) (three .size-at3 .ensures .3)) (p .1 .four e),
       p .2,
       p .4,
-      search needs,
+      lit< tt,
     )
 
 -- the products are small
@@ -117,7 +118,7 @@ returns c =
         four = t .2;
       },
       t .3 .long ∙ r .3 .long ∙ q .3 .long ∙ p .3 .long,
-      search needs,
+      t .4 ∙ r .4 ∙ q .4 ∙ p .4,
     )
 
 pub product-at-spec : {M : Type 1} → statement M

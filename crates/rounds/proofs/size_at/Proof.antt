@@ -20,10 +20,10 @@ size-in-requires c κs =
         stepped = p .1 used;
         raised = p .2;
         c-high = p .0 used .1;
-        held-size = search needs;
-        steps-size = search needs;
-        table-size = search needs;
-        work-size = search needs;
+        held-size = c .before .before .before .before .size-in-arg2 .given .0;
+        steps-size = c .before .before .size-in-arg4 .given .0;
+        table-size = c .before .size-in-arg5 .given .0 .1;
+        work-size = c .size-in-arg6 .given .0 .1;
       },
       p .3,
     )
@@ -38,7 +38,7 @@ returns c =
       c .size-in .ensures .1,
       λ e. stepped-as (put-at (a .bits .now) (a .k) _ (omega (arith, c .before .before .size-in-arg5 .given .0 .1))) (c .size-in .ensures .2),
       kept-but _ (a .k) _,
-      search needs,
+      c .size-in .ensures .4,
     )
 
 returns-2 : tie.Need-returns-2
@@ -48,7 +48,7 @@ returns-2 c =
       omega arith,
       λ e. absurd (true≢false (sym e ∙ c .if1 .left)),
       kept-all _ (a .k),
-      search needs,
+      refl,
     )
 
 pub size-at-spec : {M : Type 1} → statement M

@@ -1,6 +1,6 @@
 -- `rounds::start_all` meets its contract: each box that the sum has is started in its place, and the others leave it. Assumes nothing.
 use mathlib.Core.Path.{refl}
-use borrow.Author.Needs.{needs}
+use lib.Dec.{lit<}
 use Rattle.rounds.proofs.Entry.{box-1, box-2, box-3, box-4, Handed, box1, box2, box3, box4}
 use Rattle.rounds.proofs.Held.{all-started}
 use Rattle.rounds.proofs.start_all.Statement.{statement}
@@ -17,22 +17,22 @@ start c = c .before .before .before .before .before .before .before .before
 start-at-requires : tie.Need-start-at-requires
 start-at-requires c κs =
     let s = c .before .before .before .before .before .before .before in
-    (λ e. box-1 (box1 (lent s)) (box2 (lent s)) (box3 (lent s)) (box4 (lent s)) (s .pre), search needs)
+    (λ e. box-1 (box1 (lent s)) (box2 (lent s)) (box3 (lent s)) (box4 (lent s)) (s .pre), lit< tt)
 
 start-at-requires-2 : tie.Need-start-at-requires-2
 start-at-requires-2 c κs =
     let s = start (c .before .before .before) in
-    (box-2 (box1 (lent s)) (box2 (lent s)) (box3 (lent s)) (box4 (lent s)) (s .pre), search needs)
+    (box-2 (box1 (lent s)) (box2 (lent s)) (box3 (lent s)) (box4 (lent s)) (s .pre), lit< tt)
 
 start-at-requires-3 : tie.Need-start-at-requires-3
 start-at-requires-3 c κs =
     let s = start (c .before .before .before .before .before .before .before) in
-    (box-3 (box1 (lent s)) (box2 (lent s)) (box3 (lent s)) (box4 (lent s)) (s .pre), search needs)
+    (box-3 (box1 (lent s)) (box2 (lent s)) (box3 (lent s)) (box4 (lent s)) (s .pre), lit< tt)
 
 start-at-requires-4 : tie.Need-start-at-requires-4
 start-at-requires-4 c κs =
     let s = start (c .before .before .before .before .before .before .before .before .before .before .before) in
-    (box-4 (box1 (lent s)) (box2 (lent s)) (box3 (lent s)) (box4 (lent s)) (s .pre), search needs)
+    (box-4 (box1 (lent s)) (box2 (lent s)) (box3 (lent s)) (box4 (lent s)) (s .pre), lit< tt)
 
 returns : tie.Need-returns
 returns c =
