@@ -224,8 +224,7 @@ fn size_at(
     out: &mut [i16; 256],
 ) -> u32
     requires { ⌜ (used ≡ true → Box n m (rowsAt n (now held) k) × (c < 2 ^ m))
-        × (used ≡ true → SteppedAt n m (now held) last (now steps) (now bits) k)
-        × PowerAdded last c × Spectra (now fixed) × (k < 4) ⌝ }
+        × (used ≡ true → SteppedAt n m (now held) last (now steps) (now bits) k) × PowerAdded last c × Spectra (now fixed) × (k < 4) ⌝ }
     ensures { λ r. ⌜ (r ≡ sizeIf used (summandOf n m (rowsAt n (now (held .entry)) k)) c) × (r ≤ 256)
         × (used ≡ true → SteppedAt n m (now (held .entry)) c (now (steps .entry)) (now (bits .exit)) k)
         × KeptBut k (now (bits .entry)) (now (bits .exit)) × AnyContent (now (out .entry)) (now (out .exit)) ⌝ }
