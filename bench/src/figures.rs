@@ -30,7 +30,8 @@ fn random_boxes(n: u32, m: u32, boxes: usize, random: &mut Random) -> Vec<Job> {
 }
 
 fn of_random_boxes(jobs: &[Job], rows: &Rows) -> Result<(), String> {
-    rows.measure(&NONLINEARITY.row("nonlinearity", jobs))?;
+    let bar = (jobs[0].n == 8).then_some(Bar::Peer(1.1));
+    rows.measure(&Row { bar, ..NONLINEARITY.row("nonlinearity", jobs) })?;
     let plain = Other { name: "nonlinearity", call: &library_nonlinearity, same: true };
     rows.measure(&Row { other: Some(plain), ..NONLINEARITY_PART.row("nonlinearity, as one part", jobs) })?;
     rows.measure(&NONLINEARITY_16.row("nonlinearity, second in 16 bits", jobs))?;
@@ -87,7 +88,7 @@ fn degrees_of_chosen_boxes(rows: &Rows, random: &mut Random) -> Result<(), Strin
 /// Four random boxes added together, held against the nonlinearity of one of them: wide ones, and all
 /// input widths at few outputs, where a sum should take less the fewer inputs there are.
 fn sums_of_boxes(rows: &Rows, random: &mut Random) -> Result<(), String> {
-    let wide = [(8, 16), (8, 32)].map(|(n, m)| (n, m, 1, Some(Bar::Own(6.0))));
+    let wide = [(8, 16), (8, 32)].map(|(n, m)| (n, m, 1, Some(Bar::Peer(1.5))));
     let narrow = (1..=8).map(|n| (n, 6, SMALL, None));
     for (n, m, sums, bar) in wide.into_iter().chain(narrow) {
         let four = |_| (0..4).flat_map(|_| random_rows(n, m, random)).collect();
