@@ -1,7 +1,7 @@
 #!/usr/bin/env python3
 """What a sweep over all combinations costs: the time of one combination for each figure and number of inputs, and what follows for 2^m - 1 of them.
 
-It needs the shared library (`make shared`) and a quiet machine, takes about two minutes, and prints the tables of docs/PERFORMANCE.md ("What a whole
+It needs the shared library (`make shared`) and a quiet machine, takes about a minute, and prints the tables of docs/PERFORMANCE.md ("What a whole
 sweep costs"). A part of a sweep is timed on one core, and as many parts as there are cores side by side; the least of several rounds counts.
 
 usage: PYTHONPATH=python python3 bench/whole.py [--short]      (--short: one small round, for the gate, which looks at no time)
@@ -23,6 +23,7 @@ FIGURES = {
     "sum of four boxes": lambda n: Question("sum", boxes(n, 4), OUTPUTS),
 }
 MINUTES = 20  # what a designer waits for
+FIRST = 2**10  # combinations of the part that says how long the others must be
 
 
 def boxes(n, count):
@@ -41,8 +42,9 @@ def seconds(question, combinations, workers):
         return time.perf_counter() - began
 
 
-def cost(question, combinations, workers, rounds):
-    """Seconds for one combination where so many workers share the sweep."""
+def cost(question, workers, rounds, length):
+    """Seconds for one combination where so many workers share the sweep, from parts that take `length` seconds or so."""
+    combinations = max(FIRST, int(FIRST * length / seconds(question, FIRST, 1)))
     return min(seconds(question, combinations, workers) for _ in range(rounds)) / (combinations * workers)
 
 
@@ -64,9 +66,9 @@ def main():
     short = sys.argv[1:] == ["--short"]
     if sys.argv[1:] and not short:
         sys.exit(__doc__)
-    combinations, rounds, widths = (2**10, 1, (8,)) if short else (2**20, 5, (4, 5, 6, 7, 8))
-    one = {name: {n: cost(make(n), combinations, 1, rounds) for n in widths} for name, make in FIGURES.items()}
-    all_cores = {name: cost(make(8), combinations, cores(), rounds) for name, make in FIGURES.items()}
+    rounds, length, widths = (1, 0.0, (8,)) if short else (3, 0.7, (4, 5, 6, 7, 8))
+    one = {name: {n: cost(make(n), 1, rounds, length) for n in widths} for name, make in FIGURES.items()}
+    all_cores = {name: cost(make(8), cores(), rounds, length) for name, make in FIGURES.items()}
     print("Nanoseconds for one combination, on one core:\n")
     table(["inputs", *FIGURES], [[str(n), *(f"{one[name][n] * 1e9:.0f}" for name in FIGURES)] for n in widths])
     print(f"All combinations of a box with 8 inputs, on one core and on {cores()}:\n")

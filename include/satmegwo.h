@@ -250,7 +250,8 @@ uint32_t satmegwo_nonlinearity(
  * with the witness of satmegwo_nonlinearity. Entries after the last pair are left as they
  * were. A combination has at most 2^n such pairs: 256 entries for each combination within
  * the limit are enough, and there is at least one pair. The call takes about as long as
- * four to five calls of satmegwo_nonlinearity.
+ * five to six calls of satmegwo_nonlinearity, or fourteen where every combination has
+ * such pairs.
  *   rows     read, 2^n elements below 2^m
  *   i        1 to m
  *   list     written, at least as many elements as there are pairs

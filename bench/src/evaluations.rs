@@ -15,7 +15,7 @@ pub fn measure(rows: &Rows, random: &mut Random) -> Result<(), String> {
         let row = |name, library, peer, other| Row { library, peer: Some(peer), other: Some(other), ..NONLINEARITY.row(name, &jobs) };
         let plain = Other { name: "nonlinearity", call: &library_nonlinearity, same: true };
         let one = Other { name: "one box", call: &alone, same: true };
-        rows.measure(&Row { bar: Some(Bar::Peer(4.2)), ..row("server, one box", &alone, &peer_alone, plain) })?;
+        rows.measure(&Row { bar: Some(Bar::Peer(3.2)), ..row("server, one box", &alone, &peer_alone, plain) })?;
         rows.measure(&Row { second: None, ..row("server, eight boxes", &among_eight, &peer_among_eight, one) })?;
     }
     Ok(())

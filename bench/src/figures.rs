@@ -88,7 +88,7 @@ fn degrees_of_chosen_boxes(rows: &Rows, random: &mut Random) -> Result<(), Strin
 /// Four random boxes added together, held against the nonlinearity of one of them: wide ones, and all
 /// input widths at few outputs, where a sum should take less the fewer inputs there are.
 fn sums_of_boxes(rows: &Rows, random: &mut Random) -> Result<(), String> {
-    let wide = [(8, 16), (8, 32)].map(|(n, m)| (n, m, 1, Some(Bar::Peer(1.5))));
+    let wide = [(8, 16), (8, 32)].map(|(n, m)| (n, m, 1, Some(Bar::Peer(1.0))));
     let narrow = (1..=8).map(|n| (n, 6, SMALL, None));
     for (n, m, sums, bar) in wide.into_iter().chain(narrow) {
         let four = |_| (0..4).flat_map(|_| random_rows(n, m, random)).collect();

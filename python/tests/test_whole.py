@@ -57,9 +57,9 @@ def counted(question, witness):
     return abs(half - changing) * (2 if question.figure == "autocorrelation" else 1)
 
 
-# What is stored: the questions of each file, as (figure, limit, flips). Counting S4 to S8, the sum of S1 to S4, and of S1 the autocorrelation and
-# the distance of order (32, 1) goes on: `make -C python whole` adds them.
-ASKED = {name: [("nonlinearity", 32, 0)] for name in CAST[:3]}
+# What is stored: the questions of each file, as (figure, limit, flips). `make -C python whole` adds those of S5 to S8, of the sum of S1 to S4, and of
+# S1 the autocorrelation and the distance of order (32, 1).
+ASKED = {name: [("nonlinearity", 32, 0)] for name in CAST[:4]}
 # What documents 001 and 002 print: 74, DHOBIC(32, 1) 36, DMOSAC 0, and the sum of four boxes; the distance is doubled.
 PUBLISHED = {("distance", 1): 2 * 36, ("distance", 8): 0, ("sum", 0): 2_132_774_912}
 
