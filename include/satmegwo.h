@@ -123,7 +123,7 @@ enum satmegwo_refusal {
 
 /* STACK. No proof speaks of the machine's stack. Measured on x86-64 (examples/stack.c, at
  * the widest boxes), no call needs more than this many bytes of it. */
-#define SATMEGWO_STACK 48000u
+#define SATMEGWO_STACK 52000u
 
 /* What is checked when a program is compiled, from C11 and C++11 on. */
 #if defined(__STDC_VERSION__) && __STDC_VERSION__ >= 201112L
