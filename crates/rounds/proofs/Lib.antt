@@ -17,7 +17,6 @@ pub mod Ranges
 pub mod Gathering
 pub mod Merged
 pub mod Steps
-pub mod Held
 pub mod Terms
 pub mod InputBits
 pub mod PartReports

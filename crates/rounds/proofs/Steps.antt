@@ -17,10 +17,6 @@ use Rattle.rounds.specs.Work.{Stepped}
 begins : (k : ℕ) (written rest whole : List ℕ) → written ≡ whole → length whole ≡ k → take k (written ++ rest) ≡ whole
 begins k written rest whole e n = take-at written rest k (ap length e ∙ n) ∙ e
 
--- rows
-pub rows-begin : (n : ℕ) (rows written rest : List ℕ) → written ≡ rows → length rows ≡ 2 ^ n → take (2 ^ n) (written ++ rest) ≡ rows
-rows-begin n rows written rest e size = begins (2 ^ n) written rest rows e size
-
 module _ (m : ℕ) (rows : List ℕ) where
   -- step tables
   pub steps-begin : (written rest : List ℕ) → Steps m rows written → take (m * length rows) (written ++ rest) ≡ stepTables m rows

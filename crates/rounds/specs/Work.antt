@@ -1,20 +1,18 @@
 -- What the functions behind the call ask of one another and give. "Used" says whether the sum has the box.
-use Prim.Native.Nat.{ℕ, _*_, _^_, _≤_, _<_}
+use Prim.Native.Nat.{ℕ, _*_, _≤_, _<_}
 use mathlib.Core.Path.{_≡_}
 use mathlib.Core.Bool.{Bool, true, false}
 use mathlib.Core.List.{List, [], _∷_, _++_, List·Memᴰ}
 use lib.Dec.{ltb, eqb}
 use lib.IntN.{ℤ, natAbs}
-use lib.ListN.{length, take, drop, getD}
+use lib.ListN.{length, take, drop}
 use Rattle.boolean.specs.Sums.{listBelow}
 use Rattle.boolean.specs.Functions.{at, valueAt, component, walsh, signBit}
 use Rattle.boolean.specs.Selection.{Candidate}
 use Rattle.refusals.specs.Table.{Check, Box}
-use Rattle.masks.specs.Masks.{PowerAdded}
 use Rattle.masks.specs.Steps.{stepTables}
 use Rattle.rounds.specs.Round.{Summand, summandChecks, sumNonlinearity}
 use Rattle.rounds.specs.Spectra.{peak, peakPlaces, signAt}
-use Rattle.rounds.specs.Calls.{boxesRead}
 use Rattle.rounds.specs.declared.Widths.{Widths}
 use Rattle.rounds.specs.declared.Top.{Top}
 use Rattle.rounds.specs.declared.Witness.{Witness}
@@ -57,46 +55,13 @@ pub record Stepped (m : ℕ) (rows : List ℕ) (c : ℕ) (steps table : List ℕ
   pub steps-are : take (m * length rows) steps ≡ stepTables m rows
   pub table-is : take (length rows) table ≡ listBelow (length rows) (λ x. component rows c x)
 
--- and a third that begins with its rows
-pub record Started (n m : ℕ) (rows : List ℕ) (c : ℕ) (held steps table : List ℕ) : Type 0 where
-  pub rows-are : take (2 ^ n) held ≡ rows
-  pub stepped : Stepped m rows c steps table
-
--- what the largest magnitude of component c asks of the arrays of a box: they hold what it had at component `last`, the mask before
-pub record SizeAsked (n m : ℕ) (held steps : List ℕ) (last c : ℕ) (table : List ℕ) (work : List ℤ) : Type 0 where
-  pub box : Box n m (take (2 ^ n) held)
-  pub stepped : Stepped m (take (2 ^ n) held) last steps table
-  pub raised : PowerAdded last c
-  pub c-high : c < 2 ^ m
-  pub held-size : length held ≡ 256
-  pub steps-size : length steps ≡ 8192
-  pub table-size : length table ≡ 256
-  pub work-size : length work ≡ 256
-
--- arrays of arrays, one for each box: the rows of box k + 1, which has n inputs
-abbrev pub rowsAt : (n : ℕ) (held : List (List ℕ)) (k : ℕ) → List ℕ
-rowsAt n held k = take (2 ^ n) (getD held k [])
-
--- the boxes of the sum
-abbrev pub boxesHeld : (count : ℕ) (w : Widths) (held : List (List ℕ)) → List Summand
-boxesHeld count w held =
-    boxesRead count w (rowsAt (w .n1) held 0) (rowsAt (w .n2) held 1) (rowsAt (w .n3) held 2) (rowsAt (w .n4) held 3)
-
--- the step tables and the truth table of box k + 1
-abbrev pub SteppedAt : (n m : ℕ) (held : List (List ℕ)) (c : ℕ) (steps bits : List (List ℕ)) (k : ℕ) → Type 0
-SteppedAt n m held c steps bits k = Stepped m (rowsAt n held k) c (getD steps k []) (getD bits k [])
-
--- those of each box that the sum has
-pub record AllStepped (count : ℕ) (w : Widths) (held : List (List ℕ)) (c : ℕ) (steps bits : List (List ℕ)) : Type 0 where
-  pub one : SteppedAt (w .n1) (w .m1) held c steps bits 0
-  pub two : ltb 1 count ≡ true → SteppedAt (w .n2) (w .m2) held c steps bits 1
-  pub three : ltb 2 count ≡ true → SteppedAt (w .n3) (w .m3) held c steps bits 2
-  pub four : ltb 3 count ≡ true → SteppedAt (w .n4) (w .m4) held c steps bits 3
-
--- as many places as before, and what stands in all but place k is as before
-pub record KeptBut (k : ℕ) (old new : List (List ℕ)) : Type 0 where
-  pub long : length new ≡ length old
-  pub same : (j : ℕ) → ¬ (j ≡ k) → getD new j [] ≡ getD old j []
+-- the arrays of each box that the sum has
+pub record AllStepped (count : ℕ) (w : Widths) (rows1 rows2 rows3 rows4 : List ℕ) (c : ℕ)
+    (steps1 steps2 steps3 steps4 table1 table2 table3 table4 : List ℕ) : Type 0 where
+  pub one : Stepped (w .m1) rows1 c steps1 table1
+  pub two : ltb 1 count ≡ true → Stepped (w .m2) rows2 c steps2 table2
+  pub three : ltb 2 count ≡ true → Stepped (w .m3) rows3 c steps3 table3
+  pub four : ltb 3 count ≡ true → Stepped (w .m4) rows4 c steps4 table4
 
 -- the best component so far, with its product, as a candidate
 abbrev pub foundCandidate : Found → Candidate

@@ -6,22 +6,21 @@ ghost use mathlib.Core.Path.{_≡_};
 ghost use mathlib.Core.Bool.{true, _&&_};
 ghost use lib.Dec.{ltb};
 ghost use Prim.Native.Nat.{_+_, _-_, _/_, _^_, _≤_, _<_};
-ghost use mathlib.Core.List.{[]};
-ghost use lib.ListN.{length, take, getD};
-ghost use Rattle.boolean.specs.Sums.{each, AnyContent};
+ghost use lib.ListN.{length};
+ghost use Rattle.boolean.specs.Sums.{each, listBelow, AnyContent};
 ghost use Rattle.boolean.specs.Functions.{component, spectrum};
 ghost use Rattle.refusals.specs.Table.{first, Box};
 ghost use Rattle.walsh.specs.FixedTable.{Spectra};
 ghost use Rattle.masks.specs.Parts.{componentsBetween};
 ghost use Rattle.masks.specs.Masks.{PowerAdded};
+ghost use Rattle.masks.specs.Steps.{Stepping};
 ghost use Rattle.masks.specs.Work.{preferred};
-ghost use Rattle.linear.specs.Lent.{PartSwept};
+ghost use Rattle.linear.specs.Lent.{PairsSwept, PartSwept};
 ghost use Rattle.rounds.specs.Round.{summandOf, summandChecks, sumChecks, sumReply, sumPartChecks, sumBetweenReply};
 ghost use Rattle.rounds.specs.Spectra.{peak, product, largestProduct};
 ghost use Rattle.rounds.specs.Calls.{summandsOf, boxesRead, SumAnswer};
 ghost use Rattle.rounds.specs.Parts.{PartSumAnswer, SumsMerged};
-ghost use Rattle.rounds.specs.Work.{checksIf, sameIf, inputsIf, sizeIf, Round};
-ghost use Rattle.rounds.specs.Work.{rowsAt, boxesHeld, Stepped, SteppedAt, AllStepped, Started, SizeAsked, KeptBut};
+ghost use Rattle.rounds.specs.Work.{checksIf, sameIf, inputsIf, sizeIf, Round, Stepped, AllStepped};
 ghost use Rattle.rounds.specs.Work.{foundCandidate, Highest, TopOf, TopIf, WitnessOf, NearestOf};
 
 // The inputs and outputs of the four boxes that are handed over.
@@ -97,140 +96,77 @@ pub enum PartSum {
     Declined(Refusal),
 }
 
-// The rows of a box, its step tables and the truth table of its component c, each at the start of its array.
-fn start_in(
-    n: u32,
-    m: u32,
-    rows: &[u32],
-    c: u32,
-    held: &mut [u32],
-    steps: &mut [u8],
-    table: &mut [u8],
-)
-    requires { ⌜ Box n m (now rows) × (length (now held) ≡ 256) × (length (now steps) ≡ 8192) × (length (now table) ≡ 256) ⌝ }
-    ensures { λ _. ⌜ Started n m (now (rows .entry)) c (now (held .exit)) (now (steps .exit)) (now (table .exit))
-        × AnyContent (now (held .entry)) (now (held .exit)) × AnyContent (now (steps .entry)) (now (steps .exit))
-        × AnyContent (now (table .entry)) (now (table .exit)) ⌝ }
-{
-    let size = rows.len();
-    let total = m as usize * size;
-    boolean::copy(rows, &mut held[..size]);
-    masks::write_steps(m, rows, &mut steps[..total]);
-    masks::write_component(rows, c, &mut table[..size]);
-}
-
-// The same for a box that the sum has, in place k of each array.
-fn start_at(
-    used: bool,
-    k: usize,
-    n: u32,
-    m: u32,
-    rows: &[u32],
-    c: u32,
-    held: &mut [[u32; 256]; 4],
-    steps: &mut [[u8; 8192]; 4],
-    bits: &mut [[u8; 256]; 4],
-)
-    requires { ⌜ (used ≡ true → Box n m (now rows)) × (k < 4) ⌝ }
-    ensures { λ _. ⌜ (used ≡ true
-        → Started n m (now (rows .entry)) c (getD (now (held .exit)) k []) (getD (now (steps .exit)) k []) (getD (now (bits .exit)) k []))
-        × KeptBut k (now (held .entry)) (now (held .exit)) × KeptBut k (now (steps .entry)) (now (steps .exit))
-        × KeptBut k (now (bits .entry)) (now (bits .exit)) ⌝ }
+// The step tables of a box that the sum has, and the truth table of its component c, each in as much of its array as the box needs.
+fn start_if(used: bool, n: u32, m: u32, rows: &[u32], c: u32, steps: &mut [u8], table: &mut [u8])
+    requires { ⌜ (used ≡ true → Box n m (now rows)) × (length (now steps) ≡ 8192) × (length (now table) ≡ 256) ⌝ }
+    ensures { λ _. ⌜ (used ≡ true → Stepped m (now (rows .entry)) c (now (steps .exit)) (now (table .exit)))
+        × AnyContent (now (steps .entry)) (now (steps .exit)) × AnyContent (now (table .entry)) (now (table .exit)) ⌝ }
 {
     if used {
-        start_in(n, m, rows, c, &mut held[k], &mut steps[k], &mut bits[k]);
+        let size = rows.len();
+        let total = m as usize * size;
+        masks::write_steps(m, rows, &mut steps[..total]);
+        masks::write_component(rows, c, &mut table[..size]);
     }
 }
 
-// The same for each box that the sum has.
-fn start_all(
-    count: u32,
-    widths: Widths,
-    rows1: &[u32],
-    rows2: &[u32],
-    rows3: &[u32],
-    rows4: &[u32],
-    c: u32,
-    held: &mut [[u32; 256]; 4],
-    steps: &mut [[u8; 8192]; 4],
-    bits: &mut [[u8; 256]; 4],
-)
-    requires { ⌜ Round count (widths .m1) (boxesRead count widths (now rows1) (now rows2) (now rows3) (now rows4)) ⌝ }
-    ensures { λ _. ⌜ (boxesHeld count widths (now (held .exit))
-        ≡ boxesRead count widths (now (rows1 .entry)) (now (rows2 .entry)) (now (rows3 .entry)) (now (rows4 .entry)))
-        × AllStepped count widths (now (held .exit)) c (now (steps .exit)) (now (bits .exit)) ⌝ }
-{
-    let n1 = widths.n1;
-    let n2 = widths.n2;
-    let n3 = widths.n3;
-    let n4 = widths.n4;
-    let m1 = widths.m1;
-    let m2 = widths.m2;
-    let m3 = widths.m3;
-    let m4 = widths.m4;
-    start_at(true, 0, n1, m1, rows1, c, held, steps, bits);
-    start_at(1 < count, 1, n2, m2, rows2, c, held, steps, bits);
-    start_at(2 < count, 2, n3, m3, rows3, c, held, steps, bits);
-    start_at(3 < count, 3, n4, m4, rows4, c, held, steps, bits);
-}
-
 // The largest magnitude of a Walsh value of component c of a box, twice that in its spectrum, from the truth table of component `last`, the
-// mask before it, which becomes that of c. What the box has stands at the start of its arrays; the fixed table and an array to work in are
-// lent.
+// mask before it, which becomes that of c. The fixed table, the step tables and an array to work in are lent.
 fn size_in(
     fixed: &[i16; 2048],
     n: u32,
     m: u32,
-    held: &[u32],
+    rows: &[u32],
     steps: &[u8],
     last: u64,
     c: u64,
     table: &mut [u8],
     work: &mut [i16],
 ) -> u32
-    requires { ⌜ SizeAsked n m (now held) (now steps) last c (now table) (now work) × Spectra (now fixed) ⌝ }
-    ensures { λ r. ⌜ (r ≡ peak (summandOf n m (take (2 ^ n) (now (held .entry)))) c .figure) × (r ≤ 256)
-        × Stepped m (take (2 ^ n) (now (held .entry))) c (now (steps .entry)) (now (table .exit))
-        × AnyContent (now (table .entry)) (now (table .exit)) × AnyContent (now (work .entry)) (now (work .exit)) ⌝ }
+    requires { ⌜ PairsSwept n m (now rows) (now table) (now work) × Spectra (now fixed)
+        × Stepping m (now rows) (now steps) last c (now table) ⌝ }
+    ensures { λ r. ⌜ (r ≡ peak (summandOf n m (now (rows .entry))) c .figure) × (r ≤ 256)
+        × (now (table .exit) ≡ listBelow (length (now (rows .entry))) (λ x. component (now (rows .entry)) c x))
+        × AnyContent (now (work .entry)) (now (work .exit)) ⌝ }
 {
-    let size = boolean::power_of_two(n);
-    let total = m as usize * size;
-    let largest = linear::next_peak(
-        fixed,
-        n,
-        m,
-        &held[..size],
-        &steps[..total],
-        last,
-        c,
-        &mut table[..size],
-        &mut work[..size],
-    );
+    let largest = linear::next_peak(fixed, n, m, rows, steps, last, c, table, work);
     2 * largest
 }
 
-// The same for a box that the sum has, in place k of the arrays, and else a factor of 1.
-fn size_at(
+// The same for a box that the sum has, in as much of the arrays as it needs, and else a factor of 1.
+fn size_if(
     used: bool,
     fixed: &[i16; 2048],
-    k: usize,
     n: u32,
     m: u32,
-    held: &[[u32; 256]; 4],
-    steps: &[[u8; 8192]; 4],
+    rows: &[u32],
+    steps: &[u8],
     last: u64,
     c: u64,
-    bits: &mut [[u8; 256]; 4],
-    out: &mut [i16; 256],
+    table: &mut [u8],
+    work: &mut [i16],
 ) -> u32
-    requires { ⌜ (used ≡ true → Box n m (rowsAt n (now held) k) × (c < 2 ^ m))
-        × (used ≡ true → SteppedAt n m (now held) last (now steps) (now bits) k) × PowerAdded last c × Spectra (now fixed) × (k < 4) ⌝ }
-    ensures { λ r. ⌜ (r ≡ sizeIf used (summandOf n m (rowsAt n (now (held .entry)) k)) c) × (r ≤ 256)
-        × (used ≡ true → SteppedAt n m (now (held .entry)) c (now (steps .entry)) (now (bits .exit)) k)
-        × KeptBut k (now (bits .entry)) (now (bits .exit)) × AnyContent (now (out .entry)) (now (out .exit)) ⌝ }
+    requires { ⌜ (used ≡ true → Box n m (now rows) × (c < 2 ^ m)) × (used ≡ true → Stepped m (now rows) last (now steps) (now table))
+        × PowerAdded last c × Spectra (now fixed)
+        × (length (now steps) ≡ 8192) × (length (now table) ≡ 256) × (length (now work) ≡ 256) ⌝ }
+    ensures { λ r. ⌜ (r ≡ sizeIf used (summandOf n m (now (rows .entry))) c) × (r ≤ 256)
+        × (used ≡ true → Stepped m (now (rows .entry)) c (now (steps .entry)) (now (table .exit)))
+        × AnyContent (now (table .entry)) (now (table .exit)) × AnyContent (now (work .entry)) (now (work .exit)) ⌝ }
 {
     if used {
-        size_in(fixed, n, m, &held[k], &steps[k], last, c, &mut bits[k], out)
+        let size = rows.len();
+        let total = m as usize * size;
+        size_in(
+            fixed,
+            n,
+            m,
+            rows,
+            &steps[..total],
+            last,
+            c,
+            &mut table[..size],
+            &mut work[..size],
+        )
     } else {
         1
     }
@@ -241,19 +177,31 @@ fn product_at(
     fixed: &[i16; 2048],
     count: u32,
     widths: Widths,
-    held: &[[u32; 256]; 4],
-    steps: &[[u8; 8192]; 4],
+    rows1: &[u32],
+    rows2: &[u32],
+    rows3: &[u32],
+    rows4: &[u32],
+    steps1: &[u8; 8192],
+    steps2: &[u8; 8192],
+    steps3: &[u8; 8192],
+    steps4: &[u8; 8192],
     last: u64,
     c: u64,
-    bits: &mut [[u8; 256]; 4],
+    bits1: &mut [u8; 256],
+    bits2: &mut [u8; 256],
+    bits3: &mut [u8; 256],
+    bits4: &mut [u8; 256],
     out: &mut [i16; 256],
 ) -> u64
-    requires { ⌜ Round count (widths .m1) (boxesHeld count widths (now held))
-        × AllStepped count widths (now held) last (now steps) (now bits)
+    requires { ⌜ Round count (widths .m1) (boxesRead count widths (now rows1) (now rows2) (now rows3) (now rows4))
+        × AllStepped count widths (now rows1) (now rows2) (now rows3) (now rows4) last
+        (now steps1) (now steps2) (now steps3) (now steps4) (now bits1) (now bits2) (now bits3) (now bits4)
         × PowerAdded last c × (c < 2 ^ widths .m1) × Spectra (now fixed) ⌝ }
-    ensures { λ r. ⌜ (r ≡ product (boxesHeld count widths (now (held .entry))) c)
-        × AllStepped count widths (now (held .entry)) c (now (steps .entry)) (now (bits .exit))
-        × AnyContent (now (bits .entry)) (now (bits .exit)) × AnyContent (now (out .entry)) (now (out .exit)) ⌝ }
+    ensures { λ r. ⌜ (r
+        ≡ product (boxesRead count widths (now (rows1 .entry)) (now (rows2 .entry)) (now (rows3 .entry)) (now (rows4 .entry))) c)
+        × AllStepped count widths (now (rows1 .entry)) (now (rows2 .entry)) (now (rows3 .entry)) (now (rows4 .entry)) c
+        (now (steps1 .entry)) (now (steps2 .entry)) (now (steps3 .entry)) (now (steps4 .entry))
+        (now (bits1 .exit)) (now (bits2 .exit)) (now (bits3 .exit)) (now (bits4 .exit)) ⌝ }
 {
     let n1 = widths.n1;
     let n2 = widths.n2;
@@ -263,10 +211,10 @@ fn product_at(
     let m2 = widths.m2;
     let m3 = widths.m3;
     let m4 = widths.m4;
-    let size1 = size_at(true, fixed, 0, n1, m1, held, steps, last, c, bits, out);
-    let size2 = size_at(1 < count, fixed, 1, n2, m2, held, steps, last, c, bits, out);
-    let size3 = size_at(2 < count, fixed, 2, n3, m3, held, steps, last, c, bits, out);
-    let size4 = size_at(3 < count, fixed, 3, n4, m4, held, steps, last, c, bits, out);
+    let size1 = size_if(true, fixed, n1, m1, rows1, steps1, last, c, bits1, out);
+    let size2 = size_if(1 < count, fixed, n2, m2, rows2, steps2, last, c, bits2, out);
+    let size3 = size_if(2 < count, fixed, n3, m3, rows3, steps3, last, c, bits3, out);
+    let size4 = size_if(3 < count, fixed, n4, m4, rows4, steps4, last, c, bits4, out);
     let behind = size3 as u64 * size4 as u64;
     let others = size2 as u64 * behind;
     size1 as u64 * others
@@ -286,40 +234,125 @@ fn is_preferred(found: Found, size: u64, c: u32) -> bool
 }
 
 // Every component within the limit from `first`, which is one of them, to `last` in turn, each from the one before; the first of the
-// largest product is kept, fewest outputs first. It starts from the truth tables of the number before `first`. The fixed table is written
-// once for all components.
+// largest product is kept, fewest outputs first. It starts from the truth tables of the number before `first`.
 fn sweep(
+    fixed: &[i16; 2048],
     count: u32,
     widths: Widths,
-    held: &[[u32; 256]; 4],
+    rows1: &[u32],
+    rows2: &[u32],
+    rows3: &[u32],
+    rows4: &[u32],
     i: u32,
     first: u32,
     last: u32,
-    steps: &[[u8; 8192]; 4],
-    bits: &mut [[u8; 256]; 4],
+    steps1: &[u8; 8192],
+    steps2: &[u8; 8192],
+    steps3: &[u8; 8192],
+    steps4: &[u8; 8192],
+    bits1: &mut [u8; 256],
+    bits2: &mut [u8; 256],
+    bits3: &mut [u8; 256],
+    bits4: &mut [u8; 256],
+    out: &mut [i16; 256],
 ) -> Found
-    requires { ⌜ Round count (widths .m1) (boxesHeld count widths (now held)) × (1 ≤ i) × PartSwept (widths .m1) i first last
-        × AllStepped count widths (now held) (first - 1) (now steps) (now bits) ⌝ }
-    ensures { λ r. ⌜ (foundCandidate r
-        ≡ largestProduct (boxesHeld count widths (now (held .entry))) (componentsBetween (widths .m1) i first last))
-        × AnyContent (now (bits .entry)) (now (bits .exit)) ⌝ }
+    requires { ⌜ Round count (widths .m1) (boxesRead count widths (now rows1) (now rows2) (now rows3) (now rows4)) × (1 ≤ i)
+        × PartSwept (widths .m1) i first last × Spectra (now fixed)
+        × AllStepped count widths (now rows1) (now rows2) (now rows3) (now rows4) (first - 1)
+        (now steps1) (now steps2) (now steps3) (now steps4) (now bits1) (now bits2) (now bits3) (now bits4) ⌝ }
+    ensures { λ r. ⌜ foundCandidate r
+        ≡ largestProduct (boxesRead count widths (now (rows1 .entry)) (now (rows2 .entry)) (now (rows3 .entry)) (now (rows4 .entry)))
+        (componentsBetween (widths .m1) i first last) ⌝ }
 {
-    let fixed = walsh::spectra();
-    let mut out = [0i16; 256];
     let end = last as u64 + 1;
     let mut found = Found { size: 0, c: 0 };
     let mut c = first as u64;
-    let mut from = c - 1;
+    let mut before = c - 1;
     while c < end {
         let mask = c as u32;
-        let size = product_at(&fixed, count, widths, held, steps, from, c, bits, &mut out);
+        let size = product_at(
+            fixed,
+            count,
+            widths,
+            rows1,
+            rows2,
+            rows3,
+            rows4,
+            steps1,
+            steps2,
+            steps3,
+            steps4,
+            before,
+            c,
+            bits1,
+            bits2,
+            bits3,
+            bits4,
+            out,
+        );
         if is_preferred(found, size, mask) {
             found = Found { size, c: mask };
         }
-        from = c;
+        before = c;
         c = masks::next_mask(i, c);
     }
     found
+}
+
+// The start and the sweep, in arrays that are lent, with the fixed table, written once for all components.
+fn start_and_sweep(
+    count: u32,
+    widths: Widths,
+    rows1: &[u32],
+    rows2: &[u32],
+    rows3: &[u32],
+    rows4: &[u32],
+    i: u32,
+    first: u32,
+    last: u32,
+    steps1: &mut [u8; 8192],
+    steps2: &mut [u8; 8192],
+    steps3: &mut [u8; 8192],
+    steps4: &mut [u8; 8192],
+    bits1: &mut [u8; 256],
+    bits2: &mut [u8; 256],
+    bits3: &mut [u8; 256],
+    bits4: &mut [u8; 256],
+) -> Found
+    requires { ⌜ Round count (widths .m1) (boxesRead count widths (now rows1) (now rows2) (now rows3) (now rows4)) × (1 ≤ i)
+        × PartSwept (widths .m1) i first last ⌝ }
+    ensures { λ r. ⌜ foundCandidate r
+        ≡ largestProduct (boxesRead count widths (now (rows1 .entry)) (now (rows2 .entry)) (now (rows3 .entry)) (now (rows4 .entry)))
+        (componentsBetween (widths .m1) i first last) ⌝ }
+{
+    let fixed = walsh::spectra();
+    let mut out = [0i16; 256];
+    let prior = first - 1;
+    start_if(true, widths.n1, widths.m1, rows1, prior, steps1, bits1);
+    start_if(1 < count, widths.n2, widths.m2, rows2, prior, steps2, bits2);
+    start_if(2 < count, widths.n3, widths.m3, rows3, prior, steps3, bits3);
+    start_if(3 < count, widths.n4, widths.m4, rows4, prior, steps4, bits4);
+    sweep(
+        &fixed,
+        count,
+        widths,
+        rows1,
+        rows2,
+        rows3,
+        rows4,
+        i,
+        first,
+        last,
+        steps1,
+        steps2,
+        steps3,
+        steps4,
+        bits1,
+        bits2,
+        bits3,
+        bits4,
+        &mut out,
+    )
 }
 
 // The sweep with its arrays.
@@ -340,22 +373,33 @@ fn largest_product(
         ≡ largestProduct (boxesRead count widths (now (rows1 .entry)) (now (rows2 .entry)) (now (rows3 .entry)) (now (rows4 .entry)))
         (componentsBetween (widths .m1) i first last) ⌝ }
 {
-    let mut held = [[0u32; 256]; 4];
-    let mut steps = [[0u8; 8192]; 4];
-    let mut bits = [[0u8; 256]; 4];
-    start_all(
+    let mut steps1 = [0u8; 8192];
+    let mut steps2 = [0u8; 8192];
+    let mut steps3 = [0u8; 8192];
+    let mut steps4 = [0u8; 8192];
+    let mut bits1 = [0u8; 256];
+    let mut bits2 = [0u8; 256];
+    let mut bits3 = [0u8; 256];
+    let mut bits4 = [0u8; 256];
+    start_and_sweep(
         count,
         widths,
         rows1,
         rows2,
         rows3,
         rows4,
-        first - 1,
-        &mut held,
-        &mut steps,
-        &mut bits,
-    );
-    sweep(count, widths, &held, i, first, last, &steps, &mut bits)
+        i,
+        first,
+        last,
+        &mut steps1,
+        &mut steps2,
+        &mut steps3,
+        &mut steps4,
+        &mut bits1,
+        &mut bits2,
+        &mut bits3,
+        &mut bits4,
+    )
 }
 
 // The first place of the largest magnitude of some values, and the sign there.
@@ -647,8 +691,17 @@ pub fn sum_nonlinearity_between(
     if (last as u64) < start {
         return PartSum::Nothing;
     }
-    let begin = start as u32;
-    let nearest = least_between(count, widths, rows1, rows2, rows3, rows4, i, begin, last);
+    let nearest = least_between(
+        count,
+        widths,
+        rows1,
+        rows2,
+        rows3,
+        rows4,
+        i,
+        start as u32,
+        last,
+    );
     PartSum::Reached {
         figure: nearest.figure,
         c: nearest.c,
