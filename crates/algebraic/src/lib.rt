@@ -1,4 +1,6 @@
 // The algebraic normal form of a function, the degree of a box, and bijectivity.
+#![tactic(auto)]
+
 mod order;
 
 ghost use Rattle.std.specs.Prelude.{◌≡◌, [], ◌∷◌, ℕ, ◌+◌, ◌^◌, ◌≤◌, ◌<◌, eqb, length};

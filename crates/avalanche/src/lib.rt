@@ -1,4 +1,6 @@
 // What changes of the input do to a box: autocorrelation, dynamic distance, completeness.
+#![tactic(auto)]
+
 ghost use Rattle.std.specs.Prelude.{◌≡◌, true, not, [], ◌∷◌, ℕ, ◌+◌, ◌*◌, ◌^◌, ◌≤◌, ◌<◌, eqb, pos, ◌+ℤ◌, nat_abs, length, take, drop};
 ghost use Rattle.boolean.specs.Bits.{bit};
 ghost use Rattle.boolean.specs.Sums.{list_from, list_below, every, AnyContent};

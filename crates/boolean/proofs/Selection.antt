@@ -60,11 +60,15 @@ module _ {C : Type 0} (beats : C → C → Bool) where
   best_stays b (c ∷ cs) h = best_keeps b c cs (h c (Memᴰ.head refl)) ∙ best_stays b cs (λ d m. h d (Memᴰ.tail m))
 
   -- it is r where r beats b and each candidate before it, and none beats r
+  best_found : (r b : C) {cs : List C} → beats r b ≡ true → FirstIn (λ r c. beats r c ≡ true) r cs → ((c : C) → Memᴰ c cs → beats c r ≡ false)
+      → best beats b cs ≡ r
+  best_found r b t (here {cs}) h = best_takes b r cs t ∙ best_stays r cs (λ d m. h d (Memᴰ.tail m))
+  best_found r b t (there {c} {cs} s f) h =
+      best_step (λ z. z ≡ r) b c cs (λ e. best_found r c s f (λ d m. h d (Memᴰ.tail m))) (λ e. best_found r b t f (λ d m. h d (Memᴰ.tail m)))
+
   pub best_is : (b r : C) {cs : List C} → beats r b ≡ true → FirstIn (λ r c. beats r c ≡ true) r cs → ((c : C) → Memᴰ c cs → beats c r ≡ false)
       → best beats b cs ≡ r
-  best_is b r t (here {cs}) h = best_takes b r cs t ∙ best_stays r cs (λ d m. h d (Memᴰ.tail m))
-  best_is b r t (there {c} {cs} s f) h =
-      best_step (λ z. z ≡ r) b c cs (λ e. best_is c r s f (λ d m. h d (Memᴰ.tail m))) (λ e. best_is b r t f (λ d m. h d (Memᴰ.tail m)))
+  best_is b r = best_found r b
 
   -- a start that the first candidate equals, or that it beats, leaves no trace
   pub best_from : (b c : C) (cs : List C) → (b ≡ c) ⊎ (beats c b ≡ true) → best beats b (c ∷ cs) ≡ best beats c cs

@@ -31,7 +31,7 @@ word_is z h = to_z-of_z (fits_word z h)
 
 -- a call's result, of which `.ok` tells the bound
 pub word_told : (z : ℤ) → mag z < 2 ^ 31 → word z ≡ z
-word_told z h = to_z-of_z (record { sfits = h })
+word_told z h = to_z-of_z {w = w32} {z = z} (record { sfits = h })
 
 -- the machine's sum and difference of two words that hold small integers
 module _ (a b : ℤ) (ha : nat_abs a ≤ 2 ^ 29) (hb : nat_abs b ≤ 2 ^ 29) where

@@ -1,4 +1,6 @@
 // Boolean functions: the inner product, powers of two, bytes and rows. The definitions are in specs/, their laws in proofs/.
+#![tactic(auto)]
+
 ghost use Rattle.std.specs.Prelude.{◌≡◌, not, ◌^◌, ◌≤◌, ◌<◌, eqb, nat_abs, length};
 ghost use Rattle.boolean.specs.Bits as bits;
 ghost use Rattle.boolean.specs.Sums.{every, distinct};

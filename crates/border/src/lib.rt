@@ -1,4 +1,6 @@
 // The border to C: an answer's number is returned, and its figures go to an array that is lent for them.
+#![tactic(auto)]
+
 ghost use Rattle.std.specs.Prelude.{◌≡◌};
 ghost use Rattle.refusals.specs.Table.{said_written, figures as given};
 ghost use Rattle.border.specs.Border.{status, FiguresOut, room_number};

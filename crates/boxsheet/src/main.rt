@@ -1,5 +1,7 @@
 // Reads a box file from standard input and prints its sheet. The buffer has 65,536 bytes, and what a longer input has past them changes
 // nothing: the sheet of any file is that of its first 1,027 bytes or more (`enough_is_read`, in the proofs of `sheet`).
+#![tactic(auto)]
+
 use libc::STDOUT_FILENO;
 
 fn main() {

@@ -9,7 +9,7 @@ use lib.Count.{ones}
 use lib.Dec.{ltb, eqb}
 use Rattle.boolean.specs.Functions.{MaskBefore}
 use Rattle.refusals.specs.Table.{Check, Reply, figures, refusal, in_range}
-use Rattle.refusals.specs.Statements.{TableLine, ◌unless-that◌, Between, box_lines, limit_lines}
+use Rattle.refusals.specs.Statements.{TableLine, ◌unless_that◌, Between, box_lines, limit_lines}
 use Rattle.refusals.proofs.Means.{Means, line, void, end, range, same}
 use Rattle.masks.specs.Parts.{part_lines, earlier, merged_figures, merged_reply}
 use Rattle.masks.specs.Statements.{Cut, Gathered, single, both}

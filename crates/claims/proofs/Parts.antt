@@ -11,7 +11,7 @@ use mathlib.Core.List.{List, [], ◌∷◌, ◌++◌}
 use lib.Dec.{ltb}
 use Rattle.refusals.specs.Table.{Reply, figures, first}
 use Rattle.refusals.specs.declared.Checked.TheVariants.{Accepted}
-use Rattle.refusals.specs.Statements.{◌unless-that◌, Answers, Between, box_lines, limit_lines}
+use Rattle.refusals.specs.Statements.{◌unless_that◌, Answers, Between, box_lines, limit_lines}
 use Rattle.refusals.proofs.Means.{answers}
 use lib.ListN.{length}
 use Rattle.boolean.specs.Functions.{at}

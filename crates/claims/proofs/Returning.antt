@@ -10,7 +10,7 @@ use borrow.Author.Tests.{eq-eqb, ne_eqb}
 use lib.Dec.{eqb}
 use lib.ListN.{length, get_or}
 use Rattle.refusals.specs.Table.{Check, first, Reply, figures, refusal, number, reply_after, after, box_checks, limit_checks, Wrote}
-use Rattle.refusals.specs.Statements.{TableLine, ◌unless-that◌, FirstMet, NoneMet, Answers, Writes, Between, box_lines}
+use Rattle.refusals.specs.Statements.{TableLine, ◌unless_that◌, FirstMet, NoneMet, Answers, Writes, Between, box_lines}
 use Rattle.refusals.specs.declared.Checked.{Checked}
 use Rattle.refusals.specs.declared.Checked.TheVariants.{Accepted, Refused}
 use Rattle.refusals.proofs.Means.{Means, end, line, append, accepted_by, answers, box_means, range, same, less, at_most}

@@ -2,7 +2,7 @@
 use Rattle.std.specs.Prelude.{ℕ, ◌-◌, ◌^◌, ◌≡◌, ◌⊎◌, Bool, ◌||◌, List, [], ◌∷◌}
 use Rattle.boolean.specs.Functions.{MaskBefore}
 use Rattle.refusals.specs.Table.{Reply, figures, refusal, in_range}
-use Rattle.refusals.specs.Statements.{TableLine, ◌unless-that◌, Between}
+use Rattle.refusals.specs.Statements.{TableLine, ◌unless_that◌, Between}
 use Rattle.masks.specs.Parts.{merged_reply}
 use Rattle.masks.specs.Statements.{Cut}
 

@@ -1,4 +1,6 @@
 // Column addition: an affine function is added to one column of a box.
+#![tactic(auto)]
+
 ghost use Rattle.std.specs.Prelude.{◌≡◌, ◌^◌, ◌≤◌, ◌<◌, length};
 ghost use Rattle.refusals.specs.Table.{first};
 ghost use Rattle.columns.specs.Addition.{added_row, added_rows, addition_checks, AdditionCalled};

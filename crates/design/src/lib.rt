@@ -1,6 +1,8 @@
 // A design: one box that is tuned by swaps and column additions, with sixteen marks to go back to. It goes into each operation and comes
 // out of it as a whole. What a call does with a design that its own calls made is settled, every field of it; any other one is safe to call
 // with. The contract of each call is a record of specs/Calls, which the theorems on histories take as it stands.
+#![tactic(auto)]
+
 ghost use Rattle.std.specs.Prelude.{◌≡◌};
 ghost use Rattle.refusals.specs.Table.{said_written};
 ghost use Rattle.refusals.specs.declared.Written.TheVariants as answers;

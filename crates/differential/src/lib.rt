@@ -1,4 +1,6 @@
 // The XOR table of a box: one row, the largest cell, and the list of all cells that reach it.
+#![tactic(auto)]
+
 mod listing;
 mod narrow;
 

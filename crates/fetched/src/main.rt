@@ -1,5 +1,7 @@
 // Fills a catalogue with box files and fetches its records: of each index it writes where the record lies and the box that stands in the
 // part handed back. A refused fetch hands back an empty part, which is no box file: its two lines are the number, and 10.
+#![tactic(auto)]
+
 use boxfile::BoxFile;
 use catalogue::{Fetched, Told};
 use libc::STDOUT_FILENO;

@@ -1,4 +1,6 @@
 // The components of a box: their spectra, and the nonlinearity.
+#![tactic(auto)]
+
 ghost use Rattle.std.specs.Prelude.{◌≡◌, [], ◌∷◌, ◌*◌, ◌^◌, ◌≤◌, ◌<◌, ltb, length};
 ghost use Rattle.boolean.specs.Sums.{list_below, AnyContent};
 ghost use Rattle.boolean.specs.Functions.{component, spectrum};

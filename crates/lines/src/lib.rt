@@ -1,4 +1,6 @@
 // Lines of text on standard output, for the programs that run stored vectors.
+#![tactic(auto)]
+
 ghost use Rattle.std.specs.Prelude.{◌≡◌, ◌≤◌, min};
 
 use libc::STDOUT_FILENO;

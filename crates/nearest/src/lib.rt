@@ -1,4 +1,6 @@
 // All nearest pairs of a box: those that differ at as few inputs as the nonlinearity says.
+#![tactic(auto)]
+
 ghost use Rattle.std.specs.Prelude.{◌≡◌, ◌+◌, ◌*◌, ◌^◌, ◌≤◌, ◌<◌, length, set};
 ghost use Rattle.std.proofs.lemmas.List.Edits.{sets};
 ghost use Rattle.boolean.specs.Sums.{AnyContent};

@@ -2,6 +2,8 @@
 // nonlinearity after one column addition, after a second, and after a third that is refused and leaves the rows standing. It is for boxes
 // of three inputs or more and two outputs or more, as the stored ones are: with one output the line `bic` has neither figures nor an end,
 // and with fewer inputs nothing is written after the first addition, since the second one is refused.
+#![tactic(auto)]
+
 ghost use Rattle.std.specs.Prelude.{◌≤◌};
 
 use algebraic::DegreeFound;

@@ -18,7 +18,7 @@ use Rattle.refusals.specs.declared.Checked.{Checked}
 use Rattle.refusals.specs.declared.Checked.TheVariants.{Accepted, Refused}
 use Rattle.refusals.proofs.Bounds.{range_low, range_high, range_true}
 use Rattle.refusals.proofs.Replies.{no_figures}
-use Rattle.refusals.specs.Statements.{TableLine, ◌unless-that◌, FirstMet, NoneMet, Answers, Writes, Between, EachBelow, NoTwoEqual, box_lines}
+use Rattle.refusals.specs.Statements.{TableLine, ◌unless_that◌, FirstMet, NoneMet, Answers, Writes, Between, EachBelow, NoTwoEqual, box_lines}
 use Rattle.refusals.specs.Statements.{table_lines}
 
 -- the checks are the lines, one by one; the tests of the later ones may use that the earlier ones hold

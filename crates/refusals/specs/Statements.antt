@@ -3,10 +3,10 @@ use Rattle.std.specs.Prelude.{ℕ, ◌^◌, ◌≤◌, ◌<◌, ◌≡◌, ◌�
 use Rattle.boolean.specs.Functions.{at}
 use Rattle.refusals.specs.Table.{Reply, figures, refusal}
 
-infix 5 ◌unless-that◌
+infix 5 ◌unless_that◌
 -- a line of a call's table: the number that is given unless that holds
 pub data TableLine : Type 1 where
-  ◌unless-that◌ : ℕ → Type 0 → TableLine
+  ◌unless_that◌ : ℕ → Type 0 → TableLine
 
 -- number k is that of the first line that is met: its condition is met, and that of no earlier line
 abbrev pub FirstMet : (k : ℕ) (lines : List TableLine) → Type 0

@@ -1,4 +1,6 @@
 // The numbered refusals, the checks that many calls share, and the answer of a call that only writes.
+#![tactic(auto)]
+
 ghost use Rattle.std.specs.Prelude.{◌≡◌, ◌≤◌, length};
 ghost use Rattle.boolean.specs.Functions.{at};
 ghost use Rattle.boolean.specs.Sums.{largest_below};

@@ -1,5 +1,7 @@
 // Boxes added together: the outputs of one to four boxes, each fed by its own input bits, XORed. It stands above the analyser and uses
 // of its figures only the spectrum of a component and the largest magnitude there.
+#![tactic(auto)]
+
 ghost use Rattle.std.specs.Prelude.{◌≡◌, true, ◌&&◌, ltb, ◌+◌, ◌-◌, ◌/◌, ◌^◌, ◌≤◌, ◌<◌, length};
 ghost use Rattle.boolean.specs.Sums.{each, list_below, AnyContent};
 ghost use Rattle.boolean.specs.Functions.{component, spectrum};

@@ -1,5 +1,7 @@
 // The calls for C and for everything that speaks C. A slice is a pointer and its number of elements. Every function but `satmegwo_version`
 // returns 0 or the number of a refusal, and its figures go to an array that is lent for them.
+#![tactic(auto)]
+
 mod giving;
 
 ghost use Rattle.std.specs.Prelude.{[], ◌∷◌, ◌^◌, ◌≡◌, length};

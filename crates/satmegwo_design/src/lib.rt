@@ -1,6 +1,8 @@
 // The calls on a design, for C and for everything that speaks C. A design goes into each operation by value, and comes out of it beside 0
 // or the number of a refusal. Any bytes may be handed in as a design: no call reads anything outside it. The contracts are those of the
 // crate `design`, with what the number says in place of the answer.
+#![tactic(auto)]
+
 ghost use Rattle.std.specs.Prelude.{◌≡◌};
 ghost use Rattle.refusals.specs.Table.{said_written};
 ghost use Rattle.design.specs.Calls.{DesignBegun, DesignSwapped, DesignAdded, DesignMarked, DesignReturned};

@@ -11,7 +11,7 @@ use lib.Seq.{take_all}
 use Rattle.boolean.specs.Functions.{at}
 use Rattle.refusals.specs.Table.{first}
 use Rattle.refusals.specs.declared.Checked.TheVariants.{Accepted}
-use Rattle.refusals.specs.Statements.{◌unless-that◌}
+use Rattle.refusals.specs.Statements.{◌unless_that◌}
 use Rattle.refusals.proofs.Checks.{passed}
 use Rattle.refusals.proofs.Means.{Means, line, end, same, at_most}
 use Rattle.masks.specs.Parts.{earlier, merged_figures}

@@ -1,5 +1,7 @@
 // The calls on a part of the combinations for C and for everything that speaks C, and the merging of two parts. A slice is a pointer and
 // its number of elements. Every function returns 0 or the number of a refusal.
+#![tactic(auto)]
+
 mod giving;
 
 ghost use Rattle.std.specs.Prelude.{◌≡◌, ltb, length, ◌≤◌, [], ◌∷◌};

@@ -1,5 +1,7 @@
 // The server's calls for C and for everything that speaks C. A server goes into a call by value and comes out of it, so all of it is the
 // caller's memory. A slice is a pointer and its number of elements; a status is 0 or the number of a refusal.
+#![tactic(auto)]
+
 ghost use Rattle.server.specs.Calls.{said_asked, ServerBegan, ServerPut, ServerWithdrew, ServerStepped, ServerRan};
 ghost use Rattle.border.specs.Border.{FiguresOut};
 ghost use Rattle.satmegwo_server.specs.Exports.{progress_reply, NumberedCall, ToldOut};

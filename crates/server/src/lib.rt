@@ -1,4 +1,6 @@
 // The evaluation server: up to eight boxes under analysis for their nonlinearity, one combination a step.
+#![tactic(auto)]
+
 ghost use Rattle.std.specs.Prelude.{◌≡◌, [], ◌∷◌, true, ◌^◌, ◌≤◌, ◌<◌, length};
 ghost use Rattle.boolean.specs.Sums.{AnyContent};
 ghost use Rattle.boolean.specs.Selection.{best, lower, first_least, ranked};

@@ -1,4 +1,6 @@
 // The sheet of a box file, as text.
+#![tactic(auto)]
+
 ghost use Rattle.std.specs.Prelude.{◌≡◌, ◌+◌, ◌≤◌, length};
 ghost use Rattle.boolean.specs.Sums.{AnyContent};
 ghost use Rattle.linear.specs.Nonlinearity.{nonlinearity_reply};

@@ -1,5 +1,7 @@
 // Reads truth tables from standard input, a line of 0s and 1s each, and writes the spectrum of each and the table that its inverse gives.
 // Then it writes the inverse of some values that are given here.
+#![tactic(auto)]
+
 ghost use Rattle.std.specs.Prelude.{◌≡◌, ◌≤◌, length};
 ghost use Rattle.spectra.specs.Reading.{line_end, width_of, digit_of, digits_of};
 

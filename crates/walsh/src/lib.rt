@@ -1,5 +1,7 @@
 // The spectrum of a truth table, and the truth table of a spectrum. A spectrum holds the linear approximation values: each is half of the
 // Walsh value.
+#![tactic(auto)]
+
 mod fixed;
 mod narrow;
 

@@ -11,26 +11,26 @@ use Rattle.boolean.proofs.Distinct.{unlike}
 use Rattle.boolean.proofs.lacks_row.Statement.{statement}
 use Rattle.boolean.proofs.lacks_row.Tie as tie
 
-abbrev invariant-loop : tie.invariant-loop
-invariant-loop rows row k₀ k = Rest (unlike row) 0 rows k
+abbrev invariant-loop-k : tie.invariant-loop-k
+invariant-loop-k rows row k₀ k = Rest (unlike row) 0 rows k
 
-abbrev decreases-loop : tie.decreases-loop
-decreases-loop rows row k₀ k = length rows - k
+abbrev decreases-loop-k : tie.decreases-loop-k
+decreases-loop-k rows row k₀ k = length rows - k
 
-loop-holds : tie.Need-loop-init invariant-loop decreases-loop
+loop-holds : tie.Need-loop-k-init invariant-loop-k decreases-loop-k
 loop-holds c = rest_all _ _ _
 
-returns : tie.Need-returns invariant-loop decreases-loop
-returns c = rest_fails _ _ c.before.before.before.loop.invariant (omega arith) (ap not (eq-eqb _ _ c.if1.true))
+returns : tie.Need-returns-then-row-rows invariant-loop-k decreases-loop-k
+returns c = rest_fails _ _ c.loop-k.invariant (omega arith) (ap not (eq-eqb _ _ c.if-row-rows.true))
 
-loop-again : tie.Need-loop-preserved invariant-loop decreases-loop
-loop-again c = rest_next _ _ c.before.before.before.loop.invariant (omega arith) (ap not (ne_eqb _ _ c.if1.false))
+loop-again : tie.Need-loop-k-preserved invariant-loop-k decreases-loop-k
+loop-again c = rest_next _ _ c.loop-k.invariant (omega arith) (ap not (ne_eqb _ _ c.if-row-rows.false))
 
-returns-2 : tie.Need-returns-2 invariant-loop decreases-loop
-returns-2 c = rest_none _ _ c.before.loop.invariant (omega arith)
+returns-2 : tie.Need-returns invariant-loop-k decreases-loop-k
+returns-2 c = rest_none _ _ c.loop-k.invariant (omega arith)
 
 pub lacks_row_spec : {M : Type 1} → statement M
 lacks_row_spec =
     tie.close
-    (tie.spec invariant-loop decreases-loop loop-holds (λ c. search rules) (λ c. search rules) returns (λ c. search rules) (λ c. search rules)
+    (tie.spec invariant-loop-k decreases-loop-k loop-holds (λ c. search rules) (λ c. search rules) returns (λ c. search rules) (λ c. search rules)
     loop-again returns-2)

@@ -12,36 +12,36 @@ use Rattle.boolean.proofs.magnitude.Statement.{statement}
 use Rattle.boolean.proofs.magnitude.Tie as tie
 
 -- below zero
-low : (c : tie.Then1) → Negated c.before.args.v
-low c = negated c.before.args.v c.before.ranges.v c.if1.true
+low : (c : tie.Then-v-lt0) → Negated c.args.v
+low c = negated c.args.v c.ranges.v c.if-v-lt0.true
 
 -- a natural number below 2^31, as the cast to an unsigned word asks
 unsigned : (z : ℤ) (k : ℕ) → z ≡ pos k → k < 2 ^ 31 → T (non_neg z) × Fits w32 (nat_abs z)
 unsigned z k e h = subst (λ (y : ℤ). T (non_neg y) × Fits w32 (nat_abs y)) (sym e) (tt, record { fits = omega arith })
 
-add_above : tie.Need-overflow-add-above
+add_above : tie.Need-overflow_add-above
 add_above c = (low c).above_fits
 
-sub_above : tie.Need-overflow-sub-above
+sub_above : tie.Need-overflow_sub-above
 sub_above c = (low c).negation_fits
 
-cast_result : tie.Need-overflow-cast-result
+cast_result : tie.Need-overflow_cast-result
 cast_result c = unsigned _ (low c).rest (low c).negation (low c).small
 
-add_result : tie.Need-overflow-add-result
+add_result : tie.Need-overflow_add-result
 add_result c = subst (λ (y : ℤ). Fits w32 (nat_abs y + 1)) (sym (low c).negation) (record { fits = omega (arith, (low c).small) })
 
-cast_result_2 : tie.Need-overflow-cast-result-2
+cast_result_2 : tie.Need-overflow_cast-result-else-v-lt0
 cast_result_2 c =
-    let k = kept c.before.args.v c.before.ranges.v c.if1.false in
+    let k = kept c.args.v c.ranges.v c.if-v-lt0.false in
     unsigned _ k.0 k.1 k.3
 
-returns : tie.Need-returns
+returns : tie.Need-returns-then-v-lt0
 returns c = ap (λ (y : ℤ). nat_abs y + 1) (low c).negation ∙ (low c).size
 
-returns-2 : tie.Need-returns-2
+returns-2 : tie.Need-returns-else-v-lt0
 returns-2 c =
-    let k = kept c.before.args.v c.before.ranges.v c.if1.false in
+    let k = kept c.args.v c.ranges.v c.if-v-lt0.false in
     ap nat_abs k.1 ∙ sym k.2
 
 pub magnitude_spec : {M : Type 1} → statement M

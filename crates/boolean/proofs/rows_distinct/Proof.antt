@@ -8,33 +8,29 @@ use Rattle.boolean.proofs.Distinct.{Later, later_all, later_next, later_fails, l
 use Rattle.boolean.proofs.rows_distinct.Statement.{statement}
 use Rattle.boolean.proofs.rows_distinct.Tie as tie
 
-abbrev invariant-loop : tie.invariant-loop
-invariant-loop rows i₀ i = Later rows i
+abbrev invariant-loop-i : tie.invariant-loop-i
+invariant-loop-i rows i₀ i = Later rows i
 
-abbrev decreases-loop : tie.decreases-loop
-decreases-loop rows i₀ i = length rows - i
+abbrev decreases-loop-i : tie.decreases-loop-i
+decreases-loop-i rows i₀ i = length rows - i
 
-loop-holds : tie.Need-loop-init invariant-loop decreases-loop
+loop-holds : tie.Need-loop-i-init invariant-loop-i decreases-loop-i
 loop-holds c = later_all _
 
-returns : tie.Need-returns invariant-loop decreases-loop
+returns : tie.Need-returns-then-not-lacks_row invariant-loop-i decreases-loop-i
 returns c =
-    let asked = c.before in
-    let in_loop = asked.before.before.before in
-    later_fails in_loop.before.loop.invariant in_loop.loop-test.true asked.lacks_row.ensures (not-true asked.lacks_row.result c.if1.true)
+    later_fails c.loop-i.invariant c.loop-i-test.true c.lacks_row.ensures (not-true c.lacks_row.result c.if-not-lacks_row.true-raw)
 
-loop-again : tie.Need-loop-preserved invariant-loop decreases-loop
+loop-again : tie.Need-loop-i-preserved invariant-loop-i decreases-loop-i
 loop-again c =
-    let asked = c.before in
-    let in_loop = asked.before.before.before in
-    later_next in_loop.before.loop.invariant in_loop.loop-test.true asked.lacks_row.ensures (not-false asked.lacks_row.result c.if1.false)
+    later_next c.loop-i.invariant c.loop-i-test.true c.lacks_row.ensures (not-false c.lacks_row.result c.if-not-lacks_row.false-raw)
 
-returns-2 : tie.Need-returns-2 invariant-loop decreases-loop
-returns-2 c = later_none c.before.loop.invariant (omega arith)
+returns-2 : tie.Need-returns invariant-loop-i decreases-loop-i
+returns-2 c = later_none c.loop-i.invariant (omega arith)
 
 pub rows_distinct_spec : {M : Type 1} → statement M
 rows_distinct_spec =
     tie.close
-    (tie.spec invariant-loop decreases-loop loop-holds (λ c. search rules) (λ c. search rules) (λ c. search rules) (λ c. search rules)
+    (tie.spec invariant-loop-i decreases-loop-i loop-holds (λ c. search rules) (λ c. search rules) (λ c. search rules) (λ c. search rules)
     (λ c. search rules) (λ c. search rules) (λ c. search rules) (λ c κs. search rules) returns (λ c. search rules) (λ c. search rules)
     loop-again returns-2)

@@ -6,14 +6,14 @@ use borrow.Author.Rules.{rules}
 use Rattle.border.proofs.give.Statement.{statement}
 use Rattle.border.proofs.give.Tie as tie
 
-returns : tie.Need-returns
-returns c = gives_other c.number_of_lem.ensures c.before.if1.true
+returns : tie.Need-returns-then-figures-found
+returns c = gives_other c.number_of_lem.ensures c.if-figures-found.true
 
-returns-2 : tie.Need-returns-2
+returns-2 : tie.Need-returns
 returns-2 c =
-    let a = c.before.before.before.before.before.before.before.args in
+    let a = c.args in
     let same : length a.figures.now ≡ length a.found.now = search rules in
-    gives_all same c.before.before.copy.ensures
+    gives_all same c.copy.ensures
 
 pub give_spec : {M : Type 1} → statement M
 give_spec = tie.close (tie.spec (λ c κs. search rules) returns (λ c κs. search rules) (λ c. search rules) returns-2)

@@ -5,8 +5,8 @@ use Rattle.border.specs.Border.{room_number}
 use Rattle.border.proofs.number_for_room.Statement.{statement}
 use Rattle.border.proofs.number_for_room.Tie as tie
 
-returns-2 : tie.Need-returns-2
-returns-2 c = c.number_of2.ensures ∙ sym (ap room_number c.before.before.found.given.1)
+returns-2 : tie.Need-returns-in-Refused
+returns-2 c = c.number_of-in-Refused.ensures ∙ sym (ap room_number c.in-Refused.is)
 
 pub number_for_room_spec : {M : Type 1} → statement M
 number_for_room_spec =

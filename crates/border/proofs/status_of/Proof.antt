@@ -7,13 +7,13 @@ use Rattle.border.specs.Border.{status}
 use Rattle.border.proofs.status_of.Statement.{statement}
 use Rattle.border.proofs.status_of.Tie as tie
 
-returns : tie.Need-returns
+returns : tie.Need-returns-in-Done
 unfolding status
 returns c = search rules
 
-returns-2 : tie.Need-returns-2
+returns-2 : tie.Need-returns-in-Declined
 unfolding status
-returns-2 c = c.number_of_lem.ensures ∙ sym (ap (λ (w : Written). status (said_written w)) c.before.before.answer.given.1)
+returns-2 c = c.number_of_lem.ensures ∙ sym (ap (λ (w : Written). status (said_written w)) c.in-Declined.is)
 
 pub status_of_spec : {M : Type 1} → statement M
 status_of_spec =

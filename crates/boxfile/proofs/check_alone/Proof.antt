@@ -10,8 +10,8 @@ use Rattle.boxfile.proofs.check_alone.Tie as tie
 
 returns : tie.Need-returns
 returns c =
-    let file = c.before.before.before.args.file.now in
-    c.check_file.ensures ∙ ap (λ (room : ℕ). first (file_checks file room)) c.before.room_of.ensures.0 ∙ room_same file
+    let file = c.args.file.now in
+    c.check_file.ensures ∙ ap (λ (room : ℕ). first (file_checks file room)) c.room_of-rows.ensures.0 ∙ room_same file
 
 pub check_alone_spec : {M : Type 1} → statement M
 check_alone_spec = tie.close (tie.spec (λ c κs. search rules) (λ c κs. search rules) returns)

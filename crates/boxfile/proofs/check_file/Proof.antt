@@ -12,19 +12,16 @@ use borrow.Author.Rules.{rules}
 use Rattle.boxfile.proofs.check_file.Statement.{statement}
 use Rattle.boxfile.proofs.check_file.Tie as tie
 
-returns : tie.Need-returns
+returns : tie.Need-returns-then-file-lt2
 unfolding file_checks
-returns c = found (stop (lt-leb 2 (length c.before.before.args.file.now) (omega arith)))
+returns c = found (stop (lt-leb 2 (length c.args.file.now) (omega arith)))
 
-returns-2 : tie.Need-returns-2
+returns-2 : tie.Need-returns
 unfolding file_checks
 returns-2 c =
-    let second = c.before in
-    let other = second.before.before in
-    let else = other.before.before in
-    let a = else.before.before.args in
-    c.check_read.ensures ∙ ap₂ (λ (n m : ℕ). first (read_checks a.file.now n m a.room)) other.wide.ensures.0 second.wide2.ensures.0
-    ∙ sym (first_passed FileLength _ _ (le-leb 2 (length a.file.now) else.if1.false))
+    let a = c.args in
+    c.check_read.ensures ∙ ap₂ (λ (n m : ℕ). first (read_checks a.file.now n m a.room)) c.wide.ensures.0 c.wide-2.ensures.0
+    ∙ sym (first_passed FileLength _ _ (le-leb 2 (length a.file.now) c.if-file-lt2.false))
 
 pub check_file_spec : {M : Type 1} → statement M
 check_file_spec =

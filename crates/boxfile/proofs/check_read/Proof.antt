@@ -14,71 +14,62 @@ use Rattle.boxfile.proofs.check_read.Statement.{statement}
 use Rattle.boxfile.proofs.check_read.Tie as tie
 
 -- the lines of the table, where each was passed
-inputs : (c : tie.Else1) → in_range 1 8 c.before.before.before.args.n ≡ true
-inputs c = holds c.before.in_range.ensures c.if1.false
+inputs : (c : tie.Else-not-in_range) → in_range 1 8 c.args.n ≡ true
+inputs c = holds c.in_range.ensures c.if-not-in_range.false-raw
 
-outputs : (c : tie.Else2) → in_range 1 32 c.before.before.before.before.before.args.m ≡ true
-outputs c = holds c.before.in_range2.ensures c.if2.false
+outputs : (c : tie.Else-not-in_range-2) → in_range 1 32 c.args.m ≡ true
+outputs c = holds c.in_range-2.ensures c.if-not-in_range-2.false-raw
 
-size : (c : tie.Else3) →
-    let a = c.before.before.before.before.before.before.before.args in
+size : (c : tie.Else-file-size) →
+    let a = c.args in
     eqb (length a.file.now) (2 + 4 * 2 ^ a.n) ≡ true
-size c = equals (ap (λ (k : ℕ). 2 + 4 * k) c.before.power_of_two.ensures.0) c.if3.false
+size c = equals (ap (λ (k : ℕ). 2 + 4 * k) c.power_of_two-size.ensures.0) c.if-file-size.false
 
-answer : (c : tie.After-rows-below) →
-    let a = c.before.before.before.before.before.before.before.before.before.args in
+answer : (c : tie.After-rows_below) →
+    let a = c.args in
     c.rows_below.result ≡ all_below (2 ^ a.m) (file_rows a.file.now a.n)
 answer c =
-    let a = c.before.before.before.before.before.before.before.before.before.args in
-    c.rows_below.ensures ∙ ap (λ (k : ℕ). all_below k (file_rows a.file.now a.n)) c.before.power_of_two2.ensures.0
+    let a = c.args in
+    c.rows_below.ensures ∙ ap (λ (k : ℕ). all_below k (file_rows a.file.now a.n)) c.power_of_two.ensures.0
 
-returns : tie.Need-returns
+returns : tie.Need-returns-then-not-in_range
 unfolding read_checks
-returns c = found (stop (fails c.before.in_range.ensures c.if1.true))
+returns c = found (stop (fails c.in_range.ensures c.if-not-in_range.true-raw))
 
-returns-2 : tie.Need-returns-2
+returns-2 : tie.Need-returns-then-not-in_range-2
 unfolding read_checks
 returns-2 c =
-    found (skip (inputs c.before.before) (stop (fails c.before.in_range2.ensures c.if2.true)))
+    found (skip (inputs c.before.before) (stop (fails c.in_range-2.ensures c.if-not-in_range-2.true-raw)))
 
-power_of_two_requires : tie.Need-power-of-two-requires
+power_of_two_requires : tie.Need-power_of_two-size-requires
 power_of_two_requires c κs = le_trans (range_high 1 8 _ (inputs c.before.before)) (lit≤ tt)
 
-returns-3 : tie.Need-returns-3
+returns-3 : tie.Need-returns-then-file-size
 unfolding read_checks
 returns-3 c =
-    let p = c.before.before in
-    found (skip (inputs p.before.before) (skip (outputs p)
-    (stop (differs (ap (λ (k : ℕ). 2 + 4 * k) c.before.power_of_two.ensures.0) c.if3.true))))
+    found (skip (inputs c.before.before.before.before) (skip (outputs c.before.before)
+    (stop (differs (ap (λ (k : ℕ). 2 + 4 * k) c.power_of_two-size.ensures.0) c.if-file-size.true))))
 
-power_of_two_requires_2 : tie.Need-power-of-two-requires-2
+power_of_two_requires_2 : tie.Need-power_of_two-requires
 power_of_two_requires_2 c κs = range_high 1 32 _ (outputs c.before.before)
 
-returns-4 : tie.Need-returns-4
+returns-4 : tie.Need-returns-then-not-rows_below
 unfolding read_checks
 returns-4 c =
-    let p = c.before.before.before in
-    let q = p.before.before in
-    found (skip (inputs q.before.before) (skip (outputs q) (skip (size p)
-    (stop (fails (answer c.before) c.if4.true)))))
+    found (skip (inputs c.before.before.before.before.before.before.before) (skip (outputs c.before.before.before.before.before) (skip (size c.before.before.before)
+    (stop (fails (answer c.before) c.if-not-rows_below.true-raw)))))
 
-returns-5 : tie.Need-returns-5
+returns-5 : tie.Need-returns-then-room-size
 unfolding read_checks
 returns-5 c =
-    let r = c.before.before in
-    let p = r.before.before in
-    let q = p.before.before in
-    found (skip (inputs q.before.before) (skip (outputs q) (skip (size p) (skip (holds (answer r) c.before.if4.false)
-    (stop (differs p.before.power_of_two.ensures.0 c.if5.true))))))
+    found (skip (inputs c.before.before.before.before.before.before.before.before) (skip (outputs c.before.before.before.before.before.before) (skip (size c.before.before.before.before) (skip (holds (answer c.before.before) c.if-not-rows_below.false-raw)
+    (stop (differs c.power_of_two-size.ensures.0 c.if-room-size.true))))))
 
-returns-6 : tie.Need-returns-6
+returns-6 : tie.Need-returns
 unfolding read_checks
 returns-6 c =
-    let r = c.before.before in
-    let p = r.before.before in
-    let q = p.before.before in
-    found (skip (inputs q.before.before) (skip (outputs q) (skip (size p) (skip (holds (answer r) c.before.if4.false)
-    (skip (equals p.before.power_of_two.ensures.0 c.if5.false) end)))))
+    found (skip (inputs c.before.before.before.before.before.before.before.before) (skip (outputs c.before.before.before.before.before.before) (skip (size c.before.before.before.before) (skip (holds (answer c.before.before) c.if-not-rows_below.false-raw)
+    (skip (equals c.power_of_two-size.ensures.0 c.if-room-size.false) end)))))
 
 pub check_read_spec : {M : Type 1} → statement M
 check_read_spec =

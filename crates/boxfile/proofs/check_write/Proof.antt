@@ -12,26 +12,25 @@ use Rattle.boxfile.proofs.check_write.Statement.{statement}
 use Rattle.boxfile.proofs.check_write.Tie as tie
 
 -- the lines of a box's table, where they were passed
-ok_box : (c : tie.After-enum-told) → let a = c.before.before.before.before.args in first (box_checks a.n a.m a.rows.now) ≡ Accepted
-ok_box c = sym c.before.before.check_box.ensures ∙ c.enum_told.given.1
+ok_box : (c : tie.In_default) → let a = c.args in first (box_checks a.n a.m a.rows.now) ≡ Accepted
+ok_box c = sym c.check_box.ensures ∙ c.in_default.is
 
-size : (c : tie.After-enum-told) → let a = c.before.before.before.before.args in 2 + 4 * length a.rows.now ≡ 2 + 4 * 2 ^ a.n
-size c = let a = c.before.before.before.before.args in ap (λ (k : ℕ). 2 + 4 * k) (box a.n a.m a.rows.now [] (ok_box c)).size
+size : (c : tie.In_default) → let a = c.args in 2 + 4 * length a.rows.now ≡ 2 + 4 * 2 ^ a.n
+size c = let a = c.args in ap (λ (k : ℕ). 2 + 4 * k) (box a.n a.m a.rows.now [] (ok_box c)).size
 
-returns : tie.Need-returns
+returns : tie.Need-returns-in-Refused
 unfolding write_checks
 returns c =
-    let p = c.before.before.before in
-    let a = p.before.before.args in
-    found_before (box_checks a.n a.m a.rows.now) _ (sym p.check_box.ensures ∙ c.before.e.given.1)
+    let a = c.args in
+    found_before (box_checks a.n a.m a.rows.now) _ (sym c.check_box.ensures ∙ c.in-Refused.is)
 
-returns-2 : tie.Need-returns-2
+returns-2 : tie.Need-returns-then-room-rows
 unfolding write_checks
-returns-2 c = found_after _ (ok_box c.before) (stop (differs (size c.before) c.if1.true))
+returns-2 c = found_after _ (ok_box c.before) (stop (differs (size c.before) c.if-room-rows.true))
 
-returns-3 : tie.Need-returns-3
+returns-3 : tie.Need-returns
 unfolding write_checks
-returns-3 c = found_after _ (ok_box c.before) (skip (equals (size c.before) c.if1.false) end)
+returns-3 c = found_after _ (ok_box c.before) (skip (equals (size c.before) c.if-room-rows.false) end)
 
 pub check_write_spec : {M : Type 1} → statement M
 check_write_spec =

@@ -18,13 +18,13 @@ returns c =
     rw (one, two, three)
 
 -- a store leaves the length
-slice_write_file_2 : tie.Need-slice-write-file-2
+slice_write_file_2 : tie.Need-bounds-file-place-2
 slice_write_file_2 c = simp length-set (omega arith)
 
-slice_write_file_3 : tie.Need-slice-write-file-3
+slice_write_file_3 : tie.Need-bounds-file-place-3
 slice_write_file_3 c = simp length-set (omega arith)
 
-slice_write_file_4 : tie.Need-slice-write-file-4
+slice_write_file_4 : tie.Need-bounds-file-place-4
 slice_write_file_4 c = simp length-set (omega arith)
 
 pub put_row_spec : {M : Type 1} → statement M

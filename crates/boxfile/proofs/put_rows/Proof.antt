@@ -14,44 +14,42 @@ use borrow.Author.Rules.{rules}
 use Rattle.boxfile.proofs.put_rows.Statement.{statement}
 use Rattle.boxfile.proofs.put_rows.Tie as tie
 
-abbrev invariant-loop : tie.invariant-loop
-invariant-loop rows file₀ x₀ file x = Stored 2 file₀ (each (take x rows) row_bytes) (2 + 4 * x) file × (x ≤ length rows)
+abbrev invariant-loop-x : tie.invariant-loop-x
+invariant-loop-x rows file₀ x₀ file x = Stored 2 file₀ (each (take x rows) row_bytes) (2 + 4 * x) file × (x ≤ length rows)
 
-abbrev decreases-loop : tie.decreases-loop
-decreases-loop rows file₀ x₀ file x = length rows - x
+abbrev decreases-loop-x : tie.decreases-loop-x
+decreases-loop-x rows file₀ x₀ file x = length rows - x
 
-loop-holds : tie.Need-loop-init invariant-loop decreases-loop
+loop-holds : tie.Need-loop-x-init invariant-loop-x decreases-loop-x
 unfolding each
 loop-holds c = (stored_none 2 _, search rules)
 
-put_row_requires : tie.Need-put-row-requires invariant-loop decreases-loop
+put_row_requires : tie.Need-put_row-requires invariant-loop-x decreases-loop-x
 put_row_requires c κs =
-    let at_loop = c.before.before.before in
-    let room : 2 + 4 * at_loop.loop.x + 3 < length at_loop.loop.file = omega (arith, stored_length at_loop.loop.invariant.0) in
+    let room : 2 + 4 * c.loop-x.x + 3 < length c.loop-x.file = omega (arith, stored_length c.loop-x.invariant.0) in
     room
 
-loop-again : tie.Need-loop-preserved invariant-loop decreases-loop
+loop-again : tie.Need-loop-x-preserved invariant-loop-x decreases-loop-x
 unfolding row_bytes
 loop-again c =
-    let at_loop = c.before.before.before.before.before.before in
-    let rows = at_loop.before.before.before.args.rows.now in
-    let x = at_loop.loop.x in
+    let rows = c.args.rows.now in
+    let x = c.loop-x.x in
     let inside : x < length rows = omega arith in
     let next : 2 + 4 * (x + 1) ≡ 2 + 4 * x + 4 = omega arith in
-    let more = stored_more at_loop.loop.invariant.0 (row_bytes (at rows x)) next c.before.before.put_row.ensures in
+    let more = stored_more c.loop-x.invariant.0 (row_bytes (at rows x)) next c.put_row.ensures in
     (rw (bytes_next rows x inside) more, search rules)
 
-same_length : tie.Need-same-length invariant-loop decreases-loop
-same_length c = stored_length c.before.loop.invariant.0
+same_length : tie.Need-shape_of-file invariant-loop-x decreases-loop-x
+same_length c = stored_length c.loop-x.invariant.0
 
-returns : tie.Need-returns invariant-loop decreases-loop
+returns : tie.Need-returns invariant-loop-x decreases-loop-x
 returns c =
-    let a = c.before.before.before.before.args in
-    let all : take c.before.loop.x a.rows.now ≡ a.rows.now = take_all c.before.loop.x a.rows.now (search rules) in
-    c.before.loop.invariant.0.stored ∙ ap (λ (l : List ℕ). sets a.file.now 2 (each l row_bytes)) all
+    let a = c.args in
+    let all : take c.loop-x.x a.rows.now ≡ a.rows.now = take_all c.loop-x.x a.rows.now (search rules) in
+    c.loop-x.invariant.0.stored ∙ ap (λ (l : List ℕ). sets a.file.now 2 (each l row_bytes)) all
 
 pub put_rows_spec : {M : Type 1} → statement M
 put_rows_spec =
     tie.close
-    (tie.spec invariant-loop decreases-loop loop-holds (λ c. search rules) (λ c. search rules) (λ c. search rules) (λ c. search rules)
+    (tie.spec invariant-loop-x decreases-loop-x loop-holds (λ c. search rules) (λ c. search rules) (λ c. search rules) (λ c. search rules)
     put_row_requires (λ c. search rules) (λ c. search rules) loop-again same_length returns)

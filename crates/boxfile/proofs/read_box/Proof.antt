@@ -13,45 +13,39 @@ use borrow.Author.Rules.{rules}
 use Rattle.boxfile.proofs.read_box.Statement.{statement}
 use Rattle.boxfile.proofs.read_box.Tie as tie
 
-returns : tie.Need-returns
+returns : tie.Need-returns-in-Refused
 returns c =
-    let p = c.before.before.before in
-    let h = sym p.check_file.ensures ∙ c.before.e.given.1 in
+    let h = sym c.check_file.ensures ∙ c.in-Refused.is in
     record { reply = reply_refused h _; content = after_refused h _ _ }
 
-accepted : (c : tie.After-enum-told) →
-    let a = c.before.before.before.before.before.args in
+accepted : (c : tie.In_default) →
+    let a = c.args in
     first (file_checks a.file.now (length a.rows.now)) ≡ Accepted
-accepted c = sym c.before.before.check_file.ensures ∙ c.enum_told.given.1
+accepted c = sym c.check_file.ensures ∙ c.in_default.is
 
-known : (c : tie.After-enum-told) →
-    let a = c.before.before.before.before.before.args in
+known : (c : tie.In_default) →
+    let a = c.args in
     Whole a.file.now (length a.rows.now)
-known c = let a = c.before.before.before.before.before.args in whole a.file.now (length a.rows.now) (accepted c)
+known c = let a = c.args in whole a.file.now (length a.rows.now) (accepted c)
 
-shared_slice_read_wide : tie.Need-shared-slice-read-wide
+shared_slice_read_wide : tie.Need-bounds-file-0
 shared_slice_read_wide c = omega (arith, (known c.before).two)
 
-write_rows_requires : tie.Need-write-rows-requires
+write_rows_requires : tie.Need-write_rows-requires
 write_rows_requires c κs =
-    let w = c.before in
-    let told = w.before.before in
-    let a = told.before.before.before.before.before.args in
-    subst (λ (n : ℕ). (length a.rows.now ≡ 2 ^ n) × (length a.file.now ≡ 2 + 4 * 2 ^ n)) (sym w.wide.ensures.0) ((known told).room_is, (known told).size)
+    let a = c.args in
+    subst (λ (n : ℕ). (length a.rows.now ≡ 2 ^ n) × (length a.file.now ≡ 2 + 4 * 2 ^ n)) (sym c.wide-n.ensures.0) ((known c.before.before.before).room_is, (known c.before.before.before).size)
 
-shared_slice_read_wide_2 : tie.Need-shared-slice-read-wide-2
+shared_slice_read_wide_2 : tie.Need-bounds-file-1
 shared_slice_read_wide_2 c = omega (arith, (known c.before.before.before.before.before.before.before).two)
 
-returns-2 : tie.Need-returns-2
+returns-2 : tie.Need-returns
 returns-2 c =
-    let rows = c.before.before.before.before in
-    let w = rows.before.before in
-    let told = w.before.before in
-    let a = told.before.before.before.before.before.args in
-    let h = accepted told in
+    let a = c.args in
+    let h = accepted c.before.before.before.before.before.before.before.before in
     record {
-      reply = ap₂ (λ (n m : ℕ). figures (n ∷ m ∷ [])) w.wide.ensures.0 c.wide2.ensures.0 ∙ reply_accepted h _;
-      content = rows.write_rows.ensures ∙ ap (file_rows a.file.now) w.wide.ensures.0 ∙ after_accepted h _ _;
+      reply = ap₂ (λ (n m : ℕ). figures (n ∷ m ∷ [])) c.wide-n.ensures.0 c.wide.ensures.0 ∙ reply_accepted h _;
+      content = c.write_rows.ensures ∙ ap (file_rows a.file.now) c.wide-n.ensures.0 ∙ after_accepted h _ _;
     }
 
 pub read_box_spec : {M : Type 1} → statement M

@@ -10,22 +10,22 @@ use borrow.Author.Rules.{rules}
 use Rattle.boxfile.proofs.room_of.Statement.{statement}
 use Rattle.boxfile.proofs.room_of.Tie as tie
 
-returns : tie.Need-returns
-returns c = (sym (room_of_empty _ c.if1.true), lit≤ tt)
+returns : tie.Need-returns-then-file-eq0
+returns c = (sym (room_of_empty _ c.if-file-eq0.true), lit≤ tt)
 
-cast_inputs : tie.Need-overflow-cast-inputs
-cast_inputs c = omega (arith, c.shared_slice_known2.given 0)
+cast_inputs : tie.Need-overflow_cast-inputs
+cast_inputs c = omega (arith, c.shared_slice_known-2-1.given 0)
 
-returns-2 : tie.Need-returns-2
-returns-2 c = (sym (room_of_none _ (fails c.before.in_range.ensures c.if2.true)), lit≤ tt)
+returns-2 : tie.Need-returns-then-not-in_range
+returns-2 c = (sym (room_of_none _ (fails c.in_range.ensures c.if-not-in_range.true-raw)), lit≤ tt)
 
-power_of_two_requires : tie.Need-power-of-two-requires
-power_of_two_requires c κs = le_trans (range_high 1 8 _ (holds c.before.in_range.ensures c.if2.false)) (lit≤ tt)
+power_of_two_requires : tie.Need-power_of_two-requires
+power_of_two_requires c κs = le_trans (range_high 1 8 _ (holds c.in_range.ensures c.if-not-in_range.false-raw)) (lit≤ tt)
 
-returns-3 : tie.Need-returns-3
+returns-3 : tie.Need-returns
 returns-3 c =
-    let file = c.before.before.before.before.before.before.args.file.now in
-    let is = c.power_of_two.ensures.0 ∙ sym (room_of_rows file (holds c.before.before.in_range.ensures c.before.if2.false)) in
+    let file = c.args.file.now in
+    let is = c.power_of_two.ensures.0 ∙ sym (room_of_rows file (holds c.in_range.ensures c.if-not-in_range.false-raw)) in
     (is, le_trans (le_of_eq is) (room_small file))
 
 pub room_of_spec : {M : Type 1} → statement M

@@ -19,7 +19,7 @@ joined file x low high p q =
     omega (arith, ap (at file) second, ap (at file) fourth)
 
 returns : tie.Need-returns
-returns c = joined _ _ _ _ c.before.two_bytes.ensures.0 c.two_bytes2.ensures.0
+returns c = joined _ _ _ _ c.two_bytes-low.ensures.0 c.two_bytes-high.ensures.0
 
 pub row_at_spec : {M : Type 1} → statement M
 row_at_spec =

@@ -14,12 +14,11 @@ use Rattle.boxfile.proofs.rows_below.Tie as tie
 
 returns : tie.Need-returns
 returns c =
-    let start = c.before.before in
-    let a = start.args in
+    let a = c.args in
     let rows = file_rows a.file.now a.n in
-    let many : length rows ≡ a.size = length_rows a.file.now a.n ∙ sym start.requires.0 in
+    let many : length rows ≡ a.size = length_rows a.file.now a.n ∙ sym c.requires.0 in
     let some : 0 < length rows = subst (λ (k : ℕ). 0 < k) (sym (length_rows a.file.now a.n)) (pow_pos a.n) in
-    ap (λ (k : ℕ). ltb k a.limit) (c.largest_row.ensures ∙ ap (λ (k : ℕ). largest_below k (row_at a.file.now)) (sym many))
+    ap (λ (k : ℕ). ltb k a.limit) (c.largest_row-most.ensures ∙ ap (λ (k : ℕ). largest_below k (row_at a.file.now)) (sym many))
     ∙ largest_below_lem a.limit rows (row_at a.file.now) some (λ x l. row_of_rows a.file.now a.n x (subst (λ (k : ℕ). x < k) (length_rows a.file.now a.n) l))
 
 pub rows_below_spec : {M : Type 1} → statement M

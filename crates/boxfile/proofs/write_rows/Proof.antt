@@ -8,34 +8,33 @@ use Rattle.boxfile.specs.File.{row_at, file_rows}
 use Rattle.boxfile.proofs.write_rows.Statement.{statement}
 use Rattle.boxfile.proofs.write_rows.Tie as tie
 
-abbrev invariant-loop : tie.invariant-loop
-invariant-loop file n rows₀ x₀ rows x = Filled 0 (λ y. row_at file y) (2 ^ n) x rows
+abbrev invariant-loop-x : tie.invariant-loop-x
+invariant-loop-x file n rows₀ x₀ rows x = Filled 0 (λ y. row_at file y) (2 ^ n) x rows
 
-abbrev decreases-loop : tie.decreases-loop
-decreases-loop file n rows₀ x₀ rows x = 2 ^ n - x
+abbrev decreases-loop-x : tie.decreases-loop-x
+decreases-loop-x file n rows₀ x₀ rows x = 2 ^ n - x
 
-loop-holds : tie.Need-loop-init invariant-loop decreases-loop
-loop-holds c = filled_none 0 _ _ c.before.before.args.rows.now c.before.before.requires.0
+loop-holds : tie.Need-loop-x-init invariant-loop-x decreases-loop-x
+loop-holds c = filled_none 0 _ _ c.args.rows.now c.requires.0
 
-loop-again : tie.Need-loop-preserved invariant-loop decreases-loop
+loop-again : tie.Need-loop-x-preserved invariant-loop-x decreases-loop-x
 loop-again c =
-    let p = c.before.before in
-    let a = p.before.before.before.args in
-    filled_more 0 (λ y. row_at a.file.now y) (2 ^ a.n) p.loop.x p.loop.rows p.loop.invariant
-    (omega (arith, p.loop.invariant.long, c.before.loop-test.true)) c.row_at.result c.row_at.ensures
+    let a = c.args in
+    filled_more 0 (λ y. row_at a.file.now y) (2 ^ a.n) c.loop-x.x c.loop-x.rows c.loop-x.invariant
+    (omega (arith, c.loop-x.invariant.long, c.loop-x-test.true)) c.row_at.result c.row_at.ensures
 
-same_length : tie.Need-same-length invariant-loop decreases-loop
-same_length c = c.before.loop.invariant.long ∙ sym c.before.before.before.before.requires.0
+same_length : tie.Need-shape_of-rows invariant-loop-x decreases-loop-x
+same_length c = c.loop-x.invariant.long ∙ sym c.requires.0
 
-returns : tie.Need-returns invariant-loop decreases-loop
+returns : tie.Need-returns invariant-loop-x decreases-loop-x
 unfolding file_rows
 returns c =
-    let a = c.before.before.before.before.args in
-    filled_whole 0 (λ y. row_at a.file.now y) (2 ^ a.n) c.before.loop.x c.before.loop.rows c.before.loop.invariant
-    (omega (arith, c.before.loop.invariant.long, c.loop-test.false))
+    let a = c.args in
+    filled_whole 0 (λ y. row_at a.file.now y) (2 ^ a.n) c.loop-x.x c.loop-x.rows c.loop-x.invariant
+    (omega (arith, c.loop-x.invariant.long, c.loop-x-test.false))
 
 pub write_rows_spec : {M : Type 1} → statement M
 write_rows_spec =
     tie.close
-    (tie.spec invariant-loop decreases-loop loop-holds (λ c κs. search rules) (λ c. search rules) (λ c. search rules) (λ c. search rules)
+    (tie.spec invariant-loop-x decreases-loop-x loop-holds (λ c κs. search rules) (λ c. search rules) (λ c. search rules) (λ c. search rules)
     (λ c. search rules) loop-again same_length returns)

@@ -14,27 +14,27 @@ use Rattle.columns.proofs.add_rows.Tie as tie
 abbrev new : ℕ → ℕ → ℕ → List ℕ → ℕ → ℕ
 new j w b rows x = added_row j w b x (at rows x)
 
-abbrev invariant-loop : tie.invariant-loop
-invariant-loop rows j w b out₀ x₀ out x = Filled 0 (new j w b rows) (length rows) x out
+abbrev invariant-loop-x : tie.invariant-loop-x
+invariant-loop-x rows j w b out₀ x₀ out x = Filled 0 (new j w b rows) (length rows) x out
 
-abbrev decreases-loop : tie.decreases-loop
-decreases-loop rows j w b out₀ x₀ out x = length rows - x
+abbrev decreases-loop-x : tie.decreases-loop-x
+decreases-loop-x rows j w b out₀ x₀ out x = length rows - x
 
-loop-holds : tie.Need-loop-init invariant-loop decreases-loop
+loop-holds : tie.Need-loop-x-init invariant-loop-x decreases-loop-x
 loop-holds c = filled_none _ _ _ _ (omega arith)
 
-loop-again : tie.Need-loop-preserved invariant-loop decreases-loop
-loop-again c = filled_more _ _ _ _ _ c.before.before.before.loop.invariant (omega arith) _ c.added_row.ensures
+loop-again : tie.Need-loop-x-preserved invariant-loop-x decreases-loop-x
+loop-again c = filled_more _ _ _ _ _ c.loop-x.invariant (omega arith) _ c.added_row.ensures
 
-same_length : tie.Need-same-length invariant-loop decreases-loop
+same_length : tie.Need-shape_of-out invariant-loop-x decreases-loop-x
 same_length c = omega arith
 
-returns : tie.Need-returns invariant-loop decreases-loop
+returns : tie.Need-returns invariant-loop-x decreases-loop-x
 unfolding added_rows
-returns c = filled_whole _ _ _ _ _ c.before.loop.invariant (omega arith)
+returns c = filled_whole _ _ _ _ _ c.loop-x.invariant (omega arith)
 
 pub add_rows_spec : {M : Type 1} → statement M
 add_rows_spec =
     tie.close
-    (tie.spec invariant-loop decreases-loop loop-holds (λ c. search rules) (λ c. search rules) (λ c κs. search rules) (λ c. search rules)
+    (tie.spec invariant-loop-x decreases-loop-x loop-holds (λ c. search rules) (λ c. search rules) (λ c κs. search rules) (λ c. search rules)
     (λ c. search rules) (λ c. search rules) (λ c. search rules) loop-again same_length returns)

@@ -11,23 +11,23 @@ use Rattle.columns.proofs.Accepted.{accepts}
 use Rattle.columns.proofs.add_to_column.Statement.{statement}
 use Rattle.columns.proofs.add_to_column.Tie as tie
 
-returns : tie.Need-returns
-returns c = wrote_refused (sym c.before.before.before.check_addition.ensures ∙ c.before.e.given.1)
+returns : tie.Need-returns-in-Refused
+returns c = wrote_refused (sym c.check_addition.ensures ∙ c.in-Refused.is)
 
 -- past the `if` the checks found nothing
-accepted : (c : tie.After-enum-told) →
-    let a = c.before.before.before.before.before.args in
+accepted : (c : tie.In_default) →
+    let a = c.args in
     first (addition_checks a.n a.m a.rows.now a.j a.w a.b (length a.out.now)) ≡ Accepted
-accepted c = sym c.before.before.check_addition.ensures ∙ c.enum_told.given.1
+accepted c = sym c.check_addition.ensures ∙ c.in_default.is
 
-add_rows_requires : tie.Need-add-rows-requires
+add_rows_requires : tie.Need-add_rows-requires
 add_rows_requires c κs =
-    let a = c.before.before.before.before.before.before.args in
+    let a = c.args in
     let r = accepts a.n a.m a.rows.now a.j a.w a.b (length a.out.now) (accepted c.before) in
     (r.j_low, r.j_fits, r.b_bit, r.sound.small, r.room_same)
 
-returns-2 : tie.Need-returns-2
-returns-2 c = wrote_accepted (accepted c.before.before.before.before) c.before.before.add_rows.ensures
+returns-2 : tie.Need-returns
+returns-2 c = wrote_accepted (accepted c.before.before.before.before) c.add_rows.ensures
 
 pub add_to_column_spec : {M : Type 1} → statement M
 add_to_column_spec =

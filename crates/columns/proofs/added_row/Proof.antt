@@ -7,8 +7,8 @@ use Rattle.columns.proofs.added_row.Tie as tie
 
 returns : tie.Need-returns
 returns c =
-    let a = c.before.args in
-    let p = c.before.requires in
+    let a = c.args in
+    let p = c.requires in
     row_is a.j a.w a.b a.x a.row _ p.0 p.1 p.2 c.dot.ensures.0 c.dot.ensures.1
 
 pub added_row_spec : {M : Type 1} → statement M

@@ -14,64 +14,59 @@ use Rattle.differential.proofs.check_row.Statement.{statement}
 use Rattle.differential.proofs.check_row.Tie as tie
 
 -- the lines of the box's checks, where they were passed
-ok_box : (c : tie.After-enum-told) →
-    let a = c.before.before.before.before.args in
+ok_box : (c : tie.In_default) →
+    let a = c.args in
     first (box_checks_up_to 16 a.n a.m a.rows.now) ≡ Accepted
-ok_box c = sym c.before.before.check_box_up_to.ensures ∙ c.enum_told.given.1
+ok_box c = sym c.check_box_up_to.ensures ∙ c.in_default.is
 
-the_box : (c : tie.After-enum-told) →
-    let a = c.before.before.before.before.args in
+the_box : (c : tie.In_default) →
+    let a = c.args in
     Box a.n a.m a.rows.now
 the_box c =
-    let a = c.before.before.before.before.args in
+    let a = c.args in
     box_up_to 16 a.n a.m a.rows.now [] (lit≤ tt) (ok_box c)
 
 -- the input difference's test, by the power that was computed
-difference_test : (c : tie.After-in-range) →
-    let p = c.before in
-    let a = p.before.before.before.before.before.args in
+difference_test : (c : tie.After-in_range) →
+    let a = c.args in
     c.in_range.result ≡ in_range 1 (2 ^ a.n - 1) a.a
 difference_test c =
-    let p = c.before in
-    let a = p.before.before.before.before.before.args in
-    c.in_range.ensures ∙ ap (λ (k : ℕ). in_range 1 (k - 1) a.a) p.power_of_two.ensures.0
+    let a = c.args in
+    c.in_range.ensures ∙ ap (λ (k : ℕ). in_range 1 (k - 1) a.a) c.power_of_two-inputs.ensures.0
 
-returns : tie.Need-returns
+returns : tie.Need-returns-in-Refused
 unfolding row_checks
 returns c =
-    let p = c.before.before.before in
-    let a = p.before.before.args in
-    found_before (box_checks_up_to 16 a.n a.m a.rows.now) _ (sym p.check_box_up_to.ensures ∙ c.before.e.given.1)
+    let a = c.args in
+    found_before (box_checks_up_to 16 a.n a.m a.rows.now) _ (sym c.check_box_up_to.ensures ∙ c.in-Refused.is)
 
-power_of_two_requires : tie.Need-power-of-two-requires
+power_of_two_requires : tie.Need-power_of_two-inputs-requires
 power_of_two_requires c κs = omega (arith, (the_box c).n_high)
 
-cast_inputs : tie.Need-overflow-cast-inputs
-cast_inputs c = let b = the_box c.before in omega (arith, c.power_of_two.ensures.0, b.size, b.small)
+cast_inputs : tie.Need-overflow_cast-inputs
+cast_inputs c = let b = the_box c.before in omega (arith, c.power_of_two-inputs.ensures.0, b.size, b.small)
 
-sub_in_range : tie.Need-overflow-sub-in-range
-sub_in_range c = omega (arith, c.power_of_two.ensures.0, pow_pos c.before.before.before.before.before.args.n)
+sub_in_range : tie.Need-overflow_sub-inputs
+sub_in_range c = omega (arith, c.power_of_two-inputs.ensures.0, pow_pos c.args.n)
 
-returns-2 : tie.Need-returns-2
+returns-2 : tie.Need-returns-then-not-in_range
 unfolding row_checks
-returns-2 c = found_after _ (ok_box c.before.before.before) (stop (fails (difference_test c.before) c.if1.true))
+returns-2 c = found_after _ (ok_box c.before.before.before) (stop (fails (difference_test c.before) c.if-not-in_range.true-raw))
 
-power_of_two_requires_2 : tie.Need-power-of-two-requires-2
+power_of_two_requires_2 : tie.Need-power_of_two-requires
 power_of_two_requires_2 c κs = omega (arith, (the_box c.before.before.before).m_high)
 
-returns-3 : tie.Need-returns-3
+returns-3 : tie.Need-returns-then-room-power_of_two
 unfolding row_checks
 returns-3 c =
-    let else = c.before.before in
-    found_after _ (ok_box else.before.before.before) (skip (holds (difference_test else.before) else.if1.false)
-    (stop (differs c.before.power_of_two2.ensures.0 c.if2.true)))
+    found_after _ (ok_box c.before.before.before.before.before) (skip (holds (difference_test c.before.before.before) c.if-not-in_range.false-raw)
+    (stop (differs c.power_of_two.ensures.0 c.if-room-power_of_two.true)))
 
-returns-4 : tie.Need-returns-4
+returns-4 : tie.Need-returns
 unfolding row_checks
 returns-4 c =
-    let else = c.before.before in
-    found_after _ (ok_box else.before.before.before) (skip (holds (difference_test else.before) else.if1.false)
-    (skip (equals c.before.power_of_two2.ensures.0 c.if2.false) end))
+    found_after _ (ok_box c.before.before.before.before.before) (skip (holds (difference_test c.before.before.before) c.if-not-in_range.false-raw)
+    (skip (equals c.power_of_two.ensures.0 c.if-room-power_of_two.false) end))
 
 pub check_row_spec : {M : Type 1} → statement M
 check_row_spec =

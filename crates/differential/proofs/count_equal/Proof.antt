@@ -16,31 +16,31 @@ use Rattle.differential.proofs.count_equal.Tie as tie
 abbrev same : List ℕ → ℕ → ℕ → Bool
 same values beta x = eqb (at values x) beta
 
-abbrev invariant-loop : tie.invariant-loop
-invariant-loop differences beta count₀ x₀ count x = Counted (length differences) (same differences beta) x count
+abbrev invariant-loop-x : tie.invariant-loop-x
+invariant-loop-x differences beta count₀ x₀ count x = Counted (length differences) (same differences beta) x count
 
-abbrev decreases-loop : tie.decreases-loop
-decreases-loop differences beta count₀ x₀ count x = length differences - x
+abbrev decreases-loop-x : tie.decreases-loop-x
+decreases-loop-x differences beta count₀ x₀ count x = length differences - x
 
-loop-holds : tie.Need-loop-init invariant-loop decreases-loop
+loop-holds : tie.Need-loop-x-init invariant-loop-x decreases-loop-x
 loop-holds c = counted_none _ _
 
-add_count : tie.Need-overflow-add-count invariant-loop decreases-loop
-add_count c = omega (arith, counted_le _ _ c.before.before.before.loop.invariant)
+add_count : tie.Need-overflow_add-count invariant-loop-x decreases-loop-x
+add_count c = omega (arith, counted_le _ _ c.loop-x.invariant)
 
-loop-again : tie.Need-loop-preserved invariant-loop decreases-loop
+loop-again : tie.Need-loop-x-preserved invariant-loop-x decreases-loop-x
 loop-again c =
-    let so_far = c.before.before.before.loop.invariant in
-    let inside = c.before.before.loop-test.true in
-    ⊎_elim (λ t. rw t.1 (counted_hit _ _ so_far inside (eq-eqb _ _ t.0.taken)))
-    (λ t. rw t.1 (counted_miss _ _ so_far inside (ne_eqb _ _ t.0.left))) c.if1.branch
+    let so_far = c.loop-x.invariant in
+    let inside = c.loop-x-test.true in
+    ⊎_elim (λ t. rw t.count-is (counted_hit _ _ so_far inside (eq-eqb _ _ t.if-differences-x.true)))
+    (λ t. rw t.count-is (counted_miss _ _ so_far inside (ne_eqb _ _ t.if-differences-x.false))) c.if-differences-x.branch-raw
 
-returns : tie.Need-returns invariant-loop decreases-loop
+returns : tie.Need-returns invariant-loop-x decreases-loop-x
 unfolding occurrences
-returns c = counted_all _ _ c.before.loop.invariant c.loop-test.false
+returns c = counted_all _ _ c.loop-x.invariant c.loop-x-test.false
 
 pub count_equal_spec : {M : Type 1} → statement M
 count_equal_spec =
     tie.close
-    (tie.spec invariant-loop decreases-loop loop-holds (λ c. search rules) (λ c. search rules) add_count (λ c. search rules) (λ c. search rules)
+    (tie.spec invariant-loop-x decreases-loop-x loop-holds (λ c. search rules) (λ c. search rules) add_count (λ c. search rules) (λ c. search rules)
     loop-again returns)

@@ -11,19 +11,17 @@ use Rattle.differential.proofs.find_wide.Statement.{statement}
 use Rattle.differential.proofs.find_wide.Tie as tie
 
 -- a box has at most 256 rows, so there is room for its pairs
-half_small : (c : tie.After-slice-known) →
-    let a = c.before.before.args in
+half_small : (c : tie.After-slice_known-1) →
+    let a = c.args in
     length a.rows.now / 2 ≤ length a.pairs.now
-half_small c = let start = c.before.before in omega (arith, start.requires.0.small, start.requires.1)
+half_small c = omega (arith, c.requires.0.small, c.requires.1)
 
-slice_aggregate_sweep_cells : tie.Need-slice-aggregate-sweep-cells
+slice_aggregate_sweep_cells : tie.Need-slice_bounds-sweep_cells-end-2
 slice_aggregate_sweep_cells c = sym (length-take-le _ _ (half_small c.before))
 
-sweep_cells_requires : tie.Need-sweep-cells-requires
+sweep_cells_requires : tie.Need-sweep_cells-requires
 sweep_cells_requires c κs =
-    let known = c.before.before in
-    let start = known.before.before in
-    (start.requires.0, half_room start.requires.0 start.args.pairs.now (half_small known), zeros_free)
+    (c.requires.0, half_room c.requires.0 c.args.pairs.now (half_small c.before.before), zeros_free)
 
 pub find_wide_spec : {M : Type 1} → statement M
 find_wide_spec =

@@ -4,11 +4,11 @@ use Rattle.differential.proofs.Rises.{takes_higher, keeps_higher}
 use Rattle.differential.proofs.larger.Statement.{statement}
 use Rattle.differential.proofs.larger.Tie as tie
 
-returns : tie.Need-returns
-returns c = sym (takes_higher c.if1.true)
+returns : tie.Need-returns-then-x-y
+returns c = sym (takes_higher c.if-x-y.true)
 
-returns-2 : tie.Need-returns-2
-returns-2 c = sym (keeps_higher c.if1.false)
+returns-2 : tie.Need-returns-else-x-y
+returns-2 c = sym (keeps_higher c.if-x-y.false)
 
 pub larger_spec : {M : Type 1} → statement M
 larger_spec = tie.close (tie.spec returns returns-2)

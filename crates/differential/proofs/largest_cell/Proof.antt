@@ -10,18 +10,18 @@ use Rattle.refusals.proofs.Checks.{box, reply_refused, reply_accepted}
 use Rattle.differential.proofs.largest_cell.Statement.{statement}
 use Rattle.differential.proofs.largest_cell.Tie as tie
 
-returns : tie.Need-returns
-returns c = reply_refused (sym c.before.before.before.check_box.ensures ∙ c.before.e.given.1) _
+returns : tie.Need-returns-in-Refused
+returns c = reply_refused (sym c.check_box.ensures ∙ c.in-Refused.is) _
 
 -- accepted: the rows are a box
-accepted : (c : tie.After-enum-told) → let a = c.before.before.before.before.args in first (box_checks a.n a.m a.rows.now) ≡ Accepted
-accepted c = sym c.before.before.check_box.ensures ∙ c.enum_told.given.1
+accepted : (c : tie.In_default) → let a = c.args in first (box_checks a.n a.m a.rows.now) ≡ Accepted
+accepted c = sym c.check_box.ensures ∙ c.in_default.is
 
-find_largest_requires : tie.Need-find-largest-requires
-find_largest_requires c κs = let a = c.before.before.before.before.before.args in (box a.n a.m a.rows.now [] (accepted c.before), refl)
+find_largest_requires : tie.Need-find_largest-found-requires
+find_largest_requires c κs = let a = c.args in (box a.n a.m a.rows.now [] (accepted c.before), refl)
 
-returns-2 : tie.Need-returns-2
-returns-2 c = ap (λ (k : Candidate). figures (shown k)) c.before.find_largest.ensures.0 ∙ reply_accepted (accepted c.before.before.before) _
+returns-2 : tie.Need-returns
+returns-2 c = ap (λ (k : Candidate). figures (shown k)) c.find_largest-found.ensures.0 ∙ reply_accepted (accepted c.before.before.before) _
 
 pub largest_cell_spec : {M : Type 1} → statement M
 largest_cell_spec =

@@ -10,18 +10,16 @@ use borrow.Author.Rules.{rules}
 use Rattle.differential.proofs.largest_cells.Statement.{statement}
 use Rattle.differential.proofs.largest_cells.Tie as tie
 
-returns : tie.Need-returns
+returns : tie.Need-returns-in-Refused
 unfolding list_checks
 returns c =
-    let p = c.before.before.before in
-    let a = p.before.before.before.args in
-    wrote_refused (first_refused (box_checks a.n a.m a.rows.now) _ (sym p.check_box.ensures ∙ c.before.e.given.1))
+    let a = c.args in
+    wrote_refused (first_refused (box_checks a.n a.m a.rows.now) _ (sym c.check_box.ensures ∙ c.in-Refused.is))
 
-list_with_requires : tie.Need-list-with-requires
+list_with_requires : tie.Need-list_with-requires
 list_with_requires c κs =
-    let told = c.before.before.before in
-    let a = c.before.before.before.before.before.before.before.before.args in
-    (box a.n a.m a.rows.now [] (sym told.before.before.check_box.ensures ∙ told.enum_told.given.1), refl, refl)
+    let a = c.args in
+    (box a.n a.m a.rows.now [] (sym c.check_box.ensures ∙ c.in_default.is), refl, refl)
 
 pub largest_cells_spec : {M : Type 1} → statement M
 largest_cells_spec =

@@ -14,75 +14,64 @@ use Rattle.differential.proofs.Buckets.{buckets_free}
 use Rattle.differential.proofs.sweep_cells.Statement.{statement}
 use Rattle.differential.proofs.sweep_cells.Tie as tie
 
-abbrev invariant-loop : tie.invariant-loop
-invariant-loop n m rows pairs₀ buckets₀ inputs found₀ a₀ pairs buckets found a = Sweeping n m rows (cell_found found₀) (cell_found found) pairs a × FreeFrom a buckets
+abbrev invariant-loop-a : tie.invariant-loop-a
+invariant-loop-a n m rows pairs₀ buckets₀ inputs found₀ a₀ pairs buckets found a = Sweeping n m rows (cell_found found₀) (cell_found found) pairs a × FreeFrom a buckets
 
-abbrev decreases-loop : tie.decreases-loop
-decreases-loop n m rows pairs₀ buckets₀ inputs found₀ a₀ pairs buckets found a = inputs - a
+abbrev decreases-loop-a : tie.decreases-loop-a
+decreases-loop-a n m rows pairs₀ buckets₀ inputs found₀ a₀ pairs buckets found a = inputs - a
 
-power_of_two_requires : tie.Need-power-of-two-requires invariant-loop decreases-loop
-power_of_two_requires c κs = le_trans c.before.before.before.requires.0.n_high (lit≤ tt)
+power_of_two_requires : tie.Need-power_of_two-inputs-requires invariant-loop-a decreases-loop-a
+power_of_two_requires c κs = le_trans c.requires.0.n_high (lit≤ tt)
 
-loop-holds : tie.Need-loop-init invariant-loop decreases-loop
-loop-holds c = let start = c.before.before.before.before in (sweep_starts start.requires.0 start.requires.1, start.requires.2)
+loop-holds : tie.Need-loop-a-init invariant-loop-a decreases-loop-a
+loop-holds c = (sweep_starts c.requires.0 c.requires.1, c.requires.2)
 
-write_pairs_requires : tie.Need-write-pairs-requires invariant-loop decreases-loop
+write_pairs_requires : tie.Need-write_pairs-requires invariant-loop-a decreases-loop-a
 write_pairs_requires c κs =
-    let at_loop = c.before.before in
-    let sweep = at_loop.loop.invariant.0 in
-    (box_inside sweep.box (omega (arith, c.before.loop-test.true, at_loop.before.power_of_two.ensures.0)), sweep.a_low, sweep.room)
+    let sweep = c.loop-a.invariant.0 in
+    (box_inside sweep.box (omega (arith, c.loop-a-test.true, c.power_of_two-inputs.ensures.0)), sweep.a_low, sweep.room)
 
-largest_risen_requires : tie.Need-largest-risen-requires invariant-loop decreases-loop
+largest_risen_requires : tie.Need-largest_risen-best-requires invariant-loop-a decreases-loop-a
 largest_risen_requires c κs =
-    let written = c.before.before.before.before in
-    let in_loop = written.before.before in
-    let at_loop = in_loop.before in
-    let sweep = at_loop.loop.invariant.0 in (
-      omega (arith, in_loop.loop-test.true, at_loop.before.power_of_two.ensures.0, sweep.box.small, sweep.box.size),
-      pairs_few sweep.box written.write_pairs.ensures,
-      at_loop.loop.invariant.1,
+    let sweep = c.loop-a.invariant.0 in (
+      omega (arith, c.loop-a-test.true, c.power_of_two-inputs.ensures.0, sweep.box.small, sweep.box.size),
+      pairs_few sweep.box c.write_pairs.ensures,
+      c.loop-a.invariant.1,
     )
 
 -- the row's largest count is that of some of its pairs
-few : (c : tie.After-largest-risen invariant-loop decreases-loop) → c.largest_risen.result / 4294967296 ≤ 128
+few : (c : tie.After-largest_risen-best invariant-loop-a decreases-loop-a) → c.largest_risen-best.result / 4294967296 ≤ 128
 few c =
-    let written = c.before.before.before.before.before in
-    let sweep = written.before.before.before.loop.invariant.0 in
-    omega (arith, largest_few c.largest_risen.ensures.0, pairs_few sweep.box written.write_pairs.ensures)
+    let sweep = c.loop-a.invariant.0 in
+    omega (arith, largest_few c.largest_risen-best.ensures.0, pairs_few sweep.box c.write_pairs.ensures)
 
-after_row_requires : tie.Need-after-row-requires invariant-loop decreases-loop
+after_row_requires : tie.Need-after_row-found-requires invariant-loop-a decreases-loop-a
 after_row_requires c κs = few c.before.before
 
-loop-again : tie.Need-loop-preserved invariant-loop decreases-loop
+loop-again : tie.Need-loop-a-preserved invariant-loop-a decreases-loop-a
 loop-again c =
-    let row = c.before.before.before in
-    let written = row.before.before.before.before.before in
-    let in_loop = written.before.before in
-    let at_loop = in_loop.before in
-    let sweep = at_loop.loop.invariant.0 in (
-      sweep_next sweep (omega (arith, in_loop.loop-test.true, at_loop.before.power_of_two.ensures.0)) written.write_pairs.ensures
-          (rw c.after_row.ensures (row_after row.largest_risen.ensures.0 at_loop.loop.a (cell_found at_loop.loop.found))),
-      buckets_free row.largest_risen.ensures.2 (pairs_few sweep.box written.write_pairs.ensures),
+    let sweep = c.loop-a.invariant.0 in (
+      sweep_next sweep (omega (arith, c.loop-a-test.true, c.power_of_two-inputs.ensures.0)) c.write_pairs.ensures
+          (rw c.after_row-found.ensures (row_after c.largest_risen-best.ensures.0 c.loop-a.a (cell_found c.loop-a.found))),
+      buckets_free c.largest_risen-best.ensures.2 (pairs_few sweep.box c.write_pairs.ensures),
     )
 
-same_length : tie.Need-same-length invariant-loop decreases-loop
+same_length : tie.Need-shape_of-pairs invariant-loop-a decreases-loop-a
 same_length c =
-    let start = c.before.before.before.before.before.before in
-    let same : length c.before.loop.pairs ≡ length start.args.pairs.now = omega (arith, c.before.loop.invariant.0.room, start.requires.1) in
+    let same : length c.loop-a.pairs ≡ length c.args.pairs.now = omega (arith, c.loop-a.invariant.0.room, c.requires.1) in
     same
 
-same_length_2 : tie.Need-same-length-2 invariant-loop decreases-loop
-same_length_2 c = c.before.loop.invariant.1.size ∙ sym c.before.before.before.before.before.before.requires.2.size
+same_length_2 : tie.Need-shape_of-buckets invariant-loop-a decreases-loop-a
+same_length_2 c = c.loop-a.invariant.1.size ∙ sym c.requires.2.size
 
-returns : tie.Need-returns invariant-loop decreases-loop
+returns : tie.Need-returns invariant-loop-a decreases-loop-a
 returns c =
-    let at_loop = c.before in
-    let end : 2 ^ at_loop.before.before.before.before.before.args.n ≤ at_loop.loop.a = omega (arith, c.loop-test.false, at_loop.before.power_of_two.ensures.0) in
-    let sweep = at_loop.loop.invariant.0 in
+    let end : 2 ^ c.args.n ≤ c.loop-a.a = omega (arith, c.loop-a-test.false, c.power_of_two-inputs.ensures.0) in
+    let sweep = c.loop-a.invariant.0 in
     (sweep_ends sweep end refl, sweep_last sweep end, same_length_2 c)
 
 pub sweep_cells_spec : {M : Type 1} → statement M
 sweep_cells_spec =
     tie.close
-    (tie.spec invariant-loop decreases-loop power_of_two_requires (λ c. search rules) loop-holds write_pairs_requires largest_risen_requires
+    (tie.spec invariant-loop-a decreases-loop-a power_of_two_requires (λ c. search rules) loop-holds write_pairs_requires largest_risen_requires
     after_row_requires (λ c. search rules) (λ c. search rules) loop-again same_length same_length_2 returns)

@@ -7,29 +7,22 @@ use Rattle.differential.proofs.Tallies.{differences_ready, row_is}
 use Rattle.differential.proofs.write_row.Statement.{statement}
 use Rattle.differential.proofs.write_row.Tie as tie
 
-write_differences_requires : tie.Need-write-differences-requires
+write_differences_requires : tie.Need-write_differences-requires
 write_differences_requires c κs =
-    let pre = c.before.before.before.before.requires in
+    let pre = c.requires in
     (box_inside pre.0.box pre.1, pre.0.size ∙ sym pre.0.box.size)
 
-count_values_requires : tie.Need-count-values-requires
+count_values_requires : tie.Need-count_values-requires
 count_values_requires c κs =
-    let cleared = c.before.before.before.before in
-    let written = cleared.before.before.before.before in
-    let start = written.before.before.before.before.before in
-    let box = start.requires.0.box in
-    let values = differences_ready box start.args.a written.write_differences.ensures in
-    tally_ready _ start.requires.2 cleared.clear.ensures values.0 values.1
+    let box = c.requires.0.box in
+    let values = differences_ready box c.args.a c.write_differences.ensures in
+    tally_ready _ c.requires.2 c.clear.ensures values.0 values.1
 
 returns : tie.Need-returns
 returns c =
-    let counted = c.before.before in
-    let cleared = counted.before.before.before.before.before in
-    let written = cleared.before.before.before.before in
-    let start = written.before.before.before.before.before in
-    let box = start.requires.0.box in
-    let values = written.write_differences.ensures in (
-      row_is box start.args.a (cleared_length _ start.requires.2 cleared.clear.ensures) values counted.count_values.ensures,
+    let box = c.requires.0.box in
+    let values = c.write_differences.ensures in (
+      row_is box c.args.a (cleared_length _ c.requires.2 c.clear.ensures) values c.count_values.ensures,
       values,
     )
 

@@ -18,8 +18,8 @@ use Rattle.differential.specs.Calls.{row_checks}
 use Rattle.differential.proofs.xor_row.Statement.{statement}
 use Rattle.differential.proofs.xor_row.Tie as tie
 
-returns : tie.Need-returns
-returns c = wrote_refused (sym c.before.before.before.check_row.ensures ∙ c.before.e.given.1)
+returns : tie.Need-returns-in-Refused
+returns c = wrote_refused (sym c.check_row.ensures ∙ c.in-Refused.is)
 
 -- accepted: a box, an input difference, and an array that is as long as a row
 module _ (n m : ℕ) (rows : List ℕ) (a room : ℕ) (h : first (row_checks n m rows a room) ≡ Accepted) where
@@ -37,35 +37,33 @@ module _ (n m : ℕ) (rows : List ℕ) (a room : ℕ) (h : first (row_checks n m
   unfolding row_checks
   the_room = eqb-true room (2 ^ m) (passed _ (accepted_after (box_checks_up_to 16 n m rows) _ h)).1.0
 
-accepted : (c : tie.After-enum-told) →
-    let a = c.before.before.before.before.before.args in
+accepted : (c : tie.In_default) →
+    let a = c.args in
     first (row_checks a.n a.m a.rows.now a.a (length a.counts.now)) ≡ Accepted
-accepted c = sym c.before.before.check_row.ensures ∙ c.enum_told.given.1
+accepted c = sym c.check_row.ensures ∙ c.in_default.is
 
-box_of : (c : tie.After-enum-told) →
-    let a = c.before.before.before.before.before.args in
+box_of : (c : tie.In_default) →
+    let a = c.args in
     Box a.n a.m a.rows.now
 box_of c = the_box _ _ _ _ _ (accepted c)
 
-array_borrow_prefix_differences : tie.Need-array-borrow-prefix-differences
+array_borrow_prefix_differences : tie.Need-slice_bounds-differences-end
 array_borrow_prefix_differences c = (box_of c).small
 
-slice_aggregate_write_row : tie.Need-slice-aggregate-write-row
+slice_aggregate_write_row : tie.Need-slice_bounds-write_row-end
 slice_aggregate_write_row c = sym (length-take-le _ _ (box_of c.before).small)
 
-write_row_requires : tie.Need-write-row-requires
+write_row_requires : tie.Need-write_row-requires
 write_row_requires c κs =
-    let told = c.before.before in
-    let b = box_of told in (
+    let b = box_of c.before.before in (
       record { box = b; size = length-take-le _ _ b.small ∙ b.size },
-      the_difference _ _ _ _ _ (accepted told),
-      the_room _ _ _ _ _ (accepted told),
+      the_difference _ _ _ _ _ (accepted c.before.before),
+      the_room _ _ _ _ _ (accepted c.before.before),
     )
 
-returns-2 : tie.Need-returns-2
+returns-2 : tie.Need-returns
 returns-2 c =
-    let p = c.before.before.before in
-    wrote_accepted (accepted p.before.before.before) p.write_row.ensures.0
+    wrote_accepted (accepted c.before.before.before.before.before.before) c.write_row.ensures.0
 
 pub xor_row_spec : {M : Type 1} → statement M
 xor_row_spec =

@@ -10,30 +10,27 @@ use Rattle.masks.proofs.check_part.Statement.{statement}
 use Rattle.masks.proofs.check_part.Tie as tie
 
 -- the two tests, by the power that was computed
-low_test : (c : tie.After-in-range) → let a = c.before.before.args in c.in_range.result ≡ in_range 1 (2 ^ a.m - 1) a.low
-low_test c = let p = c.before in c.in_range.ensures ∙ ap (λ (k : ℕ). in_range 1 (k - 1) p.before.args.low) p.power_of_two.ensures.0
+low_test : (c : tie.After-in_range) → let a = c.args in c.in_range.result ≡ in_range 1 (2 ^ a.m - 1) a.low
+low_test c = c.in_range.ensures ∙ ap (λ (k : ℕ). in_range 1 (k - 1) c.args.low) c.power_of_two.ensures.0
 
-high_test : (c : tie.After-in-range2) → let a = c.before.before.before.before.args in c.in_range2.result ≡ in_range a.low (2 ^ a.m - 1) a.high
+high_test : (c : tie.After-in_range-2) → let a = c.args in c.in_range-2.result ≡ in_range a.low (2 ^ a.m - 1) a.high
 high_test c =
-    let p = c.before.before.before in
-    let a = p.before.args in
-    c.in_range2.ensures ∙ ap (λ (k : ℕ). in_range a.low (k - 1) a.high) p.power_of_two.ensures.0
+    let a = c.args in
+    c.in_range-2.ensures ∙ ap (λ (k : ℕ). in_range a.low (k - 1) a.high) c.power_of_two.ensures.0
 
-sub_largest : tie.Need-overflow-sub-largest
-sub_largest c = omega (arith, c.power_of_two.ensures.0, pow_pos c.before.args.m)
+sub_largest : tie.Need-overflow_sub-largest
+sub_largest c = omega (arith, c.power_of_two.ensures.0, pow_pos c.args.m)
 
-returns : tie.Need-returns
-returns c = found (stop (fails (low_test c.before) c.if1.true))
+returns : tie.Need-returns-then-not-in_range
+returns c = found (stop (fails (low_test c.before) c.if-not-in_range.true-raw))
 
-returns-2 : tie.Need-returns-2
+returns-2 : tie.Need-returns-then-not-in_range-2
 returns-2 c =
-    let else = c.before.before in
-    found (skip (holds (low_test else.before) else.if1.false) (stop (fails (high_test c.before) c.if2.true)))
+    found (skip (holds (low_test c.before.before.before) c.if-not-in_range.false-raw) (stop (fails (high_test c.before) c.if-not-in_range-2.true-raw)))
 
-returns-3 : tie.Need-returns-3
+returns-3 : tie.Need-returns
 returns-3 c =
-    let else = c.before.before in
-    found (skip (holds (low_test else.before) else.if1.false) (skip (holds (high_test c.before) c.if2.false) end))
+    found (skip (holds (low_test c.before.before.before) c.if-not-in_range.false-raw) (skip (holds (high_test c.before) c.if-not-in_range-2.false-raw) end))
 
 pub check_part_spec : {M : Type 1} → statement M
 check_part_spec =

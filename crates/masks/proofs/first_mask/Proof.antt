@@ -6,28 +6,28 @@ use Rattle.masks.proofs.FirstMask.{Searched, search_starts, search_below, search
 use Rattle.masks.proofs.first_mask.Statement.{statement}
 use Rattle.masks.proofs.first_mask.Tie as tie
 
-abbrev invariant-loop : tie.invariant-loop
-invariant-loop limit c r₀ r = Searched limit c r
+abbrev invariant-loop-r : tie.invariant-loop-r
+invariant-loop-r limit c r₀ r = Searched limit c r
 
-abbrev decreases-loop : tie.decreases-loop
-decreases-loop limit c r₀ r = 4294967296 - r
+abbrev decreases-loop-r : tie.decreases-loop-r
+decreases-loop-r limit c r₀ r = 4294967296 - r
 
-loop-holds : tie.Need-loop-init invariant-loop decreases-loop
+loop-holds : tie.Need-loop-r-init invariant-loop-r decreases-loop-r
 loop-holds c = search_starts c.args.limit c.args.c c.requires.0 c.requires.1
 
-next_mask_requires : tie.Need-next-mask-requires invariant-loop decreases-loop
-next_mask_requires c κs = (omega arith, search_below c.before.loop.invariant c.loop-test.true, le_refl _)
+next_mask_requires : tie.Need-next_mask-r-requires invariant-loop-r decreases-loop-r
+next_mask_requires c κs = (omega arith, search_below c.loop-r.invariant c.loop-r-test.true, le_refl _)
 
-loop_less : tie.Need-loop-smaller invariant-loop decreases-loop
+loop_less : tie.Need-loop-r-smaller invariant-loop-r decreases-loop-r
 loop_less c =
-    omega (arith, c.next_mask.ensures.0.above, search_below c.before.before.loop.invariant c.before.loop-test.true)
+    omega (arith, c.next_mask-r.ensures.0.above, search_below c.loop-r.invariant c.loop-r-test.true)
 
-loop-again : tie.Need-loop-preserved invariant-loop decreases-loop
-loop-again c = search_next c.before.before.loop.invariant c.before.loop-test.true c.next_mask.ensures.0
+loop-again : tie.Need-loop-r-preserved invariant-loop-r decreases-loop-r
+loop-again c = search_next c.loop-r.invariant c.loop-r-test.true c.next_mask-r.ensures.0
 
-returns : tie.Need-returns invariant-loop decreases-loop
-returns c = search_ends c.before.loop.invariant c.loop-test.false
+returns : tie.Need-returns invariant-loop-r decreases-loop-r
+returns c = search_ends c.loop-r.invariant c.loop-r-test.false
 
 pub first_mask_spec : {M : Type 1} → statement M
 first_mask_spec =
-    tie.close (tie.spec invariant-loop decreases-loop loop-holds next_mask_requires loop_less loop-again returns)
+    tie.close (tie.spec invariant-loop-r decreases-loop-r loop-holds next_mask_requires loop_less loop-again returns)

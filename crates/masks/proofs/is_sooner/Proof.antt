@@ -4,31 +4,31 @@ use native.Mathlib.Omega.{arith}
 use Rattle.masks.proofs.is_sooner.Statement.{statement}
 use Rattle.masks.proofs.is_sooner.Tie as tie
 
-returns : tie.Need-returns
-returns c = simp (lt-ltb _ _ c.if1.true)
+returns : tie.Need-returns-then-low-high
+returns c = simp (lt-ltb _ _ c.if-low-high.true)
 
-returns-2 : tie.Need-returns-2
-returns-2 c = simp (le-ltb _ _ c.before.if1.false, ne_eqb _ _ c.if2.true)
+returns-2 : tie.Need-returns-then-low-high-2
+returns-2 c = simp (le-ltb _ _ c.if-low-high.false, ne_eqb _ _ c.if-low-high-2.true)
 
-returns-3 : tie.Need-returns-3
-returns-3 c = simp (le-ltb _ _ c.before.before.if1.false, eq-eqb _ _ c.before.if2.false, lt-ltb _ _ c.if3.true)
+returns-3 : tie.Need-returns-then-ones-fewest
+returns-3 c = simp (le-ltb _ _ c.if-low-high.false, eq-eqb _ _ c.if-low-high-2.false, lt-ltb _ _ c.if-ones-fewest.true)
 
-returns-4 : tie.Need-returns-4
+returns-4 : tie.Need-returns-then-ones-fewest-2
 returns-4 c =
     simp (
-      le-ltb _ _ c.before.before.before.if1.false,
-      eq-eqb _ _ c.before.before.if2.false,
-      le-ltb _ _ c.before.if3.false,
-      ne_eqb _ _ c.if4.true,
+      le-ltb _ _ c.if-low-high.false,
+      eq-eqb _ _ c.if-low-high-2.false,
+      le-ltb _ _ c.if-ones-fewest.false,
+      ne_eqb _ _ c.if-ones-fewest-2.true,
     )
 
-returns-5 : tie.Need-returns-5
+returns-5 : tie.Need-returns
 returns-5 c =
     simp (
-      le-ltb _ _ c.before.before.before.if1.false,
-      eq-eqb _ _ c.before.before.if2.false,
-      le-ltb _ _ c.before.if3.false,
-      eq-eqb _ _ c.if4.false,
+      le-ltb _ _ c.if-low-high.false,
+      eq-eqb _ _ c.if-low-high-2.false,
+      le-ltb _ _ c.if-ones-fewest.false,
+      eq-eqb _ _ c.if-ones-fewest-2.false,
     )
 
 pub is_sooner_spec : {M : Type 1} → statement M

@@ -14,38 +14,37 @@ use Rattle.packing.proofs.check_pack.Statement.{statement}
 use Rattle.packing.proofs.check_pack.Tie as tie
 
 -- the lines of a box's table, where they were passed
-ok_box : (c : tie.After-enum-told) → let a = c.before.before.before.before.args in first (box_checks a.n a.m a.rows.now) ≡ Accepted
-ok_box c = sym c.before.before.check_box.ensures ∙ c.enum_told.given.1
+ok_box : (c : tie.In_default) → let a = c.args in first (box_checks a.n a.m a.rows.now) ≡ Accepted
+ok_box c = sym c.check_box.ensures ∙ c.in_default.is
 
-boxed : (c : tie.After-enum-told) → let a = c.before.before.before.before.args in Box a.n a.m a.rows.now
-boxed c = let a = c.before.before.before.before.args in box a.n a.m a.rows.now [] (ok_box c)
+boxed : (c : tie.In_default) → let a = c.args in Box a.n a.m a.rows.now
+boxed c = let a = c.args in box a.n a.m a.rows.now [] (ok_box c)
 
-returns : tie.Need-returns
+returns : tie.Need-returns-in-Refused
 unfolding pack_checks
 returns c =
-    let p = c.before.before.before in
-    let a = p.before.before.args in
-    found_before (box_checks a.n a.m a.rows.now) _ (sym p.check_box.ensures ∙ c.before.e.given.1)
+    let a = c.args in
+    found_before (box_checks a.n a.m a.rows.now) _ (sym c.check_box.ensures ∙ c.in-Refused.is)
 
-column_bytes_requires : tie.Need-column-bytes-requires
+column_bytes_requires : tie.Need-column_bytes-requires
 column_bytes_requires c κs = (boxed c).n_high
 
-mul_if1 : tie.Need-overflow-mul-if1
+mul_if1 : tie.Need-overflow_mul-m
 mul_if1 c =
-    let a = c.before.before.before.before.before.args in
+    let a = c.args in
     omega (arith, bytes_most a.n a.m c.column_bytes.result c.column_bytes.ensures.2 (boxed c.before).m_high)
 
-returns-2 : tie.Need-returns-2
+returns-2 : tie.Need-returns-then-room-m
 unfolding pack_checks
 returns-2 c =
-    let a = c.before.before.before.before.before.before.args in
-    found_after _ (ok_box c.before.before) (stop (differs (ap (λ (k : ℕ). a.m * k) c.before.column_bytes.ensures.0) c.if1.true))
+    let a = c.args in
+    found_after _ (ok_box c.before.before) (stop (differs (ap (λ (k : ℕ). a.m * k) c.column_bytes.ensures.0) c.if-room-m.true))
 
-returns-3 : tie.Need-returns-3
+returns-3 : tie.Need-returns
 unfolding pack_checks
 returns-3 c =
-    let a = c.before.before.before.before.before.before.args in
-    found_after _ (ok_box c.before.before) (skip (equals (ap (λ (k : ℕ). a.m * k) c.before.column_bytes.ensures.0) c.if1.false) end)
+    let a = c.args in
+    found_after _ (ok_box c.before.before) (skip (equals (ap (λ (k : ℕ). a.m * k) c.column_bytes.ensures.0) c.if-room-m.false) end)
 
 pub check_pack_spec : {M : Type 1} → statement M
 check_pack_spec =

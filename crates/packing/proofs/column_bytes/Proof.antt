@@ -9,9 +9,8 @@ use Rattle.packing.proofs.column_bytes.Tie as tie
 
 returns : tie.Need-returns
 returns c =
-    let start = c.before.before in
-    let e = c.power_of_two.ensures.0 ∙ c.before.doublings.ensures.0 in
-    (e, omega (arith, e, bytes_low start.args.n), omega (arith, e, bytes_high start.args.n start.requires))
+    let e = c.power_of_two.ensures.0 ∙ c.doublings.ensures.0 in
+    (e, omega (arith, e, bytes_low c.args.n), omega (arith, e, bytes_high c.args.n c.requires))
 
 pub column_bytes_spec : {M : Type 1} → statement M
 column_bytes_spec = tie.close (tie.spec (λ c κs. search rules) (λ c κs. search rules) returns)

@@ -11,44 +11,37 @@ use Rattle.packing.proofs.Places.{next_column, columns_before}
 use Rattle.packing.proofs.gather_words.Statement.{statement}
 use Rattle.packing.proofs.gather_words.Tie as tie
 
-abbrev invariant-loop : tie.invariant-loop
-invariant-loop rows size words₀ i₀ words i = (i ≤ 8) × (length words ≡ 256) × ((q : ℕ) → q < i * size → at words q ≡ bits_gathered rows (8 * (q % size)) 1 (q / size))
+abbrev invariant-loop-i : tie.invariant-loop-i
+invariant-loop-i rows size words₀ i₀ words i = (i ≤ 8) × (length words ≡ 256) × ((q : ℕ) → q < i * size → at words q ≡ bits_gathered rows (8 * (q % size)) 1 (q / size))
 
-abbrev decreases-loop : tie.decreases-loop
-decreases-loop rows size words₀ i₀ words i = 8 - i
+abbrev decreases-loop-i : tie.decreases-loop-i
+decreases-loop-i rows size words₀ i₀ words i = 8 - i
 
-loop-holds : tie.Need-loop-init invariant-loop decreases-loop
-loop-holds c = (omega arith, c.before.before.requires.3, λ q h. absurd (omega arith))
+loop-holds : tie.Need-loop-i-init invariant-loop-i decreases-loop-i
+loop-holds c = (omega arith, c.requires.3, λ q h. absurd (omega arith))
 
-gather_group_requires : tie.Need-gather-group-requires invariant-loop decreases-loop
+gather_group_requires : tie.Need-gather_group-requires invariant-loop-i decreases-loop-i
 gather_group_requires c κs =
-    let l = c.before.before in
-    let s = l.before.before.before in
-    (c.before.loop-test.true, s.requires.0, s.requires.1, s.requires.2, l.loop.invariant.1, l.loop.invariant.2)
+    (c.loop-i-test.true, c.requires.0, c.requires.1, c.requires.2, c.loop-i.invariant.1, c.loop-i.invariant.2)
 
-add_i : tie.Need-overflow-add-i invariant-loop decreases-loop
+add_i : tie.Need-overflow_add-i invariant-loop-i decreases-loop-i
 add_i c = omega arith
 
-loop_less : tie.Need-loop-smaller invariant-loop decreases-loop
+loop_less : tie.Need-loop-i-smaller invariant-loop-i decreases-loop-i
 loop_less c = omega arith
 
-loop-again : tie.Need-loop-preserved invariant-loop decreases-loop
+loop-again : tie.Need-loop-i-preserved invariant-loop-i decreases-loop-i
 loop-again c =
-    let done = c.before.before in
-    let l = done.before.before.before in
-    let s = l.before.before.before in
-    (omega arith, omega (arith, l.loop.invariant.1), λ q h. done.gather_group.ensures q (omega (arith, next_column l.loop.i s.args.size)))
+    (omega arith, omega (arith, c.loop-i.invariant.1), λ q h. c.gather_group.ensures q (omega (arith, next_column c.loop-i.i c.args.size)))
 
-same_length : tie.Need-same-length invariant-loop decreases-loop
-same_length c = c.before.loop.invariant.1 ∙ sym c.before.before.before.before.requires.3
+same_length : tie.Need-shape_of-words invariant-loop-i decreases-loop-i
+same_length c = c.loop-i.invariant.1 ∙ sym c.requires.3
 
-returns : tie.Need-returns invariant-loop decreases-loop
+returns : tie.Need-returns invariant-loop-i decreases-loop-i
 returns c =
-    let l = c.before in
-    let s = l.before.before.before in
-    λ q h. l.loop.invariant.2 q (omega (arith, columns_before 8 l.loop.i s.args.size c.loop-test.false))
+    λ q h. c.loop-i.invariant.2 q (omega (arith, columns_before 8 c.loop-i.i c.args.size c.loop-i-test.false))
 
 pub gather_words_spec : {M : Type 1} → statement M
 gather_words_spec =
     tie.close
-    (tie.spec invariant-loop decreases-loop loop-holds gather_group_requires add_i loop_less loop-again same_length returns)
+    (tie.spec invariant-loop-i decreases-loop-i loop-holds gather_group_requires add_i loop_less loop-again same_length returns)

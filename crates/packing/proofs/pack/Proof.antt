@@ -12,25 +12,23 @@ use Rattle.packing.proofs.pack.Statement.{statement}
 use Rattle.packing.proofs.pack.Tie as tie
 
 -- past the `if` the checks found nothing
-accepted : (c : tie.After-enum-told) →
-    let a = c.before.before.before.before.before.args in
+accepted : (c : tie.In_default) →
+    let a = c.args in
     first (pack_checks a.n a.m a.rows.now (length a.out.now)) ≡ Accepted
-accepted c = sym c.before.before.check_pack.ensures ∙ c.enum_told.given.1
+accepted c = sym c.check_pack.ensures ∙ c.in_default.is
 
-returns : tie.Need-returns
-returns c = wrote_refused (sym c.before.before.before.check_pack.ensures ∙ c.before.e.given.1)
+returns : tie.Need-returns-in-Refused
+returns c = wrote_refused (sym c.check_pack.ensures ∙ c.in-Refused.is)
 
-pack_rows_requires : tie.Need-pack-rows-requires
+pack_rows_requires : tie.Need-pack_rows-requires
 pack_rows_requires c κs =
-    let told = c.before.before.before in
-    let a = told.before.before.before.before.before.args in
-    let h = accepted told in
+    let a = c.args in
+    let h = accepted c.before.before.before in
     (pack_box a.n a.m a.rows.now _ h, cleared 256, refl, pack_room a.n a.m a.rows.now _ h)
 
-returns-2 : tie.Need-returns-2
+returns-2 : tie.Need-returns
 returns-2 c =
-    let wrote = c.before.before.before.before in
-    wrote_accepted (accepted wrote.before.before.before.before) wrote.pack_rows.ensures.0
+    wrote_accepted (accepted c.before.before.before.before.before.before.before.before) c.pack_rows.ensures.0
 
 pub pack_spec : {M : Type 1} → statement M
 pack_spec =

@@ -10,26 +10,20 @@ use Rattle.packing.proofs.Laws.{packed_from_words}
 use Rattle.packing.proofs.pack_rows.Statement.{statement}
 use Rattle.packing.proofs.pack_rows.Tie as tie
 
-write_columns_requires : tie.Need-write-columns-requires
+write_columns_requires : tie.Need-write_columns-requires
 write_columns_requires c κs =
-    let size = c.before.before.before.before.before.before.before.before.before.before.before.column_bytes in
-    let s = c.before.before.before.before.before.before.before.before.before.before.before.before.before.before.before.before in
-    (s.requires.0.m_high, size.ensures.1, size.ensures.2, search rules, s.requires.3 ∙ ap (λ (k : ℕ). s.args.m * k) (sym size.ensures.0))
+    let size = c.column_bytes-size in
+    (c.requires.0.m_high, size.ensures.1, size.ensures.2, search rules, c.requires.3 ∙ ap (λ (k : ℕ). c.args.m * k) (sym size.ensures.0))
 
 returns : tie.Need-returns
 returns c =
-    let wrote = c.before.before in
-    let gave = wrote.before.before.before.before.before in
-    let pad = gave.before.before.before.before.before in
-    let sized = pad.before.before in
-    let s = sized.before.before.before.before.before in
-    let a = s.args in
-    let words = gave.gather_words.new.1.1.0 in
-    let padded = pad.pad_rows.new.1.0 in
-    let held : GatheredWords padded (column_bytes a.n) words = subst (λ (k : ℕ). GatheredWords padded k words) sized.column_bytes.ensures.0 gave.gather_words.ensures in (
-      wrote.write_columns.ensures ∙ ap (λ (k : ℕ). list_below (a.m * k) (word_byte words k)) sized.column_bytes.ensures.0
-          ∙ packed_from_words a.n a.m a.rows.now padded words s.requires.0.m_high pad.pad_rows.ensures held,
-      pad.pad_rows.ensures,
+    let a = c.args in
+    let words = c.gather_words.new.words in
+    let padded = c.pad_rows.new.padded in
+    let held : GatheredWords padded (column_bytes a.n) words = subst (λ (k : ℕ). GatheredWords padded k words) c.column_bytes-size.ensures.0 c.gather_words.ensures in (
+      c.write_columns.ensures ∙ ap (λ (k : ℕ). list_below (a.m * k) (word_byte words k)) c.column_bytes-size.ensures.0
+          ∙ packed_from_words a.n a.m a.rows.now padded words c.requires.0.m_high c.pad_rows.ensures held,
+      c.pad_rows.ensures,
       held,
     )
 

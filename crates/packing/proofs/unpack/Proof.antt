@@ -12,25 +12,23 @@ use Rattle.packing.proofs.unpack.Statement.{statement}
 use Rattle.packing.proofs.unpack.Tie as tie
 
 -- past the `if` the checks found nothing
-accepted : (c : tie.After-enum-told) →
-    let a = c.before.before.before.before.before.args in
+accepted : (c : tie.In_default) →
+    let a = c.args in
     first (unpack_checks a.n a.m a.packed.now (length a.out.now)) ≡ Accepted
-accepted c = sym c.before.before.check_unpack.ensures ∙ c.enum_told.given.1
+accepted c = sym c.check_unpack.ensures ∙ c.in_default.is
 
-returns : tie.Need-returns
-returns c = wrote_refused (sym c.before.before.before.check_unpack.ensures ∙ c.before.e.given.1)
+returns : tie.Need-returns-in-Refused
+returns c = wrote_refused (sym c.check_unpack.ensures ∙ c.in-Refused.is)
 
-unpack_bytes_requires : tie.Need-unpack-bytes-requires
+unpack_bytes_requires : tie.Need-unpack_bytes-requires
 unpack_bytes_requires c κs =
-    let told = c.before.before.before in
-    let a = told.before.before.before.before.before.args in
-    let h = accepted told in
+    let a = c.args in
+    let h = accepted c.before.before.before in
     (unpack_columns a.n a.m a.packed.now _ h, cleared 1024, refl, unpack_room a.n a.m a.packed.now _ h)
 
-returns-2 : tie.Need-returns-2
+returns-2 : tie.Need-returns
 returns-2 c =
-    let wrote = c.before.before.before.before in
-    wrote_accepted (accepted wrote.before.before.before.before) wrote.unpack_bytes.ensures.0
+    wrote_accepted (accepted c.before.before.before.before.before.before.before.before) c.unpack_bytes.ensures.0
 
 pub unpack_spec : {M : Type 1} → statement M
 unpack_spec =

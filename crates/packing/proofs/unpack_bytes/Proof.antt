@@ -13,33 +13,26 @@ use Rattle.packing.proofs.Laws.{unpacked_from_words}
 use Rattle.packing.proofs.unpack_bytes.Statement.{statement}
 use Rattle.packing.proofs.unpack_bytes.Tie as tie
 
-pad_bytes_requires : tie.Need-pad-bytes-requires
+pad_bytes_requires : tie.Need-pad_bytes-requires
 pad_bytes_requires c κs =
-    let s = c.before.before.before.before.before.before in
-    let k = s.requires.0 in
-    (omega (arith, k.size, s.requires.1.long, bytes_most s.args.n s.args.m (column_bytes s.args.n) (bytes_high s.args.n k.n_high) k.m_high), s.requires.1.none)
+    let k = c.requires.0 in
+    (omega (arith, k.size, c.requires.1.long, bytes_most c.args.n c.args.m (column_bytes c.args.n) (bytes_high c.args.n k.n_high) k.m_high), c.requires.1.none)
 
-write_rows_requires : tie.Need-write-rows-requires
+write_rows_requires : tie.Need-write_rows-requires
 write_rows_requires c κs =
-    let size = c.before.before.before.before.before.before.before.before.before.before.before.column_bytes in
-    let s = c.before.before.before.before.before.before.before.before.before.before.before.before.before.before.before.before in
-    (size.ensures.2, search rules, omega (arith, s.requires.3, size.ensures.0, bytes_hold s.args.n s.requires.0.n_high))
+    let size = c.column_bytes-size in
+    (size.ensures.2, search rules, omega (arith, c.requires.3, size.ensures.0, bytes_hold c.args.n c.requires.0.n_high))
 
 returns : tie.Need-returns
 returns c =
-    let wrote = c.before.before in
-    let joined = wrote.before.before.before.before.before in
-    let pad = joined.before.before.before.before.before in
-    let sized = pad.before.before in
-    let s = sized.before.before.before.before.before in
-    let a = s.args in
-    let words = joined.join_words.new.1.1.0 in
-    let padded = pad.pad_bytes.new.1.0 in
-    let held : BytesWords padded (column_bytes a.n) words = subst (λ (k : ℕ). BytesWords padded k words) sized.column_bytes.ensures.0 joined.join_words.ensures in (
-      wrote.write_rows.ensures
-          ∙ ap₂ (λ (k size : ℕ). list_below k (λ x. bits_gathered words (x / 8) size (x % 8))) s.requires.3 sized.column_bytes.ensures.0
-          ∙ unpacked_from_words a.n a.m a.bytes.now padded words s.requires.0 pad.pad_bytes.ensures held,
-      pad.pad_bytes.ensures,
+    let a = c.args in
+    let words = c.join_words.new.words in
+    let padded = c.pad_bytes.new.padded in
+    let held : BytesWords padded (column_bytes a.n) words = subst (λ (k : ℕ). BytesWords padded k words) c.column_bytes-size.ensures.0 c.join_words.ensures in (
+      c.write_rows.ensures
+          ∙ ap₂ (λ (k size : ℕ). list_below k (λ x. bits_gathered words (x / 8) size (x % 8))) c.requires.3 c.column_bytes-size.ensures.0
+          ∙ unpacked_from_words a.n a.m a.bytes.now padded words c.requires.0 c.pad_bytes.ensures held,
+      c.pad_bytes.ensures,
       held,
     )
 

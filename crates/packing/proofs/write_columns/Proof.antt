@@ -10,50 +10,43 @@ use Rattle.packing.proofs.Places.{next_column, columns_before, column_inside}
 use Rattle.packing.proofs.write_columns.Statement.{statement}
 use Rattle.packing.proofs.write_columns.Tie as tie
 
-abbrev invariant-loop : tie.invariant-loop
-invariant-loop words m size out₀ j₀ out j = (j ≤ m) × Filled 0 (word_byte words size) (m * size) (j * size) out
+abbrev invariant-loop-j : tie.invariant-loop-j
+invariant-loop-j words m size out₀ j₀ out j = (j ≤ m) × Filled 0 (word_byte words size) (m * size) (j * size) out
 
-abbrev decreases-loop : tie.decreases-loop
-decreases-loop words m size out₀ j₀ out j = m - j
+abbrev decreases-loop-j : tie.decreases-loop-j
+decreases-loop-j words m size out₀ j₀ out j = m - j
 
-loop-holds : tie.Need-loop-init invariant-loop decreases-loop
+loop-holds : tie.Need-loop-j-init invariant-loop-j decreases-loop-j
 loop-holds c =
-    let s = c.before.before in
-    (omega arith, record { within = omega arith; long = s.requires.4; done = λ p h. absurd (omega arith) })
+    (omega arith, record { within = omega arith; long = c.requires.4; done = λ p h. absurd (omega arith) })
 
-write_column_requires : tie.Need-write-column-requires invariant-loop decreases-loop
+write_column_requires : tie.Need-write_column-requires invariant-loop-j decreases-loop-j
 write_column_requires c κs =
-    let l = c.before.before in
-    let s = l.before.before.before in
-    let inside = column_inside l.loop.j s.args.m s.args.size c.before.loop-test.true in
-    (omega arith, s.requires.1, s.requires.2, s.requires.3, omega (arith, l.loop.invariant.1.long), l.loop.invariant.1.done)
+    let inside = column_inside c.loop-j.j c.args.m c.args.size c.loop-j-test.true in
+    (omega arith, c.requires.1, c.requires.2, c.requires.3, omega (arith, c.loop-j.invariant.1.long), c.loop-j.invariant.1.done)
 
-add_j : tie.Need-overflow-add-j invariant-loop decreases-loop
+add_j : tie.Need-overflow_add-j invariant-loop-j decreases-loop-j
 add_j c = omega arith
 
-loop_less : tie.Need-loop-smaller invariant-loop decreases-loop
+loop_less : tie.Need-loop-j-smaller invariant-loop-j decreases-loop-j
 loop_less c = omega arith
 
-loop-again : tie.Need-loop-preserved invariant-loop decreases-loop
+loop-again : tie.Need-loop-j-preserved invariant-loop-j decreases-loop-j
 loop-again c =
-    let done = c.before.before in
-    let l = done.before.before.before in
-    let s = l.before.before.before in
-    let next = next_column l.loop.j s.args.size in
-    let inside = column_inside l.loop.j s.args.m s.args.size done.before.before.loop-test.true in (
+    let next = next_column c.loop-j.j c.args.size in
+    let inside = column_inside c.loop-j.j c.args.m c.args.size c.loop-j-test.true in (
       omega arith,
-      record { within = omega arith; long = omega (arith, l.loop.invariant.1.long); done = λ p h. done.write_column.ensures p (omega arith) },
+      record { within = omega arith; long = omega (arith, c.loop-j.invariant.1.long); c.before.before = λ p h. c.write_column.ensures p (omega arith) },
     )
 
-same_length : tie.Need-same-length invariant-loop decreases-loop
-same_length c = c.before.loop.invariant.1.long ∙ sym c.before.before.before.before.requires.4
+same_length : tie.Need-shape_of-out invariant-loop-j decreases-loop-j
+same_length c = c.loop-j.invariant.1.long ∙ sym c.requires.4
 
-returns : tie.Need-returns invariant-loop decreases-loop
+returns : tie.Need-returns invariant-loop-j decreases-loop-j
 returns c =
-    let s = c.before.before.before.before in
-    filled_whole _ _ _ _ _ c.before.loop.invariant.1 (columns_before s.args.m c.before.loop.j s.args.size c.loop-test.false)
+    filled_whole _ _ _ _ _ c.loop-j.invariant.1 (columns_before c.args.m c.loop-j.j c.args.size c.loop-j-test.false)
 
 pub write_columns_spec : {M : Type 1} → statement M
 write_columns_spec =
     tie.close
-    (tie.spec invariant-loop decreases-loop loop-holds write_column_requires add_j loop_less loop-again same_length returns)
+    (tie.spec invariant-loop-j decreases-loop-j loop-holds write_column_requires add_j loop_less loop-again same_length returns)

@@ -10,29 +10,29 @@ use Rattle.packing.specs.Work.{bits_gathered}
 use Rattle.packing.proofs.write_rows.Statement.{statement}
 use Rattle.packing.proofs.write_rows.Tie as tie
 
-abbrev invariant-loop : tie.invariant-loop
-invariant-loop words size out₀ x₀ out x = Filled 0 (λ x. bits_gathered words (x / 8) size (x % 8)) (length out₀) x out
+abbrev invariant-loop-x : tie.invariant-loop-x
+invariant-loop-x words size out₀ x₀ out x = Filled 0 (λ x. bits_gathered words (x / 8) size (x % 8)) (length out₀) x out
 
-abbrev decreases-loop : tie.decreases-loop
-decreases-loop words size out₀ x₀ out x = length out₀ - x
+abbrev decreases-loop-x : tie.decreases-loop-x
+decreases-loop-x words size out₀ x₀ out x = length out₀ - x
 
-loop-holds : tie.Need-loop-init invariant-loop decreases-loop
+loop-holds : tie.Need-loop-x-init invariant-loop-x decreases-loop-x
 loop-holds c = filled_none _ _ _ _ refl
 
-gather_requires : tie.Need-gather-requires invariant-loop decreases-loop
+gather_requires : tie.Need-gather-requires invariant-loop-x decreases-loop-x
 gather_requires c κs = omega arith
 
-loop-again : tie.Need-loop-preserved invariant-loop decreases-loop
-loop-again c = filled_more _ _ _ _ _ c.before.before.loop.invariant (omega arith) _ c.gather.ensures
+loop-again : tie.Need-loop-x-preserved invariant-loop-x decreases-loop-x
+loop-again c = filled_more _ _ _ _ _ c.loop-x.invariant (omega arith) _ c.gather.ensures
 
-same_length : tie.Need-same-length invariant-loop decreases-loop
-same_length c = c.before.loop.invariant.long
+same_length : tie.Need-shape_of-out invariant-loop-x decreases-loop-x
+same_length c = c.loop-x.invariant.long
 
-returns : tie.Need-returns invariant-loop decreases-loop
-returns c = filled_whole _ _ _ _ _ c.before.loop.invariant (omega (arith, c.before.loop.invariant.long))
+returns : tie.Need-returns invariant-loop-x decreases-loop-x
+returns c = filled_whole _ _ _ _ _ c.loop-x.invariant (omega (arith, c.loop-x.invariant.long))
 
 pub write_rows_spec : {M : Type 1} → statement M
 write_rows_spec =
     tie.close
-    (tie.spec invariant-loop decreases-loop loop-holds (λ c. search rules) gather_requires (λ c. search rules) (λ c. search rules)
+    (tie.spec invariant-loop-x decreases-loop-x loop-holds (λ c. search rules) gather_requires (λ c. search rules) (λ c. search rules)
     (λ c. search rules) (λ c. search rules) loop-again same_length returns)

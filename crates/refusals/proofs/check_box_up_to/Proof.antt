@@ -14,55 +14,52 @@ use Rattle.refusals.proofs.check_box_up_to.Statement.{statement}
 use Rattle.refusals.proofs.check_box_up_to.Tie as tie
 
 -- the lines of the table, where each was passed
-inputs : (c : tie.Else1) → in_range 1 8 c.before.before.before.args.n ≡ true
-inputs c = holds c.before.in_range.ensures c.if1.false
+inputs : (c : tie.Else-not-in_range) → in_range 1 8 c.args.n ≡ true
+inputs c = holds c.in_range.ensures c.if-not-in_range.false-raw
 
-outputs : (c : tie.Else2) → in_range 1 c.before.before.before.before.before.args.most c.before.before.before.before.before.args.m ≡ true
-outputs c = holds c.before.in_range2.ensures c.if2.false
+outputs : (c : tie.Else-not-in_range-2) → in_range 1 c.args.most c.args.m ≡ true
+outputs c = holds c.in_range-2.ensures c.if-not-in_range-2.false-raw
 
-size : (c : tie.Else3) →
-    let a = c.before.before.before.before.before.before.before.args in
+size : (c : tie.Else-rows-power_of_two) →
+    let a = c.args in
     eqb (length a.rows.now) (2 ^ a.n) ≡ true
-size c = equals c.before.power_of_two.ensures.0 c.if3.false
+size c = equals c.power_of_two.ensures.0 c.if-rows-power_of_two.false
 
 -- the last line's test, which `rows_below` answers
-answer : (c : tie.After-rows-below) →
-    let a = c.before.before.before.before.before.before.before.before.before.args in
+answer : (c : tie.After-rows_below) →
+    let a = c.args in
     c.rows_below.result ≡ all_below (2 ^ a.m) a.rows.now
 answer c =
-    let a = c.before.before.before.before.before.before.before.before.before.args in
-    c.rows_below.ensures ∙ ap (λ (k : ℕ). all_below k a.rows.now) c.before.power_of_two2.ensures.0
+    let a = c.args in
+    c.rows_below.ensures ∙ ap (λ (k : ℕ). all_below k a.rows.now) c.power_of_two-2.ensures.0
 
-returns : tie.Need-returns
-returns c = found (stop (fails c.before.in_range.ensures c.if1.true))
+returns : tie.Need-returns-then-not-in_range
+returns c = found (stop (fails c.in_range.ensures c.if-not-in_range.true-raw))
 
-returns-2 : tie.Need-returns-2
+returns-2 : tie.Need-returns-then-not-in_range-2
 returns-2 c =
-    found (skip (inputs c.before.before) (stop (fails c.before.in_range2.ensures c.if2.true)))
+    found (skip (inputs c.before.before) (stop (fails c.in_range-2.ensures c.if-not-in_range-2.true-raw)))
 
-power_of_two_requires : tie.Need-power-of-two-requires
+power_of_two_requires : tie.Need-power_of_two-requires
 power_of_two_requires c κs = le_trans (range_high 1 8 _ (inputs c.before.before)) (lit≤ tt)
 
-returns-3 : tie.Need-returns-3
+returns-3 : tie.Need-returns-then-rows-power_of_two
 returns-3 c =
-    let p = c.before.before in
-    found (skip (inputs p.before.before) (skip (outputs p)
-    (stop (differs c.before.power_of_two.ensures.0 c.if3.true))))
+    found (skip (inputs c.before.before.before.before) (skip (outputs c.before.before)
+    (stop (differs c.power_of_two.ensures.0 c.if-rows-power_of_two.true))))
 
-power_of_two_requires_2 : tie.Need-power-of-two-requires-2
-power_of_two_requires_2 c κs = le_trans (range_high 1 _ _ (outputs c.before.before)) c.before.before.before.before.before.before.before.requires
+power_of_two_requires_2 : tie.Need-power_of_two-requires-2
+power_of_two_requires_2 c κs = le_trans (range_high 1 _ _ (outputs c.before.before)) c.requires
 
-returns-4 : tie.Need-returns-4
+returns-4 : tie.Need-returns-then-not-rows_below
 returns-4 c =
-    let p = c.before.before.before in
-    found (skip (inputs p.before.before.before.before) (skip (outputs p.before.before) (skip (size p)
-    (stop (fails (answer c.before) c.if4.true)))))
+    found (skip (inputs c.before.before.before.before.before.before.before) (skip (outputs c.before.before.before.before.before) (skip (size c.before.before.before)
+    (stop (fails (answer c.before) c.if-not-rows_below.true-raw)))))
 
-returns-5 : tie.Need-returns-5
+returns-5 : tie.Need-returns
 returns-5 c =
-    let p = c.before.before.before in
-    found (skip (inputs p.before.before.before.before) (skip (outputs p.before.before) (skip (size p)
-    (skip (holds (answer c.before) c.if4.false) end))))
+    found (skip (inputs c.before.before.before.before.before.before.before) (skip (outputs c.before.before.before.before.before) (skip (size c.before.before.before)
+    (skip (holds (answer c.before) c.if-not-rows_below.false-raw) end))))
 
 pub check_box_up_to_spec : {M : Type 1} → statement M
 check_box_up_to_spec =

@@ -8,25 +8,24 @@ use Rattle.refusals.proofs.check_limited.Statement.{statement}
 use Rattle.refusals.proofs.check_limited.Tie as tie
 
 -- the lines of the box's checks, where they were passed
-ok_box : (c : tie.After-enum-told) →
-    let a = c.before.before.before.before.args in
+ok_box : (c : tie.In_default) →
+    let a = c.args in
     first (box_checks a.n a.m a.rows.now) ≡ Accepted
-ok_box c = sym c.before.before.check_box.ensures ∙ c.enum_told.given.1
+ok_box c = sym c.check_box.ensures ∙ c.in_default.is
 
-returns : tie.Need-returns
+returns : tie.Need-returns-in-Refused
 unfolding limit_checks
 returns c =
-    let p = c.before.before.before in
-    let a = p.before.before.args in
-    found_before (box_checks a.n a.m a.rows.now) _ (sym p.check_box.ensures ∙ c.before.e.given.1)
+    let a = c.args in
+    found_before (box_checks a.n a.m a.rows.now) _ (sym c.check_box.ensures ∙ c.in-Refused.is)
 
-returns-2 : tie.Need-returns-2
+returns-2 : tie.Need-returns-then-not-in_range
 unfolding limit_checks
-returns-2 c = found_after _ (ok_box c.before.before) (stop (fails c.before.in_range.ensures c.if1.true))
+returns-2 c = found_after _ (ok_box c.before.before) (stop (fails c.in_range.ensures c.if-not-in_range.true-raw))
 
-returns-3 : tie.Need-returns-3
+returns-3 : tie.Need-returns
 unfolding limit_checks
-returns-3 c = found_after _ (ok_box c.before.before) (skip (holds c.before.in_range.ensures c.if1.false) end)
+returns-3 c = found_after _ (ok_box c.before.before) (skip (holds c.in_range.ensures c.if-not-in_range.false-raw) end)
 
 pub check_limited_spec : {M : Type 1} → statement M
 check_limited_spec =

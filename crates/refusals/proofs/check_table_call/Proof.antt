@@ -13,32 +13,31 @@ use Rattle.refusals.proofs.check_table_call.Statement.{statement}
 use Rattle.refusals.proofs.check_table_call.Tie as tie
 
 -- the lines of the truth table's checks, where they were passed
-ok_table : (c : tie.After-enum-told) →
-    let a = c.before.before.before.before.args in
+ok_table : (c : tie.In_default) →
+    let a = c.args in
     first (table_checks a.n a.table.now) ≡ Accepted
-ok_table c = sym c.before.before.check_table.ensures ∙ c.enum_told.given.1
+ok_table c = sym c.check_table.ensures ∙ c.in_default.is
 
 -- and the written array's, where it was passed
-size : (c : tie.Else1) → let a = c.before.before.before.before.before.before.args in eqb a.room (2 ^ a.n) ≡ true
-size c = equals c.before.power_of_two.ensures.0 c.if1.false
+size : (c : tie.Else-room-power_of_two) → let a = c.args in eqb a.room (2 ^ a.n) ≡ true
+size c = equals c.power_of_two.ensures.0 c.if-room-power_of_two.false
 
-returns : tie.Need-returns
+returns : tie.Need-returns-in-Refused
 unfolding table_call_checks
 returns c =
-    let p = c.before.before.before in
-    let a = p.before.before.args in
-    found_before (table_checks a.n a.table.now) _ (sym p.check_table.ensures ∙ c.before.e.given.1)
+    let a = c.args in
+    found_before (table_checks a.n a.table.now) _ (sym c.check_table.ensures ∙ c.in-Refused.is)
 
-power_of_two_requires : tie.Need-power-of-two-requires
+power_of_two_requires : tie.Need-power_of_two-requires
 power_of_two_requires c κs =
-    let a = c.before.before.before.before.args in
+    let a = c.args in
     le_trans (table a.n a.table.now [] (ok_table c)).n_high (lit≤ tt)
 
-returns-2 : tie.Need-returns-2
+returns-2 : tie.Need-returns-then-room-power_of_two
 unfolding table_call_checks
-returns-2 c = found_after _ (ok_table c.before.before) (stop (differs c.before.power_of_two.ensures.0 c.if1.true))
+returns-2 c = found_after _ (ok_table c.before.before) (stop (differs c.power_of_two.ensures.0 c.if-room-power_of_two.true))
 
-returns-3 : tie.Need-returns-3
+returns-3 : tie.Need-returns
 unfolding table_call_checks
 returns-3 c = found_after _ (ok_table c.before.before) (skip (size c) end)
 

@@ -7,16 +7,16 @@ use lib.Dec.{leb}
 use Rattle.refusals.proofs.in_range.Statement.{statement}
 use Rattle.refusals.proofs.in_range.Tie as tie
 
-returns : tie.Need-returns
+returns : tie.Need-returns-then-a-lo
 returns c =
-    let a = c.before.args in
-    let under : leb a.lo a.a ≡ false = lt-leb a.lo a.a c.if1.true in
+    let a = c.args in
+    let under : leb a.lo a.a ≡ false = lt-leb a.lo a.a c.if-a-lo.true in
     simp under
 
-returns-2 : tie.Need-returns-2
+returns-2 : tie.Need-returns
 returns-2 c =
-    let a = c.before.args in
-    let over : leb a.lo a.a ≡ true = le-leb a.lo a.a c.if1.false in
+    let a = c.args in
+    let over : leb a.lo a.a ≡ true = le-leb a.lo a.a c.if-a-lo.false in
     simp over
 
 pub in_range_spec : {M : Type 1} → statement M

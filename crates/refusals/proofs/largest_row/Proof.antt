@@ -11,36 +11,35 @@ use Rattle.boolean.proofs.Largest.{largest_takes, largest_keeps}
 use Rattle.refusals.proofs.largest_row.Statement.{statement}
 use Rattle.refusals.proofs.largest_row.Tie as tie
 
-abbrev invariant-loop : tie.invariant-loop
-invariant-loop rows most₀ i₀ most i = (i ≤ length rows) × (most ≡ largest_below i (at rows))
+abbrev invariant-loop-i : tie.invariant-loop-i
+invariant-loop-i rows most₀ i₀ most i = (i ≤ length rows) × (most ≡ largest_below i (at rows))
 
-abbrev decreases-loop : tie.decreases-loop
-decreases-loop rows most₀ i₀ most i = length rows - i
+abbrev decreases-loop-i : tie.decreases-loop-i
+decreases-loop-i rows most₀ i₀ most i = length rows - i
 
-loop-holds : tie.Need-loop-init invariant-loop decreases-loop
+loop-holds : tie.Need-loop-i-init invariant-loop-i decreases-loop-i
 unfolding largest_below
 loop-holds c = (zero-le, refl)
 
-loop-again : tie.Need-loop-preserved invariant-loop decreases-loop
+loop-again : tie.Need-loop-i-preserved invariant-loop-i decreases-loop-i
 loop-again c =
-    let at_loop = c.before.before.before in
-    let rows = at_loop.before.args.rows.now in
-    let so_far = at_loop.loop.invariant.1 in (
+    let rows = c.args.rows.now in
+    let so_far = c.loop-i.invariant.1 in (
       omega arith,
       ⊎_elim
-          (λ t. t.1 ∙ largest_takes at_loop.loop.i (at rows) so_far t.0.taken)
-          (λ t. t.1 ∙ largest_keeps at_loop.loop.i (at rows) so_far t.0.left)
-          c.if1.branch,
+          (λ t. t.most-is ∙ largest_takes c.loop-i.i (at rows) so_far t.if-most-row.true)
+          (λ t. t.most-is ∙ largest_keeps c.loop-i.i (at rows) so_far t.if-most-row.false)
+          c.if-most-row.branch-raw,
     )
 
-returns : tie.Need-returns invariant-loop decreases-loop
+returns : tie.Need-returns invariant-loop-i decreases-loop-i
 returns c =
-    let rows = c.before.before.args.rows.now in
-    let end : c.before.loop.i ≡ length rows = omega (arith, c.before.loop.invariant.0, c.loop-test.false) in
-    c.before.loop.invariant.1 ∙ ap (λ (k : ℕ). largest_below k (at rows)) end
+    let rows = c.args.rows.now in
+    let end : c.loop-i.i ≡ length rows = omega (arith, c.loop-i.invariant.0, c.loop-i-test.false) in
+    c.loop-i.invariant.1 ∙ ap (λ (k : ℕ). largest_below k (at rows)) end
 
 pub largest_row_spec : {M : Type 1} → statement M
 largest_row_spec =
     tie.close
-    (tie.spec invariant-loop decreases-loop loop-holds (λ c. search rules) (λ c. search rules) (λ c. search rules) (λ c. search rules) loop-again
+    (tie.spec invariant-loop-i decreases-loop-i loop-holds (λ c. search rules) (λ c. search rules) (λ c. search rules) (λ c. search rules) loop-again
     returns)

@@ -10,14 +10,14 @@ use Rattle.refusals.proofs.Bounds.{largest_below_lem, none_below}
 use Rattle.refusals.proofs.rows_below.Statement.{statement}
 use Rattle.refusals.proofs.rows_below.Tie as tie
 
-returns : tie.Need-returns
-returns c = none_below _ _ c.if1.true
+returns : tie.Need-returns-then-rows-eq0
+returns c = none_below _ _ c.if-rows-eq0.true
 
-returns-2 : tie.Need-returns-2
+returns-2 : tie.Need-returns
 returns-2 c =
-    let a = c.before.before.before.args in
-    let some : 0 < length a.rows.now = omega (arith, c.before.if1.false) in
-    ap (λ (k : ℕ). ltb k a.limit) c.largest_row.ensures ∙ largest_below_lem a.limit a.rows.now (at a.rows.now) some (λ x l. refl)
+    let a = c.args in
+    let some : 0 < length a.rows.now = omega (arith, c.if-rows-eq0.false) in
+    ap (λ (k : ℕ). ltb k a.limit) c.largest_row-most.ensures ∙ largest_below_lem a.limit a.rows.now (at a.rows.now) some (λ x l. refl)
 
 pub rows_below_spec : {M : Type 1} → statement M
 rows_below_spec = tie.close (tie.spec returns (λ c κs. search rules) (λ c. search rules) returns-2)

@@ -12,35 +12,34 @@ use borrow.Author.Rules.{rules}
 use Rattle.texts.proofs.put_bytes.Statement.{statement}
 use Rattle.texts.proofs.put_bytes.Tie as tie
 
-abbrev invariant-loop : tie.invariant-loop
-invariant-loop out₀ at bytes i₀ out i = Stored at out₀ (take i bytes) (at + i) out × (i ≤ length bytes) × (length out ≡ length out₀)
+abbrev invariant-loop-i : tie.invariant-loop-i
+invariant-loop-i out₀ at bytes i₀ out i = Stored at out₀ (take i bytes) (at + i) out × (i ≤ length bytes) × (length out ≡ length out₀)
 
-abbrev decreases-loop : tie.decreases-loop
-decreases-loop out₀ at bytes i₀ out i = length bytes - i
+abbrev decreases-loop-i : tie.decreases-loop-i
+decreases-loop-i out₀ at bytes i₀ out i = length bytes - i
 
-loop-holds : tie.Need-loop-init invariant-loop decreases-loop
+loop-holds : tie.Need-loop-i-init invariant-loop-i decreases-loop-i
 loop-holds c = (rw (add-zero c.args.at) (stored_none c.args.at c.args.out.now), search rules, search rules)
 
-loop-again : tie.Need-loop-preserved invariant-loop decreases-loop
+loop-again : tie.Need-loop-i-preserved invariant-loop-i decreases-loop-i
 loop-again c =
-    let loop = c.before.before in
-    let bytes = loop.before.args.bytes.now in
-    let i = loop.loop.i in
+    let bytes = c.args.bytes.now in
+    let i = c.loop-i.i in
     let inside : i < length bytes = omega arith in
     let more : take (i + 1) bytes ≡ take i bytes ++ (get_or bytes i 0 ∷ []) = rw (add-one, take-suc bytes i 0) in
-    let next : loop.before.args.at + (i + 1) ≡ loop.before.args.at + i + 1 = omega arith in
-    let done = stored_more loop.loop.invariant.0 (get_or bytes i 0 ∷ []) next refl in
+    let next : c.args.at + (i + 1) ≡ c.args.at + i + 1 = omega arith in
+    let done = stored_more c.loop-i.invariant.0 (get_or bytes i 0 ∷ []) next refl in
     (rw more done, search rules, search rules)
 
-returns : tie.Need-returns invariant-loop decreases-loop
+returns : tie.Need-returns invariant-loop-i decreases-loop-i
 returns c =
-    let a = c.before.before.args in
-    let t = c.before.loop.invariant.0 in
-    let all : take c.before.loop.i a.bytes.now ≡ a.bytes.now = take_all c.before.loop.i a.bytes.now (search rules) in
+    let a = c.args in
+    let t = c.loop-i.invariant.0 in
+    let all : take c.loop-i.i a.bytes.now ≡ a.bytes.now = take_all c.loop-i.i a.bytes.now (search rules) in
     (t.place ∙ ap (λ (l : List ℕ). a.at + length l) all, t.stored ∙ ap (sets a.out.now a.at) all)
 
 pub put_bytes_spec : {M : Type 1} → statement M
 put_bytes_spec =
     tie.close
-    (tie.spec invariant-loop decreases-loop loop-holds (λ c. search rules) (λ c. search rules) (λ c. search rules) (λ c. search rules)
+    (tie.spec invariant-loop-i decreases-loop-i loop-holds (λ c. search rules) (λ c. search rules) (λ c. search rules) (λ c. search rules)
     (λ c. search rules) loop-again (λ c. search rules) (λ c. search rules) returns)

@@ -10,18 +10,17 @@ use borrow.Author.Rules.{rules}
 use Rattle.texts.proofs.put_figure.Statement.{statement}
 use Rattle.texts.proofs.put_figure.Tie as tie
 
-put_number_requires : tie.Need-put-number-requires
+put_number_requires : tie.Need-put_number-requires
 put_number_requires c κs = simp length-set (omega arith)
 
-same_length : tie.Need-same-length
-same_length c = c.before.before.put_number.auto.0 ∙ simp length-set
+same_length : tie.Need-shape_of-out
+same_length c = c.put_number.auto.out ∙ simp length-set
 
 returns : tie.Need-returns
 returns c =
-    let put = c.before.before in
-    let a = put.before.before.before.args in
+    let a = c.args in
     let spaced = set a.out.now a.at 32 in
-    (omega (arith, put.put_number.ensures.0), put.put_number.ensures.1 ∙ ap (λ (k : ℕ). sets spaced k (numeral a.figure)) (add-one a.at))
+    (omega (arith, c.put_number.ensures.0), c.put_number.ensures.1 ∙ ap (λ (k : ℕ). sets spaced k (numeral a.figure)) (add-one a.at))
 
 pub put_figure_spec : {M : Type 1} → statement M
 put_figure_spec =

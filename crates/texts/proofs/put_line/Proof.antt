@@ -12,28 +12,27 @@ use Rattle.texts.proofs.put_line.Statement.{statement}
 use Rattle.texts.proofs.put_line.Tie as tie
 
 -- the word and the figures, where both have been written
-written : (c : tie.After-put-figures) →
-    let a = c.before.before.before.before.before.before.before.before.before.args in
-    Stored a.at a.out.now (a.word.now ++ spaced a.figures.now) c.put_figures.result c.put_figures.new.0
+written : (c : tie.After-put_figures-end) →
+    let a = c.args in
+    Stored a.at a.out.now (a.word.now ++ spaced a.figures.now) c.put_figures-end.result c.put_figures-end.new.out
 written c =
-    let word = c.before.before.before.before in
-    let a = word.before.before.before.before.before.args in
-    let first = stored_more (stored_none a.at a.out.now) a.word.now word.put_bytes.ensures.0 word.put_bytes.ensures.1 in
-    stored_more first (spaced a.figures.now) c.put_figures.ensures.0 c.put_figures.ensures.1
+    let a = c.args in
+    let first = stored_more (stored_none a.at a.out.now) a.word.now c.put_bytes-after_word.ensures.0 c.put_bytes-after_word.ensures.1 in
+    stored_more first (spaced a.figures.now) c.put_figures-end.ensures.0 c.put_figures-end.ensures.1
 
 -- one place is left for the line's end
-room : (c : tie.After-put-figures) → c.put_figures.result < length c.put_figures.new.0
+room : (c : tie.After-put_figures-end) → c.put_figures-end.result < length c.put_figures-end.new.out
 room c =
-    let a = c.before.before.before.before.before.before.before.before.before.args in
+    let a = c.args in
     omega (arith, (written c).place, stored_length (written c), length-append a.word.now (spaced a.figures.now), spaced_few a.figures.now)
 
-slice_write_out : tie.Need-slice-write-out
+slice_write_out : tie.Need-bounds-out-end
 slice_write_out c = room c.before.before
 
-add_result : tie.Need-overflow-add-result
+add_result : tie.Need-overflow_add-result
 add_result c = let h = room c.before.before in search rules
 
-same_length : tie.Need-same-length
+same_length : tie.Need-shape_of-out
 same_length c = simp length-set (stored_length (written c.before.before))
 
 returns : tie.Need-returns

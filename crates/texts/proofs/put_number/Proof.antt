@@ -11,22 +11,19 @@ use borrow.Author.Rules.{rules}
 use Rattle.texts.proofs.put_number.Statement.{statement}
 use Rattle.texts.proofs.put_number.Tie as tie
 
-put_bytes_requires : tie.Need-put-bytes-requires
+put_bytes_requires : tie.Need-put_bytes-requires
 put_bytes_requires c κs =
-    let d = c.before.before in
-    let a = d.before.before.before.args in
+    let a = c.args in
     let value : a.value < 2 ^ 32 = search rules in
-    omega (arith, d.decimal.ensures.0.1, few a.value d.decimal.result d.decimal.ensures.1.0 value)
+    omega (arith, c.decimal-k.ensures.0, few a.value c.decimal-k.result c.decimal-k.ensures.1.0 value)
 
 returns : tie.Need-returns
 returns c =
-    let b = c.before.before in
-    let d = b.before.before.before in
-    let a = d.before.before.before.args in
-    let k = d.decimal.result in
+    let a = c.args in
+    let k = c.decimal-k.result in
     let value : a.value < 2 ^ 32 = search rules in
-    let same : take k d.decimal.new.1.0 ≡ numeral a.value = d.decimal.ensures.1.1 ∙ numeral_is a.value k d.decimal.ensures.1.0 value in
-    (b.put_bytes.ensures.0 ∙ ap (λ (l : List ℕ). a.at + length l) same, b.put_bytes.ensures.1 ∙ ap (sets a.out.now a.at) same)
+    let same : take k c.decimal-k.new.out ≡ numeral a.value = c.decimal-k.ensures.1.1.0 ∙ numeral_is a.value k c.decimal-k.ensures.1.0 value in
+    (c.put_bytes.ensures.0 ∙ ap (λ (l : List ℕ). a.at + length l) same, c.put_bytes.ensures.1 ∙ ap (sets a.out.now a.at) same)
 
 pub put_number_spec : {M : Type 1} → statement M
 put_number_spec =

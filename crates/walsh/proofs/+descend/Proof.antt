@@ -41,195 +41,171 @@ calls t = (
 )
 
 module _ (t : ℕ) where
-  by_definition_requires : lts.Need-by-definition-requires (calls t) (given t) descend.Post
-  by_definition_requires c κs = c.before.before.before.requires.1.0
+  by_definition_requires : lts.Need-by_definition-requires (calls t) (given t) descend.Post
+  by_definition_requires c κs = c.requires.1.0
 
-  by_table_requires : lts.Need-by-table-requires (calls t) (given t) descend.Post
+  by_table_requires : lts.Need-by_table-requires (calls t) (given t) descend.Post
   by_table_requires c κs =
-      let s = c.before.before.before.before in
-      (subst (λ (n : ℕ). Ready n s.args.table.now s.args.out.now) c.before.if2.true s.requires.1.0, s.requires.1.1)
+      (subst (λ (n : ℕ). Ready n c.args.table.now c.args.out.now) c.if-n-eq3.true c.requires.1.0, c.requires.1.1)
 
   -- at width 4 the halves have width 3
-  cut_four : (e : lts.Then3 (calls t) (given t) descend.Post) →
-      let s = e.before.before.before.before in
-      halves.Cut s.args.n 3 (length s.args.table.now / 2) s.args.table.now s.args.out.now
+  cut_four : (e : lts.Then-n-eq4 (calls t) (given t) descend.Post) →
+      halves.Cut e.args.n 3 (length e.args.table.now / 2) e.args.table.now e.args.out.now
   cut_four e =
-      let s = e.before.before.before.before in
-      let table = s.args.table.now in
+      let table = e.args.table.now in
       record {
-        ready = s.requires.1.0;
-        one_less = e.if3.true;
+        ready = e.requires.1.0;
+        one_less = e.if-n-eq4.true;
         low = omega arith;
-        half = halves.in_the_middle s.args.n 3 table s.requires.1.0.read.size e.if3.true;
+        half = halves.in_the_middle e.args.n 3 table e.requires.1.0.read.size e.if-n-eq4.true;
       }
 
-  less_four : (e : lts.Then3 (calls t) (given t) descend.Post) → 3 < t
-  less_four e = omega (arith, e.if3.true, e.before.before.before.before.requires.0)
+  less_four : (e : lts.Then-n-eq4 (calls t) (given t) descend.Post) → 3 < t
+  less_four e = omega (arith, e.if-n-eq4.true, e.requires.0)
 
   -- above it they have one less
-  cut : (e : lts.Else3 (calls t) (given t) descend.Post) →
-      let s = e.before.before.before.before in
-      halves.Cut s.args.n (s.args.n - 1) (length s.args.table.now / 2) s.args.table.now s.args.out.now
+  cut : (e : lts.Else-n-eq4 (calls t) (given t) descend.Post) →
+      halves.Cut e.args.n (e.args.n - 1) (length e.args.table.now / 2) e.args.table.now e.args.out.now
   cut e =
-      let s = e.before.before.before.before in
-      let one_less : s.args.n ≡ suc (s.args.n - 1) = omega (arith, e.before.before.if1.false) in
+      let one_less : e.args.n ≡ suc (e.args.n - 1) = omega (arith, e.if-n-lt3.false) in
       record {
-        ready = s.requires.1.0;
+        ready = e.requires.1.0;
         one_less = one_less;
-        low = omega (arith, e.before.before.if1.false);
-        half = halves.in_the_middle s.args.n (s.args.n - 1) s.args.table.now s.requires.1.0.read.size one_less;
+        low = omega (arith, e.if-n-lt3.false);
+        half = halves.in_the_middle e.args.n (e.args.n - 1) e.args.table.now e.requires.1.0.read.size one_less;
       }
 
-  less : (e : lts.Else3 (calls t) (given t) descend.Post) → e.before.before.before.before.args.n - 1 < t
-  less e = omega (arith, e.before.before.if1.false, e.before.before.before.before.requires.0)
+  less : (e : lts.Else-n-eq4 (calls t) (given t) descend.Post) → e.args.n - 1 < t
+  less e = omega (arith, e.if-n-lt3.false, e.requires.0)
 
-  slice_aggregate_descend : lts.Need-slice-aggregate-descend (calls t) (given t) descend.Post
+  slice_aggregate_descend : lts.Need-slice_bounds-descend-end (calls t) (given t) descend.Post
   slice_aggregate_descend c = sym (length-take-le _ _ (omega arith))
 
-  slice_relend_prefix_descend : lts.Need-slice-relend-prefix-descend (calls t) (given t) descend.Post
+  slice_relend_prefix_descend : lts.Need-slice_bounds-descend-end-then-n-eq4 (calls t) (given t) descend.Post
   slice_relend_prefix_descend c = search rules
 
-  slice_aggregate_descend_2 : lts.Need-slice-aggregate-descend-2 (calls t) (given t) descend.Post
+  slice_aggregate_descend_2 : lts.Need-slice_bounds-descend-end-then-n-eq4-2 (calls t) (given t) descend.Post
   slice_aggregate_descend_2 c = sym (length-take-le _ _ (omega arith))
 
   descend_requires : lts.Need-descend-requires (calls t) (given t) descend.Post
   descend_requires c κs =
-      let e = c.before.before in
-      (less_four e, (halves.lower_ready (cut_four e), e.before.before.before.before.requires.1.1))
+      (less_four c.before, (halves.lower_ready (cut_four c.before), c.requires.1.1))
 
-  sub_descend : lts.Need-overflow-sub-descend (calls t) (given t) descend.Post
+  sub_descend : lts.Need-slice_bounds-descend-count (calls t) (given t) descend.Post
   sub_descend c = search rules
 
-  part_descend_start : lts.Need-slice-bounds-descend-start (calls t) (given t) descend.Post
+  part_descend_start : lts.Need-slice_bounds-descend-start (calls t) (given t) descend.Post
   part_descend_start c = search rules
 
-  part_descend_end : lts.Need-slice-bounds-descend-end (calls t) (given t) descend.Post
+  part_descend_end : lts.Need-slice_bounds-descend-end-then-n-eq4-3 (calls t) (given t) descend.Post
   part_descend_end c = search rules
 
-  mul_descend : lts.Need-overflow-mul-descend (calls t) (given t) descend.Post
+  mul_descend : lts.Need-offset_bounds-out-h (calls t) (given t) descend.Post
   mul_descend c = search rules
 
-  sub_descend_2 : lts.Need-overflow-sub-descend-2 (calls t) (given t) descend.Post
+  sub_descend_2 : lts.Need-slice_bounds-descend-count-then-n-eq4 (calls t) (given t) descend.Post
   sub_descend_2 c = search rules
 
-  part_descend_start_2 : lts.Need-slice-bounds-descend-start-2 (calls t) (given t) descend.Post
+  part_descend_start_2 : lts.Need-slice_bounds-descend-start-then-n-eq4 (calls t) (given t) descend.Post
   part_descend_start_2 c = search rules
 
-  part_descend_end_2 : lts.Need-slice-bounds-descend-end-2 (calls t) (given t) descend.Post
+  part_descend_end_2 : lts.Need-slice_bounds-descend-end-then-n-eq4-4 (calls t) (given t) descend.Post
   part_descend_end_2 c = search rules
 
-  descend_requires_2 : lts.Need-descend-requires-2 (calls t) (given t) descend.Post
+  descend_requires_2 : lts.Need-descend-requires-then-n-eq4 (calls t) (given t) descend.Post
   descend_requires_2 c κs =
-      let first = c.before.before.before in
-      let e = first.before.before.before in
-      (less_four e, (halves.upper_ready (cut_four e) first.descend.new.1.1.1.0 first.descend.ensures, e.before.before.before.before.requires.1.1))
+      (less_four c.before.before.before.before.before, (halves.upper_ready (cut_four c.before.before.before.before.before) c.descend.new.out c.descend.ensures, c.requires.1.1))
 
   butterfly_requires : lts.Need-butterfly-requires (calls t) (given t) descend.Post
   butterfly_requires c κs =
-      let second = c.before.before in
-      let first = second.before.before.before.before in
-      halves.crossing (cut_four first.before.before.before)
-      first.descend.new.1.1.1.0 first.descend.ensures second.descend2.new.1.1.1.0 second.descend2.ensures (2 ^ 29) (lit≤ tt)
+      halves.crossing (cut_four c.before.before.before.before.before.before.before.before)
+      c.descend.new.out c.descend.ensures c.descend-then-n-eq4.new.out c.descend-then-n-eq4.ensures (2 ^ 29) (lit≤ tt)
 
-  sub_descend_3 : lts.Need-overflow-sub-descend-3 (calls t) (given t) descend.Post
+  sub_descend_3 : lts.Need-overflow_sub-n (calls t) (given t) descend.Post
   sub_descend_3 c = search rules
 
-  slice_aggregate_descend_3 : lts.Need-slice-aggregate-descend-3 (calls t) (given t) descend.Post
+  slice_aggregate_descend_3 : lts.Need-slice_bounds-descend-end-else-n-eq4 (calls t) (given t) descend.Post
   slice_aggregate_descend_3 c = sym (length-take-le _ _ (omega arith))
 
-  slice_relend_prefix_descend_2 : lts.Need-slice-relend-prefix-descend-2 (calls t) (given t) descend.Post
+  slice_relend_prefix_descend_2 : lts.Need-slice_bounds-descend-end-else-n-eq4-2 (calls t) (given t) descend.Post
   slice_relend_prefix_descend_2 c = search rules
 
-  slice_aggregate_descend_4 : lts.Need-slice-aggregate-descend-4 (calls t) (given t) descend.Post
+  slice_aggregate_descend_4 : lts.Need-slice_bounds-descend-end-else-n-eq4-3 (calls t) (given t) descend.Post
   slice_aggregate_descend_4 c = sym (length-take-le _ _ (omega arith))
 
-  descend_requires_3 : lts.Need-descend-requires-3 (calls t) (given t) descend.Post
+  descend_requires_3 : lts.Need-descend-requires-else-n-eq4 (calls t) (given t) descend.Post
   descend_requires_3 c κs =
-      let e = c.before.before in
-      (less e, (halves.lower_ready (cut e), e.before.before.before.before.requires.1.1))
+      (less c.before, (halves.lower_ready (cut c.before), c.requires.1.1))
 
-  sub_descend_4 : lts.Need-overflow-sub-descend-4 (calls t) (given t) descend.Post
+  sub_descend_4 : lts.Need-overflow_sub-n-else-n-eq4 (calls t) (given t) descend.Post
   sub_descend_4 c = search rules
 
-  sub_descend_5 : lts.Need-overflow-sub-descend-5 (calls t) (given t) descend.Post
+  sub_descend_5 : lts.Need-slice_bounds-descend-count-else-n-eq4 (calls t) (given t) descend.Post
   sub_descend_5 c = search rules
 
-  part_descend_start_3 : lts.Need-slice-bounds-descend-start-3 (calls t) (given t) descend.Post
+  part_descend_start_3 : lts.Need-slice_bounds-descend-start-else-n-eq4 (calls t) (given t) descend.Post
   part_descend_start_3 c = search rules
 
-  part_descend_end_3 : lts.Need-slice-bounds-descend-end-3 (calls t) (given t) descend.Post
+  part_descend_end_3 : lts.Need-slice_bounds-descend-end-else-n-eq4-4 (calls t) (given t) descend.Post
   part_descend_end_3 c = search rules
 
-  mul_descend_2 : lts.Need-overflow-mul-descend-2 (calls t) (given t) descend.Post
+  mul_descend_2 : lts.Need-offset_bounds-out-h-else-n-eq4 (calls t) (given t) descend.Post
   mul_descend_2 c = search rules
 
-  sub_descend_6 : lts.Need-overflow-sub-descend-6 (calls t) (given t) descend.Post
+  sub_descend_6 : lts.Need-slice_bounds-descend-count-else-n-eq4-2 (calls t) (given t) descend.Post
   sub_descend_6 c = search rules
 
-  part_descend_start_4 : lts.Need-slice-bounds-descend-start-4 (calls t) (given t) descend.Post
+  part_descend_start_4 : lts.Need-slice_bounds-descend-start-else-n-eq4-2 (calls t) (given t) descend.Post
   part_descend_start_4 c = search rules
 
-  part_descend_end_4 : lts.Need-slice-bounds-descend-end-4 (calls t) (given t) descend.Post
+  part_descend_end_4 : lts.Need-slice_bounds-descend-end-else-n-eq4-5 (calls t) (given t) descend.Post
   part_descend_end_4 c = search rules
 
-  descend_requires_4 : lts.Need-descend-requires-4 (calls t) (given t) descend.Post
+  descend_requires_4 : lts.Need-descend-requires-else-n-eq4-2 (calls t) (given t) descend.Post
   descend_requires_4 c κs =
-      let first = c.before.before.before in
-      let e = first.before.before.before in
-      (less e, (halves.upper_ready (cut e) first.descend3.new.1.1.1.0 first.descend3.ensures, e.before.before.before.before.requires.1.1))
+      (less c.before.before.before.before.before, (halves.upper_ready (cut c.before.before.before.before.before) c.descend-else-n-eq4.new.out c.descend-else-n-eq4.ensures, c.requires.1.1))
 
-  butterfly_requires_2 : lts.Need-butterfly-requires-2 (calls t) (given t) descend.Post
+  butterfly_requires_2 : lts.Need-butterfly-requires-else-n-eq4 (calls t) (given t) descend.Post
   butterfly_requires_2 c κs =
-      let second = c.before.before in
-      let first = second.before.before.before.before in
-      halves.crossing (cut first.before.before.before)
-      first.descend3.new.1.1.1.0 first.descend3.ensures second.descend4.new.1.1.1.0 second.descend4.ensures (2 ^ 29) (lit≤ tt)
+      halves.crossing (cut c.before.before.before.before.before.before.before.before)
+      c.descend-else-n-eq4.new.out c.descend-else-n-eq4.ensures c.descend-else-n-eq4-2.new.out c.descend-else-n-eq4-2.ensures (2 ^ 29) (lit≤ tt)
 
-  same_length : lts.Need-same-length (calls t) (given t) descend.Post
+  same_length : lts.Need-shape_of-out-then-n-lt3 (calls t) (given t) descend.Post
   same_length c = search rules
 
-  returns : lts.Need-returns (calls t) (given t) descend.Post
-  returns c = c.before.by_definition.ensures
+  returns : lts.Need-returns-then-n-lt3 (calls t) (given t) descend.Post
+  returns c = c.by_definition.ensures
 
-  same_length_2 : lts.Need-same-length-2 (calls t) (given t) descend.Post
+  same_length_2 : lts.Need-shape_of-out-then-n-eq3 (calls t) (given t) descend.Post
   same_length_2 c = search rules
 
-  returns-2 : lts.Need-returns-2 (calls t) (given t) descend.Post
+  returns-2 : lts.Need-returns-then-n-eq3 (calls t) (given t) descend.Post
   returns-2 c =
-      let e = c.before.before.before in
-      c.before.by_table.ensures ∙ ap (λ (n : ℕ). spectrum n (at e.before.before.before.args.table.now)) (sym e.if2.true)
+      c.by_table.ensures ∙ ap (λ (n : ℕ). spectrum n (at c.args.table.now)) (sym c.if-n-eq3.true)
 
-  same_length_3 : lts.Need-same-length-3 (calls t) (given t) descend.Post
+  same_length_3 : lts.Need-shape_of-out-then-n-eq4 (calls t) (given t) descend.Post
   same_length_3 c =
-      let second = c.before.before.before.before in
-      let first = second.before.before.before.before in
-      c.before.butterfly.auto.0
-      ∙ halves.same_long (cut_four first.before.before.before)
-      first.descend.new.1.1.1.0 first.descend.ensures second.descend2.new.1.1.1.0 second.descend2.ensures
+      c.butterfly.auto.values
+      ∙ halves.same_long (cut_four c.before.before.before.before.before.before.before.before.before.before)
+      c.descend.new.out c.descend.ensures c.descend-then-n-eq4.new.out c.descend-then-n-eq4.ensures
 
-  returns-3 : lts.Need-returns-3 (calls t) (given t) descend.Post
+  returns-3 : lts.Need-returns-then-n-eq4 (calls t) (given t) descend.Post
   returns-3 c =
-      let second = c.before.before.before.before in
-      let first = second.before.before.before.before in
-      halves.right (cut_four first.before.before.before)
-      first.descend.new.1.1.1.0 first.descend.ensures second.descend2.new.1.1.1.0 second.descend2.ensures
-      c.before.butterfly.new.0 c.before.butterfly.auto.0 c.before.butterfly.ensures
+      halves.right (cut_four c.before.before.before.before.before.before.before.before.before.before)
+      c.descend.new.out c.descend.ensures c.descend-then-n-eq4.new.out c.descend-then-n-eq4.ensures
+      c.butterfly.new.values c.butterfly.auto.values c.butterfly.ensures
 
-  same_length_4 : lts.Need-same-length-4 (calls t) (given t) descend.Post
+  same_length_4 : lts.Need-shape_of-out-else-n-eq4 (calls t) (given t) descend.Post
   same_length_4 c =
-      let second = c.before.before.before.before in
-      let first = second.before.before.before.before in
-      c.before.butterfly2.auto.0
-      ∙ halves.same_long (cut first.before.before.before)
-      first.descend3.new.1.1.1.0 first.descend3.ensures second.descend4.new.1.1.1.0 second.descend4.ensures
+      c.butterfly-else-n-eq4.auto.values
+      ∙ halves.same_long (cut c.before.before.before.before.before.before.before.before.before.before)
+      c.descend-else-n-eq4.new.out c.descend-else-n-eq4.ensures c.descend-else-n-eq4-2.new.out c.descend-else-n-eq4-2.ensures
 
-  returns-4 : lts.Need-returns-4 (calls t) (given t) descend.Post
+  returns-4 : lts.Need-returns-else-n-eq4 (calls t) (given t) descend.Post
   returns-4 c =
-      let second = c.before.before.before.before in
-      let first = second.before.before.before.before in
-      halves.right (cut first.before.before.before)
-      first.descend3.new.1.1.1.0 first.descend3.ensures second.descend4.new.1.1.1.0 second.descend4.ensures
-      c.before.butterfly2.new.0 c.before.butterfly2.auto.0 c.before.butterfly2.ensures
+      halves.right (cut c.before.before.before.before.before.before.before.before.before.before)
+      c.descend-else-n-eq4.new.out c.descend-else-n-eq4.ensures c.descend-else-n-eq4-2.new.out c.descend-else-n-eq4-2.ensures
+      c.butterfly-else-n-eq4.new.values c.butterfly-else-n-eq4.auto.values c.butterfly-else-n-eq4.ensures
 
 pub +descend-spec : {M : Type 1} → statement M
 +descend-spec =

@@ -33,94 +33,76 @@ calls t =
 
 module _ (t : ℕ) where
   -- five inputs or more are some
-  some : (e : lts.Else1 (calls t) (given t) transform.Post) → ¬ (e.before.args.n ≡ 0)
-  some e none = absurd (omega (arith, none, e.if1.false))
+  some : (e : lts.Else-n-lt5 (calls t) (given t) transform.Post) → ¬ (e.args.n ≡ 0)
+  some e none = absurd (omega (arith, none, e.if-n-lt5.false))
 
   -- the values are cut in the middle
-  middle : (e : lts.Else1 (calls t) (given t) transform.Post) →
-      let s = e.before in
-      length s.args.values.now / 2 ≡ 2 ^ (s.args.n - 1)
-  middle e = let s = e.before in halves.middle s.args.n s.args.values.now s.requires.1 (some e)
+  middle : (e : lts.Else-n-lt5 (calls t) (given t) transform.Post) →
+      length e.args.values.now / 2 ≡ 2 ^ (e.args.n - 1)
+  middle e = halves.middle e.args.n e.args.values.now e.requires.1 (some e)
 
   -- the width falls
-  less : (e : lts.Else1 (calls t) (given t) transform.Post) → e.before.args.n - 1 < t
+  less : (e : lts.Else-n-lt5 (calls t) (given t) transform.Post) → e.args.n - 1 < t
   less e = omega arith
 
-  sub_transform : lts.Need-overflow-sub-transform (calls t) (given t) transform.Post
+  sub_transform : lts.Need-overflow_sub-n (calls t) (given t) transform.Post
   sub_transform c = search rules
 
-  slice_relend_prefix_transform : lts.Need-slice-relend-prefix-transform (calls t) (given t) transform.Post
+  slice_relend_prefix_transform : lts.Need-slice_bounds-transform-end (calls t) (given t) transform.Post
   slice_relend_prefix_transform c = search rules
 
-  slice_aggregate_transform : lts.Need-slice-aggregate-transform (calls t) (given t) transform.Post
+  slice_aggregate_transform : lts.Need-slice_bounds-transform-end-else-n-lt5 (calls t) (given t) transform.Post
   slice_aggregate_transform c = sym (length-take-le _ _ (omega arith))
 
   transform_requires : lts.Need-transform-requires (calls t) (given t) transform.Post
   transform_requires c κs =
-      let e = c.before in
-      let s = e.before in
-      (less e, halves.lower_summable s.args.n _ s.args.values.now s.requires.1 (some e) (middle e))
+      (less c.before, halves.lower_summable c.args.n _ c.args.values.now c.requires.1 (some c.before) (middle c.before))
 
-  sub_transform_2 : lts.Need-overflow-sub-transform-2 (calls t) (given t) transform.Post
+  sub_transform_2 : lts.Need-overflow_sub-n-else-n-lt5 (calls t) (given t) transform.Post
   sub_transform_2 c = search rules
 
-  mul_transform : lts.Need-overflow-mul-transform (calls t) (given t) transform.Post
+  mul_transform : lts.Need-offset_bounds-values-h (calls t) (given t) transform.Post
   mul_transform c = search rules
 
-  sub_transform_3 : lts.Need-overflow-sub-transform-3 (calls t) (given t) transform.Post
+  sub_transform_3 : lts.Need-slice_bounds-transform-count (calls t) (given t) transform.Post
   sub_transform_3 c = search rules
 
-  part_transform_start : lts.Need-slice-bounds-transform-start (calls t) (given t) transform.Post
+  part_transform_start : lts.Need-slice_bounds-transform-start (calls t) (given t) transform.Post
   part_transform_start c = search rules
 
-  part_transform_end : lts.Need-slice-bounds-transform-end (calls t) (given t) transform.Post
+  part_transform_end : lts.Need-slice_bounds-transform-end-else-n-lt5-2 (calls t) (given t) transform.Post
   part_transform_end c = search rules
 
-  transform_requires_2 : lts.Need-transform-requires-2 (calls t) (given t) transform.Post
+  transform_requires_2 : lts.Need-transform-requires-else-n-lt5 (calls t) (given t) transform.Post
   transform_requires_2 c κs =
-      let first = c.before.before in
-      let e = first.before.before in
-      let s = e.before in
-      (less e, halves.upper_summable s.args.n _ s.args.values.now s.requires.1 (some e) (middle e) first.transform.new.1.0 first.transform.ensures)
+      (less c.before.before.before.before, halves.upper_summable c.args.n _ c.args.values.now c.requires.1 (some c.before.before.before.before) (middle c.before.before.before.before) c.transform.new.values c.transform.ensures)
 
   butterfly_requires : lts.Need-butterfly-requires (calls t) (given t) transform.Post
   butterfly_requires c κs =
-      let second = c.before.before in
-      let first = second.before.before.before in
-      let e = first.before.before in
-      let s = e.before in
-      halves.crossing s.args.n _ s.args.values.now s.requires.1 (some e) (middle e)
-      first.transform.new.1.0 first.transform.ensures second.transform2.new.1.0 second.transform2.ensures
+      halves.crossing c.args.n _ c.args.values.now c.requires.1 (some c.before.before.before.before.before.before.before) (middle c.before.before.before.before.before.before.before)
+      c.transform.new.values c.transform.ensures c.transform-else-n-lt5.new.values c.transform-else-n-lt5.ensures
 
-  same_length : lts.Need-same-length (calls t) (given t) transform.Post
+  same_length : lts.Need-shape_of-values-then-n-lt5 (calls t) (given t) transform.Post
   same_length c = search rules
 
-  returns : lts.Need-returns (calls t) (given t) transform.Post
-  returns c = c.before.transform_at_once.ensures
+  returns : lts.Need-returns-then-n-lt5 (calls t) (given t) transform.Post
+  returns c = c.transform_at_once.ensures
 
-  same_length_2 : lts.Need-same-length-2 (calls t) (given t) transform.Post
+  same_length_2 : lts.Need-shape_of-values-else-n-lt5 (calls t) (given t) transform.Post
   same_length_2 c =
-      let second = c.before.before.before.before in
-      let first = second.before.before.before in
-      let e = first.before.before in
-      let s = e.before in
-      c.before.butterfly.auto.0
-      ∙ halves.same_long s.args.n _ s.args.values.now s.requires.1 (some e) (middle e)
-      first.transform.new.1.0 first.transform.ensures second.transform2.new.1.0 second.transform2.ensures
+      c.butterfly.auto.values
+      ∙ halves.same_long c.args.n _ c.args.values.now c.requires.1 (some c.before.before.before.before.before.before.before.before.before) (middle c.before.before.before.before.before.before.before.before.before)
+      c.transform.new.values c.transform.ensures c.transform-else-n-lt5.new.values c.transform-else-n-lt5.ensures
 
-  returns-2 : lts.Need-returns-2 (calls t) (given t) transform.Post
+  returns-2 : lts.Need-returns-else-n-lt5 (calls t) (given t) transform.Post
   returns-2 c =
-      let second = c.before.before.before.before in
-      let first = second.before.before.before in
-      let e = first.before.before in
-      let s = e.before in
-      halves.right s.args.n _ s.args.values.now s.requires.1 (some e) (middle e)
-      first.transform.new.1.0 first.transform.ensures second.transform2.new.1.0 second.transform2.ensures
-      c.before.butterfly.new.0 c.before.butterfly.auto.0 c.before.butterfly.ensures
+      halves.right c.args.n _ c.args.values.now c.requires.1 (some c.before.before.before.before.before.before.before.before.before) (middle c.before.before.before.before.before.before.before.before.before)
+      c.transform.new.values c.transform.ensures c.transform-else-n-lt5.new.values c.transform-else-n-lt5.ensures
+      c.butterfly.new.values c.butterfly.auto.values c.butterfly.ensures
 
 pub +transform-spec : {M : Type 1} → statement M
 +transform-spec =
     close μ (λ t. lts.spec (calls t) (given t) transform.Post
-    (λ c κs. (c.before.if1.true, c.before.before.requires.1)) (sub_transform t) (slice_relend_prefix_transform t) (slice_aggregate_transform t)
+    (λ c κs. (c.if-n-lt5.true, c.requires.1)) (sub_transform t) (slice_relend_prefix_transform t) (slice_aggregate_transform t)
     (transform_requires t) (sub_transform_2 t) (mul_transform t) (sub_transform_3 t) (part_transform_start t) (part_transform_end t)
     (transform_requires_2 t) (butterfly_requires t) (same_length t) (returns t) (same_length_2 t) (returns-2 t))

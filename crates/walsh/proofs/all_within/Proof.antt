@@ -17,33 +17,33 @@ use Rattle.walsh.proofs.all_within.Tie as tie
 abbrev within : ℕ → ℤ → Bool
 within limit v = leb (nat_abs v) limit
 
-abbrev invariant-loop : tie.invariant-loop
-invariant-loop values limit k₀ k = Rest (within limit) (pos 0) values k
+abbrev invariant-loop-k : tie.invariant-loop-k
+invariant-loop-k values limit k₀ k = Rest (within limit) (pos 0) values k
 
-abbrev decreases-loop : tie.decreases-loop
-decreases-loop values limit k₀ k = length values - k
+abbrev decreases-loop-k : tie.decreases-loop-k
+decreases-loop-k values limit k₀ k = length values - k
 
 -- the value that is read, and its magnitude
-abbrev value : tie.After-magnitude invariant-loop decreases-loop → ℤ
-value c = let at_loop = c.before.before.before in value_at at_loop.before.args.values.now at_loop.loop.k
+abbrev value : tie.After-magnitude invariant-loop-k decreases-loop-k → ℤ
+value c = value_at c.args.values.now c.loop-k.k
 
-read : (c : tie.After-magnitude invariant-loop decreases-loop) → c.magnitude.result ≡ nat_abs (value c)
-read c = c.magnitude.ensures ∙ ap nat_abs (word_told (value c) c.before.magnitude_arg.given)
+read : (c : tie.After-magnitude invariant-loop-k decreases-loop-k) → c.magnitude.result ≡ nat_abs (value c)
+read c = c.magnitude.ensures ∙ ap nat_abs (word_told (value c) c.magnitude-arg-1.given)
 
-loop-holds : tie.Need-loop-init invariant-loop decreases-loop
+loop-holds : tie.Need-loop-k-init invariant-loop-k decreases-loop-k
 loop-holds c = rest_all _ _ _
 
-returns : tie.Need-returns invariant-loop decreases-loop
-returns c = rest_fails _ _ c.before.before.before.before.loop.invariant (omega arith) (lt-leb (nat_abs (value c.before)) c.before.before.before.before.before.args.limit (omega (arith, read c.before, c.if1.true)))
+returns : tie.Need-returns-then-limit-magnitude invariant-loop-k decreases-loop-k
+returns c = rest_fails _ _ c.loop-k.invariant (omega arith) (lt-leb (nat_abs (value c.before)) c.args.limit (omega (arith, read c.before, c.if-limit-magnitude.true)))
 
-loop-again : tie.Need-loop-preserved invariant-loop decreases-loop
-loop-again c = rest_next _ _ c.before.before.before.before.loop.invariant (omega arith) (le-leb (nat_abs (value c.before)) c.before.before.before.before.before.args.limit (omega (arith, read c.before, c.if1.false)))
+loop-again : tie.Need-loop-k-preserved invariant-loop-k decreases-loop-k
+loop-again c = rest_next _ _ c.loop-k.invariant (omega arith) (le-leb (nat_abs (value c.before)) c.args.limit (omega (arith, read c.before, c.if-limit-magnitude.false)))
 
-returns-2 : tie.Need-returns-2 invariant-loop decreases-loop
-returns-2 c = rest_none _ _ c.before.loop.invariant (omega arith)
+returns-2 : tie.Need-returns invariant-loop-k decreases-loop-k
+returns-2 c = rest_none _ _ c.loop-k.invariant (omega arith)
 
 pub all_within_spec : {M : Type 1} → statement M
 all_within_spec =
     tie.close
-    (tie.spec invariant-loop decreases-loop loop-holds (λ c. search rules) (λ c. search rules) (λ c κs. search rules) returns (λ c. search rules)
+    (tie.spec invariant-loop-k decreases-loop-k loop-holds (λ c. search rules) (λ c. search rules) (λ c κs. search rules) returns (λ c. search rules)
     (λ c. search rules) loop-again returns-2)

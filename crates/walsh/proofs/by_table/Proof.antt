@@ -12,25 +12,21 @@ use borrow.Author.Rules.{rules}
 use Rattle.walsh.proofs.by_table.Statement.{statement}
 use Rattle.walsh.proofs.by_table.Tie as tie
 
-number_requires : tie.Need-number-requires
-number_requires c κs = c.before.requires.0.read
+number_requires : tie.Need-number-first-requires
+number_requires c κs = c.requires.0.read
 
 returns : tie.Need-returns
 unfolding spectrum
 returns c =
-    let second = c.before in
-    let first = second.before.before.before in
-    let numbered = first.before.before in
-    let start = numbered.before.before in
-    let fixed = start.args.fixed.now in
-    let f = at start.args.table.now in
-    let t = numbered.number.result in
-    let told = numbered.number.ensures in
-    let more = four_more fixed f t start.requires.1 told.0 told.1 in
-    let four = more (t * 8) 0 start.args.out.now (sym (add-zero (t * 8))) (omega arith) (filled_none (pos 0) _ 8 start.args.out.now start.requires.0.room) in
-    let four_there = subst (λ (l : List ℤ). Filled (pos 0) (λ v. approximation 3 f v) 8 4 l) (sym first.copy_four.ensures) four in
-    let eight = more (t * 8 + 4) 4 first.copy_four.new.1.1.0 refl (omega arith) four_there in
-    second.copy_four2.ensures ∙ filled_whole (pos 0) (λ v. approximation 3 f v) 8 8 _ eight (le_refl 8)
+    let fixed = c.args.fixed.now in
+    let f = at c.args.table.now in
+    let t = c.number-first.result in
+    let told = c.number-first.ensures in
+    let more = four_more fixed f t c.requires.1 told.0 told.1 in
+    let four = more (t * 8) 0 c.args.out.now (sym (add-zero (t * 8))) (omega arith) (filled_none (pos 0) _ 8 c.args.out.now c.requires.0.room) in
+    let four_there = subst (λ (l : List ℤ). Filled (pos 0) (λ v. approximation 3 f v) 8 4 l) (sym c.copy_four.ensures) four in
+    let eight = more (t * 8 + 4) 4 c.copy_four.new.out refl (omega arith) four_there in
+    c.copy_four-2.ensures ∙ filled_whole (pos 0) (λ v. approximation 3 f v) 8 8 _ eight (le_refl 8)
 
 pub by_table_spec : {M : Type 1} → statement M
 by_table_spec =

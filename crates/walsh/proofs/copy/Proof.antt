@@ -11,32 +11,31 @@ use Rattle.boolean.proofs.Words.{word_told}
 use Rattle.walsh.proofs.copy.Statement.{statement}
 use Rattle.walsh.proofs.copy.Tie as tie
 
-abbrev invariant-loop : tie.invariant-loop
-invariant-loop values work₀ k₀ work k = Filled (pos 0) (value_at values) (length values) k work
+abbrev invariant-loop-k : tie.invariant-loop-k
+invariant-loop-k values work₀ k₀ work k = Filled (pos 0) (value_at values) (length values) k work
 
-abbrev decreases-loop : tie.decreases-loop
-decreases-loop values work₀ k₀ work k = length values - k
+abbrev decreases-loop-k : tie.decreases-loop-k
+decreases-loop-k values work₀ k₀ work k = length values - k
 
-loop-holds : tie.Need-loop-init invariant-loop decreases-loop
+loop-holds : tie.Need-loop-k-init invariant-loop-k decreases-loop-k
 loop-holds c = filled_none (pos 0) _ _ c.args.work.now c.requires
 
-loop-again : tie.Need-loop-preserved invariant-loop decreases-loop
+loop-again : tie.Need-loop-k-preserved invariant-loop-k decreases-loop-k
 loop-again c =
-    let at_loop = c.before.before in
-    filled_more (pos 0) (value_at at_loop.before.args.values.now) _ at_loop.loop.k at_loop.loop.work at_loop.loop.invariant
-    c.before.loop-test.true _ (word_told _ c.work.given)
+    filled_more (pos 0) (value_at c.args.values.now) _ c.loop-k.k c.loop-k.work c.loop-k.invariant
+    c.loop-k-test.true _ (word_told _ c.work-1.given)
 
-same_length : tie.Need-same-length invariant-loop decreases-loop
-same_length c = c.before.loop.invariant.long ∙ sym c.before.before.requires
+same_length : tie.Need-shape_of-work invariant-loop-k decreases-loop-k
+same_length c = c.loop-k.invariant.long ∙ sym c.requires
 
-returns : tie.Need-returns invariant-loop decreases-loop
+returns : tie.Need-returns invariant-loop-k decreases-loop-k
 returns c =
-    let values = c.before.before.args.values.now in
-    filled_whole (pos 0) (value_at values) _ c.before.loop.k c.before.loop.work c.before.loop.invariant c.loop-test.false
+    let values = c.args.values.now in
+    filled_whole (pos 0) (value_at values) _ c.loop-k.k c.loop-k.work c.loop-k.invariant c.loop-k-test.false
     ∙ sym (list_is (pos 0) (length values) (value_at values) values refl (λ i l. refl))
 
 pub copy_spec : {M : Type 1} → statement M
 copy_spec =
     tie.close
-    (tie.spec invariant-loop decreases-loop loop-holds (λ c. search rules) (λ c. search rules) (λ c. search rules) (λ c. search rules)
+    (tie.spec invariant-loop-k decreases-loop-k loop-holds (λ c. search rules) (λ c. search rules) (λ c. search rules) (λ c. search rules)
     (λ c. search rules) (λ c. search rules) loop-again same_length returns)

@@ -11,39 +11,36 @@ use Rattle.boolean.proofs.Words.{word_told}
 use Rattle.walsh.proofs.first_place.Statement.{statement}
 use Rattle.walsh.proofs.first_place.Tie as tie
 
-abbrev invariant-loop : tie.invariant-loop
-invariant-loop values size w₀ w = (w ≤ length values) × ((v : ℕ) → v < w → nat_abs (value_at values v) ≡ size → ⊥)
+abbrev invariant-loop-w : tie.invariant-loop-w
+invariant-loop-w values size w₀ w = (w ≤ length values) × ((v : ℕ) → v < w → nat_abs (value_at values v) ≡ size → ⊥)
 
-abbrev decreases-loop : tie.decreases-loop
-decreases-loop values size w₀ w = length values - w
+abbrev decreases-loop-w : tie.decreases-loop-w
+decreases-loop-w values size w₀ w = length values - w
 
-loop-holds : tie.Need-loop-init invariant-loop decreases-loop
+loop-holds : tie.Need-loop-w-init invariant-loop-w decreases-loop-w
 loop-holds c = (zero-le, λ v l e. omega arith)
 
 -- the value that is read, and its magnitude
-abbrev value : tie.After-magnitude invariant-loop decreases-loop → ℤ
-value c = let at_loop = c.before.before.before in value_at at_loop.before.args.values.now at_loop.loop.w
+abbrev value : tie.After-magnitude invariant-loop-w decreases-loop-w → ℤ
+value c = value_at c.args.values.now c.loop-w.w
 
-read : (c : tie.After-magnitude invariant-loop decreases-loop) → c.magnitude.result ≡ nat_abs (value c)
-read c = c.magnitude.ensures ∙ ap nat_abs (word_told (value c) c.before.magnitude_arg.given)
+read : (c : tie.After-magnitude invariant-loop-w decreases-loop-w) → c.magnitude.result ≡ nat_abs (value c)
+read c = c.magnitude.ensures ∙ ap nat_abs (word_told (value c) c.magnitude-arg-1.given)
 
-returns : tie.Need-returns invariant-loop decreases-loop
+returns : tie.Need-returns-then-magnitude-size invariant-loop-w decreases-loop-w
 returns c =
-    let at_loop = c.before.before.before.before in
-    record { within = at_loop.loop.invariant.0; has = λ l. sym (read c.before) ∙ c.if1.true; first = at_loop.loop.invariant.1 }
+    record { within = c.loop-w.invariant.0; has = λ l. sym (read c.before) ∙ c.if-magnitude-size.true; first = c.loop-w.invariant.1 }
 
-loop-again : tie.Need-loop-preserved invariant-loop decreases-loop
+loop-again : tie.Need-loop-w-preserved invariant-loop-w decreases-loop-w
 loop-again c =
-    let at_loop = c.before.before.before.before in
-    (omega arith, below_more _ _ at_loop.loop.invariant.1 (λ e. c.if1.false (read c.before ∙ e)))
+    (omega arith, below_more _ _ c.loop-w.invariant.1 (λ e. c.if-magnitude-size.false (read c.before ∙ e)))
 
-returns-2 : tie.Need-returns-2 invariant-loop decreases-loop
+returns-2 : tie.Need-returns invariant-loop-w decreases-loop-w
 returns-2 c =
-    let at_loop = c.before in
-    record { within = at_loop.loop.invariant.0; has = λ l. absurd (omega (arith, c.loop-test.false)); first = at_loop.loop.invariant.1 }
+    record { within = c.loop-w.invariant.0; has = λ l. absurd (omega (arith, c.loop-w-test.false)); first = c.loop-w.invariant.1 }
 
 pub first_place_spec : {M : Type 1} → statement M
 first_place_spec =
     tie.close
-    (tie.spec invariant-loop decreases-loop loop-holds (λ c. search rules) (λ c. search rules) (λ c κs. search rules) returns (λ c. search rules)
+    (tie.spec invariant-loop-w decreases-loop-w loop-holds (λ c. search rules) (λ c. search rules) (λ c κs. search rules) returns (λ c. search rules)
     (λ c. search rules) loop-again returns-2)

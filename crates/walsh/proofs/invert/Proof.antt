@@ -19,53 +19,39 @@ use Rattle.walsh.proofs.invert.Tie as tie
 
 transform_requires : tie.Need-transform-requires
 transform_requires c κs =
-    let copied = c.before.before in
-    let s = copied.before.before.before in
-    subst (Summable s.args.n) (sym copied.copy.ensures) (summable s.args.n s.args.values.now s.args.work.now s.args.table.now s.requires)
+    subst (Summable c.args.n) (sym c.copy.ensures) (summable c.args.n c.args.values.now c.args.work.now c.args.table.now c.requires)
 
 -- the second array holds the transform of the values
 is_transformed : (c : tie.After-transform) →
-    let s = c.before.before.before.before.before.before in
-    c.transform.new.1.0 ≡ list_below (2 ^ s.args.n) (λ x. transform s.args.n (value_at s.args.values.now) x)
+    c.transform.new.values ≡ list_below (2 ^ c.args.n) (λ x. transform c.args.n (value_at c.args.values.now) x)
 is_transformed c =
-    let copied = c.before.before.before in
-    let n = copied.before.before.before.args.n in
-    c.transform.ensures ∙ ap (λ (l : List ℤ). list_below (2 ^ n) (λ x. transform n (value_at l) x)) copied.copy.ensures
+    let n = c.args.n in
+    c.transform.ensures ∙ ap (λ (l : List ℤ). list_below (2 ^ n) (λ x. transform n (value_at l) x)) c.copy.ensures
 
-cast_all_full : tie.Need-overflow-cast-all-full
+cast_all_full : tie.Need-overflow_cast-power_of_two
 cast_all_full c =
-    let s = c.before.before.before.before.before.before.before.before.before in
-    omega (arith, c.power_of_two.ensures.0, pow_mono {i = s.args.n - 1} {j = 8} (omega (arith, s.requires.few)))
+    omega (arith, c.power_of_two.ensures.0, pow_mono {i = c.args.n - 1} {j = 8} (omega (arith, c.requires.few)))
 
 -- the test is whether a function has the values
-decided : (c : tie.After-all-full) →
-    let s = c.before.before.before.before.before.before.before.before.before.before in
-    c.all_full.result ≡ is_spectrum s.args.n s.args.values.now
+decided : (c : tie.After-all_full) →
+    c.all_full.result ≡ is_spectrum c.args.n c.args.values.now
 decided c =
-    let power = c.before.power_of_two in
-    let after = c.before.before.before.before in
-    let s = after.before.before.before.before.before.before in
-    c.all_full.ensures ∙ ap (every (λ v. eqb (nat_abs v) power.result)) (is_transformed after)
-    ∙ full_test s.args.n s.args.values.now s.requires.low s.requires.size power.result power.ensures.0
+    let power = c.power_of_two in
+    c.all_full.ensures ∙ ap (every (λ v. eqb (nat_abs v) power.result)) (is_transformed c.before.before.before)
+    ∙ full_test c.args.n c.args.values.now c.requires.low c.requires.size power.result power.ensures.0
 
-returns : tie.Need-returns
+returns : tie.Need-returns-then-not-all_full
 returns c =
-    let after = c.before.before.before.before.before in
-    let s = after.before.before.before.before.before.before in
-    let h = no_function_found s.args.n s.args.values.now (fails (decided c.before) c.if1.true) in
-    (wrote_refused h, is_transformed after)
+    let h = no_function_found c.args.n c.args.values.now (fails (decided c.before) c.if-not-all_full.true-raw) in
+    (wrote_refused h, is_transformed c.before.before.before.before)
 
-returns-2 : tie.Need-returns-2
+returns-2 : tie.Need-returns
 returns-2 c =
-    let signs = c.before.before in
-    let else = signs.before.before.before in
-    let after = else.before.before.before.before.before in
-    let s = after.before.before.before.before.before.before in
-    let h = function_found s.args.n s.args.values.now (holds (decided else.before) else.if1.false) in (
+    let h = function_found c.args.n c.args.values.now (holds (decided c.before.before.before.before.before) c.if-not-all_full.false-raw) in (
       wrote_accepted h
-          (signs.write_signs.ensures ∙ ap (λ (l : List ℤ). list_below (length l) (λ x. sign_bit (value_at l x))) (is_transformed after)
-          ∙ signs_are s.args.n s.args.values.now s.requires.low s.requires.size),
-      is_transformed after,
+          (c.write_signs.ensures ∙ ap (λ (l : List ℤ). list_below (length l) (λ x. sign_bit (value_at l x))) (is_transformed c.before.before.before.before.before.before.before.before)
+          ∙ signs_are c.args.n c.args.values.now c.requires.low c.requires.size),
+      is_transformed c.before.before.before.before.before.before.before.before,
     )
 
 pub invert_spec : {M : Type 1} → statement M

@@ -13,42 +13,41 @@ use Rattle.boolean.proofs.Words.{word_told}
 use Rattle.walsh.proofs.largest_magnitude.Statement.{statement}
 use Rattle.walsh.proofs.largest_magnitude.Tie as tie
 
-abbrev invariant-loop : tie.invariant-loop
-invariant-loop values largest₀ w₀ largest w = (w ≤ length values) × (largest ≡ largest_below w (λ w. nat_abs (value_at values w)))
+abbrev invariant-loop-w : tie.invariant-loop-w
+invariant-loop-w values largest₀ w₀ largest w = (w ≤ length values) × (largest ≡ largest_below w (λ w. nat_abs (value_at values w)))
 
-abbrev decreases-loop : tie.decreases-loop
-decreases-loop values largest₀ w₀ largest w = length values - w
+abbrev decreases-loop-w : tie.decreases-loop-w
+decreases-loop-w values largest₀ w₀ largest w = length values - w
 
-loop-holds : tie.Need-loop-init invariant-loop decreases-loop
+loop-holds : tie.Need-loop-w-init invariant-loop-w decreases-loop-w
 unfolding largest_below
 loop-holds c = (zero-le, refl)
 
 -- the value that is read, and its magnitude
-abbrev value : tie.After-magnitude invariant-loop decreases-loop → ℤ
-value c = let at_loop = c.before.before.before in value_at at_loop.before.args.values.now at_loop.loop.w
+abbrev value : tie.After-magnitude-size invariant-loop-w decreases-loop-w → ℤ
+value c = value_at c.args.values.now c.loop-w.w
 
-read : (c : tie.After-magnitude invariant-loop decreases-loop) → c.magnitude.result ≡ nat_abs (value c)
-read c = c.magnitude.ensures ∙ ap nat_abs (word_told (value c) c.before.magnitude_arg.given)
+read : (c : tie.After-magnitude-size invariant-loop-w decreases-loop-w) → c.magnitude-size.result ≡ nat_abs (value c)
+read c = c.magnitude-size.ensures ∙ ap nat_abs (word_told (value c) c.magnitude-arg-1.given)
 
-loop-again : tie.Need-loop-preserved invariant-loop decreases-loop
+loop-again : tie.Need-loop-w-preserved invariant-loop-w decreases-loop-w
 loop-again c =
-    let at_loop = c.before.before.before.before in
-    let values = at_loop.before.args.values.now in
+    let values = c.args.values.now in
     let sizes : ℕ → ℕ = λ w. nat_abs (value_at values w) in
-    let so_far = at_loop.loop.invariant.1 in (
+    let so_far = c.loop-w.invariant.1 in (
       omega arith,
-      ⊎_elim (λ t. t.1 ∙ read c.before ∙ largest_takes at_loop.loop.w sizes so_far (omega (arith, read c.before, t.0.taken)))
-          (λ t. t.1 ∙ largest_keeps at_loop.loop.w sizes so_far (omega (arith, read c.before, t.0.left))) c.if1.branch,
+      ⊎_elim (λ t. t.largest-is ∙ read c.before ∙ largest_takes c.loop-w.w sizes so_far (omega (arith, read c.before, t.if-largest-size.true)))
+          (λ t. t.largest-is ∙ largest_keeps c.loop-w.w sizes so_far (omega (arith, read c.before, t.if-largest-size.false))) c.if-largest-size.branch-raw,
     )
 
-returns : tie.Need-returns invariant-loop decreases-loop
+returns : tie.Need-returns invariant-loop-w decreases-loop-w
 returns c =
-    let values = c.before.before.args.values.now in
-    let end : c.before.loop.w ≡ length values = omega (arith, c.before.loop.invariant.0, c.loop-test.false) in
-    c.before.loop.invariant.1 ∙ ap (λ (k : ℕ). largest_below k (λ w. nat_abs (value_at values w))) end
+    let values = c.args.values.now in
+    let end : c.loop-w.w ≡ length values = omega (arith, c.loop-w.invariant.0, c.loop-w-test.false) in
+    c.loop-w.invariant.1 ∙ ap (λ (k : ℕ). largest_below k (λ w. nat_abs (value_at values w))) end
 
 pub largest_magnitude_spec : {M : Type 1} → statement M
 largest_magnitude_spec =
     tie.close
-    (tie.spec invariant-loop decreases-loop loop-holds (λ c. search rules) (λ c. search rules) (λ c κs. search rules) (λ c. search rules)
+    (tie.spec invariant-loop-w decreases-loop-w loop-holds (λ c. search rules) (λ c. search rules) (λ c κs. search rules) (λ c. search rules)
     (λ c. search rules) loop-again returns)

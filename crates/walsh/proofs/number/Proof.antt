@@ -8,26 +8,24 @@ use Rattle.walsh.proofs.number.Statement.{statement}
 use Rattle.walsh.proofs.number.Tie as tie
 
 -- neither number is above four ones
-small : (c : tie.After-four-bytes2) → (c.before.four_bytes.result ≤ 16843009) × (c.four_bytes2.result ≤ 16843009)
+small : (c : tie.After-four_bytes-2) → (c.four_bytes.result ≤ 16843009) × (c.four_bytes-2.result ≤ 16843009)
 small c =
-    let start = c.before.before.before in
-    let table = start.args.table.now in
-    (omega (arith, bytes_small table start.requires.bits 0), omega (arith, bytes_small table start.requires.bits 4))
+    let table = c.args.table.now in
+    (omega (arith, bytes_small table c.requires.bits 0), omega (arith, bytes_small table c.requires.bits 4))
 
-mul_both : tie.Need-overflow-mul-both
+mul_both : tie.Need-overflow_mul-both
 mul_both c = omega (arith, (small c).1)
 
-add_both : tie.Need-overflow-add-both
+add_both : tie.Need-overflow_add-both
 add_both c = omega (arith, (small c).0, (small c).1)
 
-mul_result : tie.Need-overflow-mul-result
+mul_result : tie.Need-overflow_mul-result
 mul_result c = omega (arith, (small c).0, (small c).1)
 
 returns : tie.Need-returns
 returns c =
-    let start = c.before.before.before in
-    number_is start.args.table.now start.requires.bits _
-    (ap₂ (λ (a b : ℕ). (a + 16 * b) * 16909320 / 16777216 % 256) c.before.four_bytes.ensures c.four_bytes2.ensures)
+    number_is c.args.table.now c.requires.bits _
+    (ap₂ (λ (a b : ℕ). (a + 16 * b) * 16909320 / 16777216 % 256) c.four_bytes.ensures c.four_bytes-2.ensures)
 
 pub number_spec : {M : Type 1} → statement M
 number_spec =

@@ -14,9 +14,9 @@ use Rattle.walsh.specs.Work.{Ready}
 use Rattle.walsh.proofs.spectrum.Statement.{statement}
 use Rattle.walsh.proofs.spectrum.Tie as tie
 
-returns : tie.Need-returns
+returns : tie.Need-returns-in-Refused
 returns c =
-    wrote_refused (sym c.before.before.before.check_table_call.ensures ∙ c.before.e.given.1)
+    wrote_refused (sym c.check_table_call.ensures ∙ c.in-Refused.is)
 
 -- accepted: the table is one, and the array is as long
 ready : (n : ℕ) (table : List ℕ) (out : List ℤ) → first (table_call_checks n table (length out)) ≡ Accepted → Ready n table out
@@ -26,21 +26,19 @@ ready n values out h = record {
   room = eqb-true (length out) (2 ^ n) (passed _ (accepted_after (table_checks n values) _ h)).0;
 }
 
-accepted : (c : tie.After-enum-told) →
-    let a = c.before.before.before.before.args in
+accepted : (c : tie.In_default) →
+    let a = c.args in
     first (table_call_checks a.n a.table.now (length a.out.now)) ≡ Accepted
-accepted c = sym c.before.before.check_table_call.ensures ∙ c.enum_told.given.1
+accepted c = sym c.check_table_call.ensures ∙ c.in_default.is
 
 descend_requires : tie.Need-descend-requires
 descend_requires c κs =
-    let told = c.before.before.before in
-    let a = told.before.before.before.before.args in
-    (ready a.n a.table.now a.out.now (accepted told), c.before.before.spectra.ensures)
+    let a = c.args in
+    (ready a.n a.table.now a.out.now (accepted c.before.before.before), c.spectra-fixed.ensures)
 
-returns-2 : tie.Need-returns-2
+returns-2 : tie.Need-returns
 returns-2 c =
-    let p = c.before in
-    wrote_accepted (accepted p.before.before.before.before) p.descend.ensures
+    wrote_accepted (accepted c.before.before.before.before.before) c.descend.ensures
 
 pub spectrum_spec : {M : Type 1} → statement M
 spectrum_spec =

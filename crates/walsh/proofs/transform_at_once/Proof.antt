@@ -22,59 +22,42 @@ asked n k values e = subst (λ (k : ℕ). Summable k values) e
 made : (n k : ℕ) (values after : List ℤ) → n ≡ k → Made k values after → Made n values after
 made n k values after e = subst (λ (k : ℕ). Made k values after) (sym e)
 
-transform_of_sixteen_requires : tie.Need-transform-of-sixteen-requires
+transform_of_sixteen_requires : tie.Need-transform_of_sixteen-requires
 transform_of_sixteen_requires c κs =
-    let e = c.before in
-    let s = e.before in
-    asked s.args.n 4 s.args.values.now e.if1.true s.requires.1
+    asked c.args.n 4 c.args.values.now c.if-n-eq4.true c.requires.1
 
-transform_of_eight_requires : tie.Need-transform-of-eight-requires
+transform_of_eight_requires : tie.Need-transform_of_eight-requires
 transform_of_eight_requires c κs =
-    let e = c.before in
-    let s = e.before.before in
-    asked s.args.n 3 s.args.values.now e.if2.true s.requires.1
+    asked c.args.n 3 c.args.values.now c.if-n-eq3.true c.requires.1
 
-transform_of_four_requires : tie.Need-transform-of-four-requires
+transform_of_four_requires : tie.Need-transform_of_four-requires
 transform_of_four_requires c κs =
-    let e = c.before in
-    let s = e.before.before.before in
-    asked s.args.n 2 s.args.values.now e.if3.true s.requires.1
+    asked c.args.n 2 c.args.values.now c.if-n-eq2.true c.requires.1
 
-transform_of_two_requires : tie.Need-transform-of-two-requires
+transform_of_two_requires : tie.Need-transform_of_two-requires
 transform_of_two_requires c κs =
-    let e = c.before in
-    let s = e.before.before.before.before in
-    asked s.args.n 1 s.args.values.now e.if4.true s.requires.1
+    asked c.args.n 1 c.args.values.now c.if-n-eq1.true c.requires.1
 
-returns : tie.Need-returns
+returns : tie.Need-returns-then-n-eq4
 returns c =
-    let e = c.before.before.before in
-    let s = e.before in
-    made s.args.n 4 s.args.values.now c.before.transform_of_sixteen.new.0 e.if1.true c.before.transform_of_sixteen.ensures
+    made c.args.n 4 c.args.values.now c.transform_of_sixteen.new.values c.if-n-eq4.true c.transform_of_sixteen.ensures
 
-returns-2 : tie.Need-returns-2
+returns-2 : tie.Need-returns-then-n-eq3
 returns-2 c =
-    let e = c.before.before.before in
-    let s = e.before.before in
-    made s.args.n 3 s.args.values.now c.before.transform_of_eight.new.0 e.if2.true c.before.transform_of_eight.ensures
+    made c.args.n 3 c.args.values.now c.transform_of_eight.new.values c.if-n-eq3.true c.transform_of_eight.ensures
 
-returns-3 : tie.Need-returns-3
+returns-3 : tie.Need-returns-then-n-eq2
 returns-3 c =
-    let e = c.before.before.before in
-    let s = e.before.before.before in
-    made s.args.n 2 s.args.values.now c.before.transform_of_four.new.0 e.if3.true c.before.transform_of_four.ensures
+    made c.args.n 2 c.args.values.now c.transform_of_four.new.values c.if-n-eq2.true c.transform_of_four.ensures
 
-returns-4 : tie.Need-returns-4
+returns-4 : tie.Need-returns-then-n-eq1
 returns-4 c =
-    let e = c.before.before.before in
-    let s = e.before.before.before.before in
-    made s.args.n 1 s.args.values.now c.before.transform_of_two.new.0 e.if4.true c.before.transform_of_two.ensures
+    made c.args.n 1 c.args.values.now c.transform_of_two.new.values c.if-n-eq1.true c.transform_of_two.ensures
 
-returns-5 : tie.Need-returns-5
+returns-5 : tie.Need-returns-else-n-eq1
 returns-5 c =
-    let s = c.before.before.before.before in
-    let none : s.args.n ≡ 0 = omega (arith, s.requires.0, c.before.before.before.if1.false, c.before.before.if2.false, c.before.if3.false, c.if4.false) in
-    one_value s.args.n s.args.values.now s.requires.1 none
+    let none : c.args.n ≡ 0 = omega (arith, c.requires.0, c.if-n-eq4.false, c.if-n-eq3.false, c.if-n-eq2.false, c.if-n-eq1.false) in
+    one_value c.args.n c.args.values.now c.requires.1 none
 
 pub transform_at_once_spec : {M : Type 1} → statement M
 transform_at_once_spec =

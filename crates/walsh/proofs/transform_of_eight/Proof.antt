@@ -11,34 +11,26 @@ use Rattle.walsh.proofs.transform_of_eight.Tie as tie
 some : ◌≡◌ {A = ℕ} 3 0 → ⊥
 some e = omega arith
 
-slice_aggregate_transform_of_four : tie.Need-slice-aggregate-transform-of-four
-slice_aggregate_transform_of_four c = halves.lower_length 3 4 c.before.args.values.now c.before.requires some refl
+slice_aggregate_transform_of_four : tie.Need-slice_bounds-transform_of_four-end-2
+slice_aggregate_transform_of_four c = halves.lower_length 3 4 c.args.values.now c.requires some refl
 
-transform_of_four_requires : tie.Need-transform-of-four-requires
-transform_of_four_requires c κs = halves.lower_summable 3 4 c.before.args.values.now c.before.requires some refl
+transform_of_four_requires : tie.Need-transform_of_four-requires
+transform_of_four_requires c κs = halves.lower_summable 3 4 c.args.values.now c.requires some refl
 
-transform_of_four_requires_2 : tie.Need-transform-of-four-requires-2
+transform_of_four_requires_2 : tie.Need-transform_of_four-requires-2
 transform_of_four_requires_2 c κs =
-    let first = c.before.before in
-    let s = first.before.before in
-    halves.upper_summable 3 4 s.args.values.now s.requires some refl first.transform_of_four.new.0 first.transform_of_four.ensures
+    halves.upper_summable 3 4 c.args.values.now c.requires some refl c.transform_of_four.new.values c.transform_of_four.ensures
 
 butterfly_requires : tie.Need-butterfly-requires
 butterfly_requires c κs =
-    let second = c.before.before in
-    let first = second.before.before.before in
-    let s = first.before.before in
-    halves.crossing 3 4 s.args.values.now s.requires some refl
-    first.transform_of_four.new.0 first.transform_of_four.ensures second.transform_of_four2.new.0 second.transform_of_four2.ensures
+    halves.crossing 3 4 c.args.values.now c.requires some refl
+    c.transform_of_four.new.values c.transform_of_four.ensures c.transform_of_four-2.new.values c.transform_of_four-2.ensures
 
 returns : tie.Need-returns
 returns c =
-    let second = c.before.before.before.before in
-    let first = second.before.before.before in
-    let s = first.before.before in
-    halves.right 3 4 s.args.values.now s.requires some refl
-    first.transform_of_four.new.0 first.transform_of_four.ensures second.transform_of_four2.new.0 second.transform_of_four2.ensures
-    c.before.butterfly.new.0 c.before.butterfly.auto.0 c.before.butterfly.ensures
+    halves.right 3 4 c.args.values.now c.requires some refl
+    c.transform_of_four.new.values c.transform_of_four.ensures c.transform_of_four-2.new.values c.transform_of_four-2.ensures
+    c.butterfly.new.values c.butterfly.auto.values c.butterfly.ensures
 
 pub transform_of_eight_spec : {M : Type 1} → statement M
 transform_of_eight_spec =

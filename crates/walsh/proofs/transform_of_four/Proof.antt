@@ -11,34 +11,26 @@ use Rattle.walsh.proofs.transform_of_four.Tie as tie
 some : ◌≡◌ {A = ℕ} 2 0 → ⊥
 some e = omega arith
 
-slice_aggregate_transform_of_two : tie.Need-slice-aggregate-transform-of-two
-slice_aggregate_transform_of_two c = halves.lower_length 2 2 c.before.args.values.now c.before.requires some refl
+slice_aggregate_transform_of_two : tie.Need-slice_bounds-transform_of_two-end-2
+slice_aggregate_transform_of_two c = halves.lower_length 2 2 c.args.values.now c.requires some refl
 
-transform_of_two_requires : tie.Need-transform-of-two-requires
-transform_of_two_requires c κs = halves.lower_summable 2 2 c.before.args.values.now c.before.requires some refl
+transform_of_two_requires : tie.Need-transform_of_two-requires
+transform_of_two_requires c κs = halves.lower_summable 2 2 c.args.values.now c.requires some refl
 
-transform_of_two_requires_2 : tie.Need-transform-of-two-requires-2
+transform_of_two_requires_2 : tie.Need-transform_of_two-requires-2
 transform_of_two_requires_2 c κs =
-    let first = c.before.before in
-    let s = first.before.before in
-    halves.upper_summable 2 2 s.args.values.now s.requires some refl first.transform_of_two.new.0 first.transform_of_two.ensures
+    halves.upper_summable 2 2 c.args.values.now c.requires some refl c.transform_of_two.new.values c.transform_of_two.ensures
 
 butterfly_requires : tie.Need-butterfly-requires
 butterfly_requires c κs =
-    let second = c.before.before in
-    let first = second.before.before.before in
-    let s = first.before.before in
-    halves.crossing 2 2 s.args.values.now s.requires some refl
-    first.transform_of_two.new.0 first.transform_of_two.ensures second.transform_of_two2.new.0 second.transform_of_two2.ensures
+    halves.crossing 2 2 c.args.values.now c.requires some refl
+    c.transform_of_two.new.values c.transform_of_two.ensures c.transform_of_two-2.new.values c.transform_of_two-2.ensures
 
 returns : tie.Need-returns
 returns c =
-    let second = c.before.before.before.before in
-    let first = second.before.before.before in
-    let s = first.before.before in
-    halves.right 2 2 s.args.values.now s.requires some refl
-    first.transform_of_two.new.0 first.transform_of_two.ensures second.transform_of_two2.new.0 second.transform_of_two2.ensures
-    c.before.butterfly.new.0 c.before.butterfly.auto.0 c.before.butterfly.ensures
+    halves.right 2 2 c.args.values.now c.requires some refl
+    c.transform_of_two.new.values c.transform_of_two.ensures c.transform_of_two-2.new.values c.transform_of_two-2.ensures
+    c.butterfly.new.values c.butterfly.auto.values c.butterfly.ensures
 
 pub transform_of_four_spec : {M : Type 1} → statement M
 transform_of_four_spec =

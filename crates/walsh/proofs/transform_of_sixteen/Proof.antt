@@ -11,34 +11,26 @@ use Rattle.walsh.proofs.transform_of_sixteen.Tie as tie
 some : ◌≡◌ {A = ℕ} 4 0 → ⊥
 some e = omega arith
 
-slice_aggregate_transform_of_eight : tie.Need-slice-aggregate-transform-of-eight
-slice_aggregate_transform_of_eight c = halves.lower_length 4 8 c.before.args.values.now c.before.requires some refl
+slice_aggregate_transform_of_eight : tie.Need-slice_bounds-transform_of_eight-end-2
+slice_aggregate_transform_of_eight c = halves.lower_length 4 8 c.args.values.now c.requires some refl
 
-transform_of_eight_requires : tie.Need-transform-of-eight-requires
-transform_of_eight_requires c κs = halves.lower_summable 4 8 c.before.args.values.now c.before.requires some refl
+transform_of_eight_requires : tie.Need-transform_of_eight-requires
+transform_of_eight_requires c κs = halves.lower_summable 4 8 c.args.values.now c.requires some refl
 
-transform_of_eight_requires_2 : tie.Need-transform-of-eight-requires-2
+transform_of_eight_requires_2 : tie.Need-transform_of_eight-requires-2
 transform_of_eight_requires_2 c κs =
-    let first = c.before.before in
-    let s = first.before.before in
-    halves.upper_summable 4 8 s.args.values.now s.requires some refl first.transform_of_eight.new.0 first.transform_of_eight.ensures
+    halves.upper_summable 4 8 c.args.values.now c.requires some refl c.transform_of_eight.new.values c.transform_of_eight.ensures
 
 butterfly_requires : tie.Need-butterfly-requires
 butterfly_requires c κs =
-    let second = c.before.before in
-    let first = second.before.before.before in
-    let s = first.before.before in
-    halves.crossing 4 8 s.args.values.now s.requires some refl
-    first.transform_of_eight.new.0 first.transform_of_eight.ensures second.transform_of_eight2.new.0 second.transform_of_eight2.ensures
+    halves.crossing 4 8 c.args.values.now c.requires some refl
+    c.transform_of_eight.new.values c.transform_of_eight.ensures c.transform_of_eight-2.new.values c.transform_of_eight-2.ensures
 
 returns : tie.Need-returns
 returns c =
-    let second = c.before.before.before.before in
-    let first = second.before.before.before in
-    let s = first.before.before in
-    halves.right 4 8 s.args.values.now s.requires some refl
-    first.transform_of_eight.new.0 first.transform_of_eight.ensures second.transform_of_eight2.new.0 second.transform_of_eight2.ensures
-    c.before.butterfly.new.0 c.before.butterfly.auto.0 c.before.butterfly.ensures
+    halves.right 4 8 c.args.values.now c.requires some refl
+    c.transform_of_eight.new.values c.transform_of_eight.ensures c.transform_of_eight-2.new.values c.transform_of_eight-2.ensures
+    c.butterfly.new.values c.butterfly.auto.values c.butterfly.ensures
 
 pub transform_of_sixteen_spec : {M : Type 1} → statement M
 transform_of_sixteen_spec =

@@ -5,12 +5,11 @@ use Rattle.walsh.proofs.transform_of_two.Statement.{statement}
 use Rattle.walsh.proofs.transform_of_two.Tie as tie
 
 butterfly_requires : tie.Need-butterfly-requires
-butterfly_requires c κs = two_halves c.before.args.values.now c.before.requires
+butterfly_requires c κs = two_halves c.args.values.now c.requires
 
 returns : tie.Need-returns
 returns c =
-    let s = c.before.before.before in
-    two_values s.args.values.now c.before.butterfly.new.0 s.requires c.before.butterfly.auto.0 c.before.butterfly.ensures
+    two_values c.args.values.now c.butterfly.new.values c.requires c.butterfly.auto.values c.butterfly.ensures
 
 pub transform_of_two_spec : {M : Type 1} → statement M
 transform_of_two_spec = tie.close (tie.spec butterfly_requires (λ c. search rules) returns)

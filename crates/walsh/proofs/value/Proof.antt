@@ -21,52 +21,50 @@ use Rattle.walsh.proofs.value.Tie as tie
 abbrev equal : List ℕ → ℕ → ℕ → Bool
 equal table w x = eqb (at table x) (dot w x)
 
-abbrev invariant-loop : tie.invariant-loop
-invariant-loop table w size count₀ x₀ count x = (size ≡ length table) × Counted (length table) (equal table w) x count
+abbrev invariant-loop-x : tie.invariant-loop-x
+invariant-loop-x table w size count₀ x₀ count x = (size ≡ length table) × Counted (length table) (equal table w) x count
 
-abbrev decreases-loop : tie.decreases-loop
-decreases-loop table w size count₀ x₀ count x = size - x
+abbrev decreases-loop-x : tie.decreases-loop-x
+decreases-loop-x table w size count₀ x₀ count x = size - x
 
-loop-holds : tie.Need-loop-init invariant-loop decreases-loop
+loop-holds : tie.Need-loop-x-init invariant-loop-x decreases-loop-x
 loop-holds c = (refl, counted_none _ _)
 
-cast_if1_2 : tie.Need-overflow-cast-if1-2 invariant-loop decreases-loop
-cast_if1_2 c = omega (arith, c.shared_slice_known2.given c.before.before.loop.x)
+cast_if1_2 : tie.Need-overflow_cast-table invariant-loop-x decreases-loop-x
+cast_if1_2 c = omega (arith, c.shared_slice_known-in-loop-x-1.given c.loop-x.x)
 
-add_count : tie.Need-overflow-add-count invariant-loop decreases-loop
-add_count c = omega (arith, counted_le _ _ c.before.before.before.before.loop.invariant.1)
+add_count : tie.Need-overflow_add-count invariant-loop-x decreases-loop-x
+add_count c = omega (arith, counted_le _ _ c.loop-x.invariant.1)
 
-loop-again : tie.Need-loop-preserved invariant-loop decreases-loop
+loop-again : tie.Need-loop-x-preserved invariant-loop-x decreases-loop-x
 loop-again c =
-    let so_far = c.before.before.before.before.loop.invariant in
-    let inside = c.before.before.before.loop-test.true in
-    let called = c.before.dot.ensures.0 in (
+    let so_far = c.loop-x.invariant in
+    let inside = c.loop-x-test.true in
+    let called = c.dot.ensures.0 in (
       so_far.0,
-      ⊎_elim (λ t. rw t.1 (counted_hit _ _ so_far.1 inside (eq-eqb _ _ (t.0.taken ∙ called))))
-          (λ t. rw t.1 (counted_miss _ _ so_far.1 inside (ne_eqb _ _ (λ e. t.0.left (e ∙ sym called))))) c.if1.branch,
+      ⊎_elim (λ t. rw t.count-is (counted_hit _ _ so_far.1 inside (eq-eqb _ _ (t.if-table-x.true ∙ called))))
+          (λ t. rw t.count-is (counted_miss _ _ so_far.1 inside (ne_eqb _ _ (λ e. t.if-table-x.false (e ∙ sym called))))) c.if-table-x.branch-raw,
     )
 
 -- the count is a small number
-few : (c : tie.At-loop invariant-loop decreases-loop) → c.loop.count ≤ 256
-few c = omega (arith, counted_le _ _ c.loop.invariant.1, c.loop.invariant.1.within, c.before.before.requires)
+few : (c : tie.At-loop-x invariant-loop-x decreases-loop-x) → c.loop-x.count ≤ 256
+few c = omega (arith, counted_le _ _ c.loop-x.invariant.1, c.loop-x.invariant.1.within, c.requires)
 
-cast_result : tie.Need-overflow-cast-result invariant-loop decreases-loop
-cast_result c = fits_word (pos c.before.loop.count) (omega (arith, few c.before))
+cast_result : tie.Need-overflow_cast-result invariant-loop-x decreases-loop-x
+cast_result c = fits_word (pos c.loop-x.count) (omega (arith, few c.before))
 
-sub_result : tie.Need-overflow-sub-result invariant-loop decreases-loop
+sub_result : tie.Need-overflow_sub-result invariant-loop-x decreases-loop-x
 sub_result c =
-    let start = c.before.before.before in
-    difference_fits (pos c.before.loop.count) (pos (length start.args.table.now / 2)) (omega (arith, few c.before)) (omega (arith, start.requires))
+    difference_fits (pos c.loop-x.count) (pos (length c.args.table.now / 2)) (omega (arith, few c.before)) (omega (arith, c.requires))
 
-returns : tie.Need-returns invariant-loop decreases-loop
+returns : tie.Need-returns invariant-loop-x decreases-loop-x
 returns c =
-    let start = c.before.before.before in
-    let size = length start.args.table.now in
-    difference_stored (pos c.before.loop.count) (pos (size / 2)) (omega (arith, few c.before)) (omega (arith, start.requires))
-    ∙ ap (λ (k : ℕ). pos k -ℤ pos (size / 2)) (counted_all _ _ c.before.loop.invariant.1 c.loop-test.false)
+    let size = length c.args.table.now in
+    difference_stored (pos c.loop-x.count) (pos (size / 2)) (omega (arith, few c.before)) (omega (arith, c.requires))
+    ∙ ap (λ (k : ℕ). pos k -ℤ pos (size / 2)) (counted_all _ _ c.loop-x.invariant.1 c.loop-x-test.false)
 
 pub value_spec : {M : Type 1} → statement M
 value_spec =
     tie.close
-    (tie.spec invariant-loop decreases-loop (λ c. search rules) loop-holds (λ c. search rules) (λ c. search rules) cast_if1_2 (λ c κs. search rules)
+    (tie.spec invariant-loop-x decreases-loop-x (λ c. search rules) loop-holds (λ c. search rules) (λ c. search rules) cast_if1_2 (λ c κs. search rules)
     add_count (λ c. search rules) (λ c. search rules) loop-again cast_result (λ c. search rules) sub_result returns)

@@ -9,32 +9,31 @@ use Rattle.boolean.proofs.Words.{word_told}
 use Rattle.walsh.proofs.write_signs.Statement.{statement}
 use Rattle.walsh.proofs.write_signs.Tie as tie
 
-abbrev invariant-loop : tie.invariant-loop
-invariant-loop values table₀ x₀ table x = Filled 0 (λ k. sign_bit (value_at values k)) (length values) x table
+abbrev invariant-loop-x : tie.invariant-loop-x
+invariant-loop-x values table₀ x₀ table x = Filled 0 (λ k. sign_bit (value_at values k)) (length values) x table
 
-abbrev decreases-loop : tie.decreases-loop
-decreases-loop values table₀ x₀ table x = length values - x
+abbrev decreases-loop-x : tie.decreases-loop-x
+decreases-loop-x values table₀ x₀ table x = length values - x
 
-loop-holds : tie.Need-loop-init invariant-loop decreases-loop
-loop-holds c = filled_none 0 _ _ c.before.args.table.now c.before.requires
+loop-holds : tie.Need-loop-x-init invariant-loop-x decreases-loop-x
+loop-holds c = filled_none 0 _ _ c.args.table.now c.requires
 
-loop-again : tie.Need-loop-preserved invariant-loop decreases-loop
+loop-again : tie.Need-loop-x-preserved invariant-loop-x decreases-loop-x
 loop-again c =
-    let at_loop = c.before.before.before in
-    let values = at_loop.before.before.args.values.now in
-    filled_more 0 (λ k. sign_bit (value_at values k)) _ at_loop.loop.x at_loop.loop.table at_loop.loop.invariant
-    c.before.before.loop-test.true c.sign_bit.result (c.sign_bit.ensures ∙ ap sign_bit (word_told _ c.before.sign_bit_arg.given))
+    let values = c.args.values.now in
+    filled_more 0 (λ k. sign_bit (value_at values k)) _ c.loop-x.x c.loop-x.table c.loop-x.invariant
+    c.loop-x-test.true c.sign_bit.result (c.sign_bit.ensures ∙ ap sign_bit (word_told _ c.sign_bit-arg-1.given))
 
-same_length : tie.Need-same-length invariant-loop decreases-loop
-same_length c = c.before.loop.invariant.long ∙ sym c.before.before.before.requires
+same_length : tie.Need-shape_of-table invariant-loop-x decreases-loop-x
+same_length c = c.loop-x.invariant.long ∙ sym c.requires
 
-returns : tie.Need-returns invariant-loop decreases-loop
+returns : tie.Need-returns invariant-loop-x decreases-loop-x
 returns c =
-    filled_whole 0 (λ k. sign_bit (value_at c.before.before.before.args.values.now k)) _ c.before.loop.x c.before.loop.table
-    c.before.loop.invariant c.loop-test.false
+    filled_whole 0 (λ k. sign_bit (value_at c.args.values.now k)) _ c.loop-x.x c.loop-x.table
+    c.loop-x.invariant c.loop-x-test.false
 
 pub write_signs_spec : {M : Type 1} → statement M
 write_signs_spec =
     tie.close
-    (tie.spec invariant-loop decreases-loop loop-holds (λ c. search rules) (λ c. search rules) (λ c κs. search rules) (λ c. search rules)
+    (tie.spec invariant-loop-x decreases-loop-x loop-holds (λ c. search rules) (λ c. search rules) (λ c κs. search rules) (λ c. search rules)
     (λ c. search rules) (λ c. search rules) loop-again same_length returns)

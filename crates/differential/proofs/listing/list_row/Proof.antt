@@ -12,41 +12,38 @@ use borrow.Author.Rules.{rules}
 use Rattle.differential.proofs.listing.list_row.Statement.{statement}
 use Rattle.differential.proofs.listing.list_row.Tie as tie
 
-returns : tie.Need-returns
+returns : tie.Need-returns-then-row-largest
 returns c =
-    let start = c.before.before.before.before in
-    let a = start.args in
-    let none = measured_other start.requires.0 _ start.requires.3 start.requires.1 start.requires.2 c.if1.true in
+    let a = c.args in
+    let none = measured_other c.requires.0 _ c.requires.3 c.requires.1 c.requires.2 c.if-row-largest.true in
     (omega (arith, ap length none), ap (sets a.list.now a.start) (sym none))
 
 -- the one entry that is written
-one : (c : tie.Then2) →
-    let a = c.before.before.before.before.before.before.args in
+one : (c : tie.Then-row-eq1) →
+    let a = c.args in
     row_cells a.n a.m a.rows.now a.a ≡ (a.a * 4294967296 + (4294967295 - a.row.standing % 4294967296)) ∷ []
 one c =
-    let start = c.before.before.before.before.before.before in
-    measured_one start.requires.0 start.requires.2 start.requires.3 c.before.before.if1.false c.if2.true
+    measured_one c.requires.0 c.requires.2 c.requires.3 c.if-row-largest.false c.if-row-eq1.true
 
-slice_write_list : tie.Need-slice-write-list
-slice_write_list c = let h = c.before.before.before.before.before.before.before.requires.4 in omega (arith, ap length (one c.before))
+slice_write_list : tie.Need-bounds-list-start
+slice_write_list c = let h = c.requires.4 in omega (arith, ap length (one c.before))
 
-returns-2 : tie.Need-returns-2
+returns-2 : tie.Need-returns-then-row-eq1
 returns-2 c =
-    let a = c.before.before.before.before.before.before.before.args in
+    let a = c.args in
     (omega (arith, ap length (one c.before)), ap (sets a.list.now a.start) (sym (one c.before)))
 
 -- a box has at most 256 rows, so there is room for its pairs
-half_small : (c : tie.After-pairs) → length c.before.before.before.before.before.before.before.args.rows.now / 2 ≤ 128
-half_small c = omega (arith, c.before.before.before.before.before.before.before.requires.0.small)
+half_small : (c : tie.After-pairs-1) → length c.args.rows.now / 2 ≤ 128
+half_small c = omega (arith, c.requires.0.small)
 
-slice_aggregate_list_several : tie.Need-slice-aggregate-list-several
+slice_aggregate_list_several : tie.Need-slice_bounds-list_several-end
 slice_aggregate_list_several c = sym (length-take-le _ (replicate 128 0) (half_small c))
 
-list_several_requires : tie.Need-list-several-requires
+list_several_requires : tie.Need-list_several-requires
 list_several_requires c κs =
-    let start = c.before.before.before.before.before.before.before.before in
-    let box = start.requires.0 in
-    (box, start.requires.1, start.requires.3, half_room box (replicate 128 0) (half_small c.before), start.requires.4)
+    let box = c.requires.0 in
+    (box, c.requires.1, c.requires.3, half_room box (replicate 128 0) (half_small c.before), c.requires.4)
 
 pub list_row_spec : {M : Type 1} → statement M
 list_row_spec =

@@ -12,30 +12,30 @@ use borrow.Author.Rules.{rules}
 use Rattle.differential.proofs.listing.list_run.Statement.{statement}
 use Rattle.differential.proofs.listing.list_run.Tie as tie
 
-returns : tie.Need-returns
+returns : tie.Need-returns-then-pairs-y
 returns c =
-    let a = c.before.before.before.args in
-    let none = run_unlisted a.largest a.a a.pairs.now a.y c.if1.true in
+    let a = c.args in
+    let none = run_unlisted a.largest a.a a.pairs.now a.y c.if-pairs-y.true in
     (omega (arith, ap length none), ap (sets a.list.now a.next) (sym none))
 
 -- the entry that is written
-one : (c : tie.Else1) →
-    let a = c.before.before.before.args in
+one : (c : tie.Else-pairs-y) →
+    let a = c.args in
     run_at a.largest a.a a.pairs.now a.y ≡ (a.a * 4294967296 + at a.pairs.now a.y) ∷ []
-one c = let a = c.before.before.before.args in run_listed a.largest a.a a.pairs.now a.y c.if1.false
+one c = let a = c.args in run_listed a.largest a.a a.pairs.now a.y c.if-pairs-y.false
 
-cast_list : tie.Need-overflow-cast-list
-cast_list c = omega (arith, c.shared_slice_known3.given c.before.before.before.before.args.y)
+cast_list : tie.Need-overflow_cast-list-2
+cast_list c = omega (arith, c.shared_slice_known-3-1.given c.args.y)
 
-add_list : tie.Need-overflow-add-list
-add_list c = let start = c.before.before.before.before in omega (arith, c.shared_slice_known3.given start.args.y, start.requires.3)
+add_list : tie.Need-overflow_add-list
+add_list c = omega (arith, c.shared_slice_known-3-1.given c.args.y, c.requires.3)
 
-slice_write_list : tie.Need-slice-write-list
-slice_write_list c = let h = c.before.before.before.before.requires.4 in omega (arith, ap length (one c.before))
+slice_write_list : tie.Need-bounds-list-next
+slice_write_list c = let h = c.requires.4 in omega (arith, ap length (one c.before))
 
-returns-2 : tie.Need-returns-2
+returns-2 : tie.Need-returns
 returns-2 c =
-    let a = c.before.before.before.before.args in
+    let a = c.args in
     (omega (arith, ap length (one c.before)), ap (sets a.list.now a.next) (sym (one c.before)))
 
 pub list_run_spec : {M : Type 1} → statement M

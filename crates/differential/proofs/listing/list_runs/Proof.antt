@@ -7,44 +7,40 @@ use Rattle.differential.proofs.Runs.{RunsStored, runs_none, run_room, run_next, 
 use Rattle.differential.proofs.listing.list_runs.Statement.{statement}
 use Rattle.differential.proofs.listing.list_runs.Tie as tie
 
-abbrev invariant-loop : tie.invariant-loop
-invariant-loop a pairs largest list₀ start next₀ y₀ list next y = RunsStored largest a pairs start list₀ next list y
+abbrev invariant-loop-y : tie.invariant-loop-y
+invariant-loop-y a pairs largest list₀ start next₀ y₀ list next y = RunsStored largest a pairs start list₀ next list y
 
-abbrev decreases-loop : tie.decreases-loop
-decreases-loop a pairs largest list₀ start next₀ y₀ list next y = length pairs + 1 - largest - y
+abbrev decreases-loop-y : tie.decreases-loop-y
+decreases-loop-y a pairs largest list₀ start next₀ y₀ list next y = length pairs + 1 - largest - y
 
-loop-holds : tie.Need-loop-init invariant-loop decreases-loop
+loop-holds : tie.Need-loop-y-init invariant-loop-y decreases-loop-y
 loop-holds c = runs_none
 
-add_loop : tie.Need-overflow-add-loop invariant-loop decreases-loop
-add_loop c = omega (arith, c.loop.invariant.within, c.before.before.before.requires.1, c.before.before.before.requires.2)
+add_loop : tie.Need-overflow_add-y invariant-loop-y decreases-loop-y
+add_loop c = omega (arith, c.loop-y.invariant.within, c.requires.1, c.requires.2)
 
-list_run_requires : tie.Need-list-run-requires invariant-loop decreases-loop
+list_run_requires : tie.Need-list_run-next-requires invariant-loop-y decreases-loop-y
 list_run_requires c κs =
-    let in_loop = c.before in
-    let start = c.before.before.before.before.before in
-    let fits = in_loop.loop-test.true in
-    (start.requires.0, fits, start.requires.2, start.requires.3, run_room in_loop.before.loop.invariant fits start.requires.4)
+    let fits = c.loop-y-test.true in
+    (c.requires.0, fits, c.requires.2, c.requires.3, run_room c.loop-y.invariant fits c.requires.4)
 
-add_y : tie.Need-overflow-add-y invariant-loop decreases-loop
-add_y c = omega (arith, c.before.before.before.before.before.loop.invariant.within, c.before.before.before.before.before.before.before.before.requires.2)
+add_y : tie.Need-overflow_add-y-in-loop-y invariant-loop-y decreases-loop-y
+add_y c = omega (arith, c.loop-y.invariant.within, c.requires.2)
 
-loop_less : tie.Need-loop-smaller invariant-loop decreases-loop
-loop_less c = omega (arith, c.before.before.before.before.loop-test.true, c.before.before.before.before.before.before.before.before.requires.0)
+loop_less : tie.Need-loop-y-smaller invariant-loop-y decreases-loop-y
+loop_less c = omega (arith, c.loop-y-test.true, c.requires.0)
 
-loop-again : tie.Need-loop-preserved invariant-loop decreases-loop
+loop-again : tie.Need-loop-y-preserved invariant-loop-y decreases-loop-y
 loop-again c =
-    let done = c.before.before in
-    let in_loop = c.before.before.before.before in
-    run_next in_loop.before.loop.invariant in_loop.loop-test.true done.list_run.ensures.0 done.list_run.ensures.1
+    run_next c.loop-y.invariant c.loop-y-test.true c.list_run-next.ensures.0 c.list_run-next.ensures.1
 
-same_length : tie.Need-same-length invariant-loop decreases-loop
-same_length c = stored_length c.before.loop.invariant.stored
+same_length : tie.Need-shape_of-list invariant-loop-y decreases-loop-y
+same_length c = stored_length c.loop-y.invariant.stored
 
-returns : tie.Need-returns invariant-loop decreases-loop
-returns c = runs_all c.before.loop.invariant c.before.before.before.before.requires.0 c.loop-test.false
+returns : tie.Need-returns invariant-loop-y decreases-loop-y
+returns c = runs_all c.loop-y.invariant c.requires.0 c.loop-y-test.false
 
 pub list_runs_spec : {M : Type 1} → statement M
 list_runs_spec =
     tie.close
-    (tie.spec invariant-loop decreases-loop loop-holds add_loop list_run_requires add_y loop_less loop-again same_length returns)
+    (tie.spec invariant-loop-y decreases-loop-y loop-holds add_loop list_run_requires add_y loop_less loop-again same_length returns)

@@ -13,29 +13,23 @@ use borrow.Author.Rules.{rules}
 use Rattle.differential.proofs.listing.list_with.Statement.{statement}
 use Rattle.differential.proofs.listing.list_with.Tie as tie
 
-returns : tie.Need-returns
-returns c =
-    let counted = c.before in
-    let start = c.before.before.before.before.before.before.before.before.before in (
-      wrote_refused (too_short start.requires.0 counted.count_cells.ensures.0 (length start.args.list.now) c.if1.true),
-      counted.before.before.before.measure.ensures.0,
-    )
+returns : tie.Need-returns-then-list-count
+returns c = (
+  wrote_refused (too_short c.requires.0 c.count_cells-count.ensures.0 (length c.args.list.now) c.if-list-count.true),
+  c.measure-largest.ensures.0,
+)
 
-returns-2 : tie.Need-returns-2
+returns-2 : tie.Need-returns
 returns-2 c =
-    let listed = c.before.before in
-    let else = listed.before.before.before.before in
-    let counted = else.before in
-    let start = counted.before.before.before.before.before.before.before.before in
-    let count = counted.count_cells.ensures.0 in
-    let old = start.args.list.now in
-    let cells = largest_cells start.args.n start.args.m start.args.rows.now in
-    let h = long_enough start.requires.0 count (length old) else.if1.false in (
+    let count = c.count_cells-count.ensures.0 in
+    let old = c.args.list.now in
+    let cells = largest_cells c.args.n c.args.m c.args.rows.now in
+    let h = long_enough c.requires.0 count (length old) c.if-list-count.false in (
       record {
         reply = ap (λ (k : ℕ). figures (k ∷ [])) count ∙ reply_accepted h _;
-        content = written_first cells old _ (omega (arith, count, else.if1.false)) listed.list_cells.ensures ∙ after_accepted h _ old;
+        content = written_first cells old _ (omega (arith, count, c.if-list-count.false)) c.list_cells.ensures ∙ after_accepted h _ old;
       },
-      counted.before.before.before.measure.ensures.0,
+      c.measure-largest.ensures.0,
     )
 
 pub list_with_spec : {M : Type 1} → statement M

@@ -11,17 +11,15 @@ use Rattle.differential.proofs.listing.measure.Statement.{statement}
 use Rattle.differential.proofs.listing.measure.Tie as tie
 
 -- a box has at most 256 rows, so there is room for its pairs
-half_small : (c : tie.After-shared-slice-known) → length c.before.args.rows.now / 2 ≤ 128
-half_small c = omega (arith, c.before.requires.0.small)
+half_small : (c : tie.After-shared_slice_known-1) → length c.args.rows.now / 2 ≤ 128
+half_small c = omega (arith, c.requires.0.small)
 
-slice_aggregate_measure_rows : tie.Need-slice-aggregate-measure-rows
+slice_aggregate_measure_rows : tie.Need-slice_bounds-measure_rows-end
 slice_aggregate_measure_rows c = sym (length-take-le _ (replicate 128 0) (half_small c.before))
 
-measure_rows_requires : tie.Need-measure-rows-requires
+measure_rows_requires : tie.Need-measure_rows-requires
 measure_rows_requires c κs =
-    let known = c.before.before.before.before in
-    let start = known.before in
-    (start.requires.0, half_room start.requires.0 (replicate 128 0) (half_small known), zeros_free, start.requires.1, start.requires.2)
+    (c.requires.0, half_room c.requires.0 (replicate 128 0) (half_small c.before.before.before.before), zeros_free, c.requires.1, c.requires.2)
 
 pub measure_spec : {M : Type 1} → statement M
 measure_spec =

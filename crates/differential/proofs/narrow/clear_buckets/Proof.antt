@@ -9,35 +9,33 @@ use Rattle.differential.specs.Running.{count_with}
 use Rattle.differential.proofs.narrow.clear_buckets.Statement.{statement}
 use Rattle.differential.proofs.narrow.clear_buckets.Tie as tie
 
-abbrev invariant-loop : tie.invariant-loop
-invariant-loop buckets₀ beta₀ buckets beta = Filled 0 (λ β. count_with 0 β) (length buckets₀) beta buckets
+abbrev invariant-loop-beta : tie.invariant-loop-beta
+invariant-loop-beta buckets₀ beta₀ buckets beta = Filled 0 (λ β. count_with 0 β) (length buckets₀) beta buckets
 
-abbrev decreases-loop : tie.decreases-loop
-decreases-loop buckets₀ beta₀ buckets beta = length buckets₀ - beta
+abbrev decreases-loop-beta : tie.decreases-loop-beta
+decreases-loop-beta buckets₀ beta₀ buckets beta = length buckets₀ - beta
 
-loop-holds : tie.Need-loop-init invariant-loop decreases-loop
+loop-holds : tie.Need-loop-beta-init invariant-loop-beta decreases-loop-beta
 loop-holds c = filled_none 0 _ _ c.args.buckets.now refl
 
-sub_buckets : tie.Need-overflow-sub-buckets invariant-loop decreases-loop
-sub_buckets c = omega (arith, c.loop-test.true, c.before.loop.invariant.long, c.before.before.requires)
+sub_buckets : tie.Need-overflow_sub-buckets invariant-loop-beta decreases-loop-beta
+sub_buckets c = omega (arith, c.loop-beta-test.true, c.loop-beta.invariant.long, c.requires)
 
-loop-again : tie.Need-loop-preserved invariant-loop decreases-loop
+loop-again : tie.Need-loop-beta-preserved invariant-loop-beta decreases-loop-beta
 loop-again c =
-    let at_loop = c.before in
-    filled_more 0 (λ β. count_with 0 β) _ at_loop.loop.beta at_loop.loop.buckets at_loop.loop.invariant
-    (omega (arith, c.loop-test.true, at_loop.loop.invariant.long)) (4294967295 - at_loop.loop.beta) (omega arith)
+    filled_more 0 (λ β. count_with 0 β) _ c.loop-beta.beta c.loop-beta.buckets c.loop-beta.invariant
+    (omega (arith, c.loop-beta-test.true, c.loop-beta.invariant.long)) (4294967295 - c.loop-beta.beta) (omega arith)
 
-same_length : tie.Need-same-length invariant-loop decreases-loop
-same_length c = c.before.loop.invariant.long
+same_length : tie.Need-shape_of-buckets invariant-loop-beta decreases-loop-beta
+same_length c = c.loop-beta.invariant.long
 
-returns : tie.Need-returns invariant-loop decreases-loop
+returns : tie.Need-returns invariant-loop-beta decreases-loop-beta
 returns c =
-    let at_loop = c.before in
-    filled_whole 0 (λ β. count_with 0 β) _ at_loop.loop.beta at_loop.loop.buckets at_loop.loop.invariant
-    (omega (arith, c.loop-test.false, at_loop.loop.invariant.long))
+    filled_whole 0 (λ β. count_with 0 β) _ c.loop-beta.beta c.loop-beta.buckets c.loop-beta.invariant
+    (omega (arith, c.loop-beta-test.false, c.loop-beta.invariant.long))
 
 pub clear_buckets_spec : {M : Type 1} → statement M
 clear_buckets_spec =
     tie.close
-    (tie.spec invariant-loop decreases-loop loop-holds sub_buckets (λ c. search rules) (λ c. search rules) (λ c. search rules)
-    (λ c. omega (arith, c.loop-test.true, c.before.loop.invariant.long)) loop-again same_length returns)
+    (tie.spec invariant-loop-beta decreases-loop-beta loop-holds sub_buckets (λ c. search rules) (λ c. search rules) (λ c. search rules)
+    (λ c. omega (arith, c.loop-beta-test.true, c.loop-beta.invariant.long)) loop-again same_length returns)

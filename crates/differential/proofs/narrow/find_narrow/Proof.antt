@@ -11,34 +11,31 @@ use Rattle.differential.proofs.narrow.find_narrow.Statement.{statement}
 use Rattle.differential.proofs.narrow.find_narrow.Tie as tie
 
 -- a box has at most 256 rows, so there is room for its pairs
-half_small : (c : tie.After-slice-known) →
-    let a = c.before.before.args in
+half_small : (c : tie.After-slice_known-1) →
+    let a = c.args in
     length a.rows.now / 2 ≤ length a.pairs.now
-half_small c = let start = c.before.before in omega (arith, start.requires.0.small, start.requires.2)
+half_small c = omega (arith, c.requires.0.small, c.requires.2)
 
 -- and its differences are below 256
-size_small : (c : tie.After-power-of-two) → c.power_of_two.result ≤ 256
-size_small c = omega (arith, c.power_of_two.ensures.0, pow_mono c.before.before.before.requires.1)
+size_small : (c : tie.After-power_of_two-size) → c.power_of_two-size.result ≤ 256
+size_small c = omega (arith, c.power_of_two-size.ensures.0, pow_mono c.requires.1)
 
-slice_aggregate_sweep_narrow : tie.Need-slice-aggregate-sweep-narrow
+slice_aggregate_sweep_narrow : tie.Need-slice_bounds-sweep_narrow-end-2
 slice_aggregate_sweep_narrow c = sym (length-take-le _ _ (half_small c.before.before))
 
-array_borrow_prefix_buckets : tie.Need-array-borrow-prefix-buckets
+array_borrow_prefix_buckets : tie.Need-slice_bounds-buckets-end
 array_borrow_prefix_buckets c = size_small c.before
 
-slice_aggregate_sweep_narrow_2 : tie.Need-slice-aggregate-sweep-narrow-2
+slice_aggregate_sweep_narrow_2 : tie.Need-slice_bounds-sweep_narrow-end-3
 slice_aggregate_sweep_narrow_2 c = sym (length-take-le _ (replicate 256 0) (size_small c.before.before))
 
-sweep_narrow_requires : tie.Need-sweep-narrow-requires
-sweep_narrow_requires c κs =
-    let sized = c.before.before in
-    let known = sized.before in
-    let start = known.before.before in (
-      start.requires.0,
-      start.requires.1,
-      half_room start.requires.0 start.args.pairs.now (half_small known),
-      length-take-le _ (replicate 256 0) (size_small sized) ∙ sized.power_of_two.ensures.0,
-    )
+sweep_narrow_requires : tie.Need-sweep_narrow-requires
+sweep_narrow_requires c κs = (
+  c.requires.0,
+  c.requires.1,
+  half_room c.requires.0 c.args.pairs.now (half_small c.before.before.before),
+  length-take-le _ (replicate 256 0) (size_small c.before.before) ∙ c.power_of_two-size.ensures.0,
+)
 
 pub find_narrow_spec : {M : Type 1} → statement M
 find_narrow_spec =

@@ -13,38 +13,37 @@ use Rattle.differential.proofs.narrow.rise_alone.Statement.{statement}
 use Rattle.differential.proofs.narrow.rise_alone.Tie as tie
 
 -- the difference has its bucket
-inside : (c : tie.After-slice-known) → let a = c.before.before.args in at a.differences.now a.y < length a.buckets.now
-inside c = let start = c.before.before in start.requires.2.inside start.args.y start.requires.0
+inside : (c : tie.After-slice_known-1) → let a = c.args in at a.differences.now a.y < length a.buckets.now
+inside c = c.requires.2.inside c.args.y c.requires.0
 
-few : (c : tie.After-slice-known) → let a = c.before.before.args in at a.differences.now a.y < 256
-few c = omega (arith, inside c, c.before.before.requires.2.few)
+few : (c : tie.After-slice_known-1) → let a = c.args in at a.differences.now a.y < 256
+few c = omega (arith, inside c, c.requires.2.few)
 
-cast_bucket : tie.Need-overflow-cast-bucket
+cast_bucket : tie.Need-overflow_cast-bucket
 cast_bucket c = omega (arith, few c.before)
 
-mul_standing : tie.Need-overflow-mul-standing
+mul_standing : tie.Need-offset_bounds-buckets-bucket
 mul_standing c = omega (arith, few c.before)
 
-slice_read_standing : tie.Need-slice-read-standing
+slice_read_standing : tie.Need-bounds-buckets-bucket
 slice_read_standing c = inside c.before.before
 
-add_standing : tie.Need-overflow-add-standing
-add_standing c = let start = c.before.before.before.before in omega (arith, own_fits start.requires.2 start.requires.0, start.requires.0, start.requires.1)
+add_standing : tie.Need-overflow_add-standing
+add_standing c = omega (arith, own_fits c.requires.2 c.requires.0, c.requires.0, c.requires.1)
 
-mul_buckets : tie.Need-overflow-mul-buckets
+mul_buckets : tie.Need-offset_bounds-buckets-bucket-2
 mul_buckets c = omega (arith, few c.before.before)
 
-slice_write_buckets : tie.Need-slice-write-buckets
+slice_write_buckets : tie.Need-bounds-buckets-bucket-2
 slice_write_buckets c = inside c.before.before
 
 returns : tie.Need-returns
 returns c =
-    let start = c.before.before.before.before.before in
-    let values = start.args.differences.now in
-    let small = (c.before.before.shared_slice_known2.given start.args.y).fits in
-    let risen = alone_risen start.requires.2 start.requires.0 in
-    let is = c.larger.ensures ∙ ap (higher_of start.args.running) risen in
-    (subst (LargestSoFar values (start.args.y + 1)) (sym is) (running_higher start.requires.3 small), is, alone_next start.requires.2 start.requires.0)
+    let values = c.args.differences.now in
+    let small = (c.shared_slice_known-2-1.given c.args.y).fits in
+    let risen = alone_risen c.requires.2 c.requires.0 in
+    let is = c.larger.ensures ∙ ap (higher_of c.args.running) risen in
+    (subst (LargestSoFar values (c.args.y + 1)) (sym is) (running_higher c.requires.3 small), is, alone_next c.requires.2 c.requires.0)
 
 pub rise_alone_spec : {M : Type 1} → statement M
 rise_alone_spec =

@@ -30,103 +30,91 @@ calls t =
     (at_once.Asked, at_once.Learnt, and 3 kinds.ps (falls 3 kinds.ps ◌<◌ μ t) descend.Pre, descend.Post, butterfly.Asked, butterfly.Learnt)
 
 module _ (t : ℕ) where
-  at_once_requires : lts.Need-at-once-requires (calls t) (given t) descend.Post
+  at_once_requires : lts.Need-at_once-requires (calls t) (given t) descend.Post
   at_once_requires c κs =
-      let s = c.before.before.before in
-      (c.before.if1.true, s.requires.1.0, s.requires.1.1)
+      (c.if-n-le7.true, c.requires.1.0, c.requires.1.1)
 
   -- the halves have one input less
-  cut : (e : lts.Else1 (calls t) (given t) descend.Post) →
-      let s = e.before.before in
-      halves.Cut s.args.n (s.args.n - 1) (length s.args.table.now / 2) s.args.table.now s.args.out.now
+  cut : (e : lts.Else-n-le7 (calls t) (given t) descend.Post) →
+      halves.Cut e.args.n (e.args.n - 1) (length e.args.table.now / 2) e.args.table.now e.args.out.now
   cut e =
-      let s = e.before.before in
-      let one_less : s.args.n ≡ suc (s.args.n - 1) = omega (arith, e.if1.false) in
+      let one_less : e.args.n ≡ suc (e.args.n - 1) = omega (arith, e.if-n-le7.false) in
       record {
-        ready = s.requires.1.0;
+        ready = e.requires.1.0;
         one_less = one_less;
-        low = omega (arith, e.if1.false);
-        half = halves.in_the_middle s.args.n (s.args.n - 1) s.args.table.now s.requires.1.0.read.size one_less;
+        low = omega (arith, e.if-n-le7.false);
+        half = halves.in_the_middle e.args.n (e.args.n - 1) e.args.table.now e.requires.1.0.read.size one_less;
       }
 
-  less : (e : lts.Else1 (calls t) (given t) descend.Post) → e.before.before.args.n - 1 < t
-  less e = omega (arith, e.if1.false, e.before.before.requires.0)
+  less : (e : lts.Else-n-le7 (calls t) (given t) descend.Post) → e.args.n - 1 < t
+  less e = omega (arith, e.if-n-le7.false, e.requires.0)
 
-  sub_descend : lts.Need-overflow-sub-descend (calls t) (given t) descend.Post
+  sub_descend : lts.Need-overflow_sub-n (calls t) (given t) descend.Post
   sub_descend c = search rules
 
-  slice_aggregate_descend : lts.Need-slice-aggregate-descend (calls t) (given t) descend.Post
+  slice_aggregate_descend : lts.Need-slice_bounds-descend-end (calls t) (given t) descend.Post
   slice_aggregate_descend c = sym (length-take-le _ _ (omega arith))
 
-  slice_relend_prefix_descend : lts.Need-slice-relend-prefix-descend (calls t) (given t) descend.Post
+  slice_relend_prefix_descend : lts.Need-slice_bounds-descend-end-else-n-le7 (calls t) (given t) descend.Post
   slice_relend_prefix_descend c = search rules
 
-  slice_aggregate_descend_2 : lts.Need-slice-aggregate-descend-2 (calls t) (given t) descend.Post
+  slice_aggregate_descend_2 : lts.Need-slice_bounds-descend-end-else-n-le7-2 (calls t) (given t) descend.Post
   slice_aggregate_descend_2 c = sym (length-take-le _ _ (omega arith))
 
   descend_requires : lts.Need-descend-requires (calls t) (given t) descend.Post
   descend_requires c κs =
-      let e = c.before.before in
-      (less e, (halves.lower_ready (cut e), e.before.before.requires.1.1))
+      (less c.before, (halves.lower_ready (cut c.before), c.requires.1.1))
 
-  sub_descend_2 : lts.Need-overflow-sub-descend-2 (calls t) (given t) descend.Post
+  sub_descend_2 : lts.Need-overflow_sub-n-else-n-le7 (calls t) (given t) descend.Post
   sub_descend_2 c = search rules
 
-  sub_descend_3 : lts.Need-overflow-sub-descend-3 (calls t) (given t) descend.Post
+  sub_descend_3 : lts.Need-slice_bounds-descend-count (calls t) (given t) descend.Post
   sub_descend_3 c = search rules
 
-  part_descend_start : lts.Need-slice-bounds-descend-start (calls t) (given t) descend.Post
+  part_descend_start : lts.Need-slice_bounds-descend-start (calls t) (given t) descend.Post
   part_descend_start c = search rules
 
-  part_descend_end : lts.Need-slice-bounds-descend-end (calls t) (given t) descend.Post
+  part_descend_end : lts.Need-slice_bounds-descend-end-else-n-le7-3 (calls t) (given t) descend.Post
   part_descend_end c = search rules
 
-  mul_descend : lts.Need-overflow-mul-descend (calls t) (given t) descend.Post
+  mul_descend : lts.Need-offset_bounds-out-h (calls t) (given t) descend.Post
   mul_descend c = search rules
 
-  sub_descend_4 : lts.Need-overflow-sub-descend-4 (calls t) (given t) descend.Post
+  sub_descend_4 : lts.Need-slice_bounds-descend-count-else-n-le7 (calls t) (given t) descend.Post
   sub_descend_4 c = search rules
 
-  part_descend_start_2 : lts.Need-slice-bounds-descend-start-2 (calls t) (given t) descend.Post
+  part_descend_start_2 : lts.Need-slice_bounds-descend-start-else-n-le7 (calls t) (given t) descend.Post
   part_descend_start_2 c = search rules
 
-  part_descend_end_2 : lts.Need-slice-bounds-descend-end-2 (calls t) (given t) descend.Post
+  part_descend_end_2 : lts.Need-slice_bounds-descend-end-else-n-le7-4 (calls t) (given t) descend.Post
   part_descend_end_2 c = search rules
 
-  descend_requires_2 : lts.Need-descend-requires-2 (calls t) (given t) descend.Post
+  descend_requires_2 : lts.Need-descend-requires-else-n-le7 (calls t) (given t) descend.Post
   descend_requires_2 c κs =
-      let first = c.before.before.before in
-      let e = first.before.before.before in
-      (less e, (halves.upper_ready (cut e) first.descend.new.1.1.1.0 first.descend.ensures, e.before.before.requires.1.1))
+      (less c.before.before.before.before.before, (halves.upper_ready (cut c.before.before.before.before.before) c.descend.new.out c.descend.ensures, c.requires.1.1))
 
   butterfly_requires : lts.Need-butterfly-requires (calls t) (given t) descend.Post
   butterfly_requires c κs =
-      let second = c.before.before in
-      let first = second.before.before.before.before in
-      halves.crossing (cut first.before.before.before)
-      first.descend.new.1.1.1.0 first.descend.ensures second.descend2.new.1.1.1.0 second.descend2.ensures (2 ^ 13) (lit≤ tt)
+      halves.crossing (cut c.before.before.before.before.before.before.before.before)
+      c.descend.new.out c.descend.ensures c.descend-else-n-le7.new.out c.descend-else-n-le7.ensures (2 ^ 13) (lit≤ tt)
 
-  same_length : lts.Need-same-length (calls t) (given t) descend.Post
+  same_length : lts.Need-shape_of-out-then-n-le7 (calls t) (given t) descend.Post
   same_length c = search rules
 
-  returns : lts.Need-returns (calls t) (given t) descend.Post
-  returns c = c.before.at_once.ensures
+  returns : lts.Need-returns-then-n-le7 (calls t) (given t) descend.Post
+  returns c = c.at_once.ensures
 
-  same_length_2 : lts.Need-same-length-2 (calls t) (given t) descend.Post
+  same_length_2 : lts.Need-shape_of-out-else-n-le7 (calls t) (given t) descend.Post
   same_length_2 c =
-      let second = c.before.before.before.before in
-      let first = second.before.before.before.before in
-      c.before.butterfly.auto.0
-      ∙ halves.same_long (cut first.before.before.before)
-      first.descend.new.1.1.1.0 first.descend.ensures second.descend2.new.1.1.1.0 second.descend2.ensures
+      c.butterfly.auto.values
+      ∙ halves.same_long (cut c.before.before.before.before.before.before.before.before.before.before)
+      c.descend.new.out c.descend.ensures c.descend-else-n-le7.new.out c.descend-else-n-le7.ensures
 
-  returns-2 : lts.Need-returns-2 (calls t) (given t) descend.Post
+  returns-2 : lts.Need-returns-else-n-le7 (calls t) (given t) descend.Post
   returns-2 c =
-      let second = c.before.before.before.before in
-      let first = second.before.before.before.before in
-      halves.right (cut first.before.before.before)
-      first.descend.new.1.1.1.0 first.descend.ensures second.descend2.new.1.1.1.0 second.descend2.ensures
-      c.before.butterfly.new.0 c.before.butterfly.auto.0 c.before.butterfly.ensures
+      halves.right (cut c.before.before.before.before.before.before.before.before.before.before)
+      c.descend.new.out c.descend.ensures c.descend-else-n-le7.new.out c.descend-else-n-le7.ensures
+      c.butterfly.new.values c.butterfly.auto.values c.butterfly.ensures
 
 pub +descend-spec : {M : Type 1} → statement M
 +descend-spec =

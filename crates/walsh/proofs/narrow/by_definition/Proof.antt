@@ -19,70 +19,62 @@ use Rattle.walsh.proofs.Numbers.{by_size}
 use Rattle.walsh.proofs.narrow.by_definition.Statement.{statement}
 use Rattle.walsh.proofs.narrow.by_definition.Tie as tie
 
-abbrev invariant-loop : tie.invariant-loop
-invariant-loop n table out₀ size w₀ out w = (size ≡ 2 ^ n) × Filled (pos 0) (λ v. approximation n (at table) v) (2 ^ n) w out
+abbrev invariant-loop-w : tie.invariant-loop-w
+invariant-loop-w n table out₀ size w₀ out w = (size ≡ 2 ^ n) × Filled (pos 0) (λ v. approximation n (at table) v) (2 ^ n) w out
 
-abbrev decreases-loop : tie.decreases-loop
-decreases-loop n table out₀ size w₀ out w = size - w
+abbrev decreases-loop-w : tie.decreases-loop-w
+decreases-loop-w n table out₀ size w₀ out w = size - w
 
-few : (c : tie.Start invariant-loop decreases-loop) → length c.args.table.now ≤ 256
+few : (c : tie.Start invariant-loop-w decreases-loop-w) → length c.args.table.now ≤ 256
 few c = le_trans (le_of_eq c.requires.read.size) (pow_mono {j = 8} c.requires.read.n_high)
 
-cast_size : tie.Need-overflow-cast-size invariant-loop decreases-loop
+cast_size : tie.Need-overflow_cast-size invariant-loop-w decreases-loop-w
 cast_size c = omega (arith, few c.before)
 
-loop-holds : tie.Need-loop-init invariant-loop decreases-loop
-loop-holds c = (c.before.requires.read.size, filled_none (pos 0) _ _ c.before.args.out.now c.before.requires.room)
+loop-holds : tie.Need-loop-w-init invariant-loop-w decreases-loop-w
+loop-holds c = (c.requires.read.size, filled_none (pos 0) _ _ c.args.out.now c.requires.room)
 
-value_requires : tie.Need-value-requires invariant-loop decreases-loop
+value_requires : tie.Need-value-requires invariant-loop-w decreases-loop-w
 value_requires c κs = few c.before.before.before
 
 -- the value that was made, and that a 16-bit word holds it
-value_is : (c : tie.After-value invariant-loop decreases-loop) →
-    let at_loop = c.before.before in
-    let a = at_loop.before.before.args in
-    word c.value.result ≡ approximation a.n (at a.table.now) at_loop.loop.w
+value_is : (c : tie.After-value invariant-loop-w decreases-loop-w) →
+    let a = c.args in
+    word c.value.result ≡ approximation a.n (at a.table.now) c.loop-w.w
 value_is c =
-    let at_loop = c.before.before in
-    let start = at_loop.before.before in
     word_told c.value.result c.value.type-inv ∙ c.value.ensures
-    ∙ by_size start.args.n start.args.table.now at_loop.loop.w start.requires.read.n_low start.requires.read.size
+    ∙ by_size c.args.n c.args.table.now c.loop-w.w c.requires.read.n_low c.requires.read.size
 
-cast_out : tie.Need-overflow-cast-out invariant-loop decreases-loop
+cast_out : tie.Need-overflow_cast-out invariant-loop-w decreases-loop-w
 cast_out c =
-    let at_loop = c.before.before in
-    let start = at_loop.before.before in
-    let n = start.args.n in
+    let n = c.args.n in
     subst (SFits w16) (sym (value_is c))
-    (fits_narrow _ (omega (arith, approximation_le n start.requires.read.n_low (at start.args.table.now) at_loop.loop.w, pow_mono {i = n - 1} {j = 8} (omega (arith, start.requires.read.n_high)))))
+    (fits_narrow _ (omega (arith, approximation_le n c.requires.read.n_low (at c.args.table.now) c.loop-w.w, pow_mono {i = n - 1} {j = 8} (omega (arith, c.requires.read.n_high)))))
 
-add_w : tie.Need-overflow-add-w invariant-loop decreases-loop
-add_w c = omega (arith, few c.before.before.before.before, c.before.loop-test.true)
+add_w : tie.Need-overflow_add-w invariant-loop-w decreases-loop-w
+add_w c = omega (arith, few c.before.before.before.before, c.loop-w-test.true)
 
-loop-again : tie.Need-loop-preserved invariant-loop decreases-loop
+loop-again : tie.Need-loop-w-preserved invariant-loop-w decreases-loop-w
 loop-again c =
-    let at_loop = c.before.before in
-    let start = at_loop.before.before in
-    let table = start.args.table.now in
-    let w = at_loop.loop.w in
-    let size = start.requires.read.size in (
+    let table = c.args.table.now in
+    let w = c.loop-w.w in
+    let size = c.requires.read.size in (
       size,
-      filled_more (pos 0) (λ v. approximation start.args.n (at table) v) (2 ^ start.args.n) w at_loop.loop.out at_loop.loop.invariant.1
-          (omega (arith, c.before.loop-test.true, size)) _
+      filled_more (pos 0) (λ v. approximation c.args.n (at table) v) (2 ^ c.args.n) w c.loop-w.out c.loop-w.invariant.1
+          (omega (arith, c.loop-w-test.true, size)) _
           (to_z-of_z (cast_out c) ∙ value_is c),
     )
 
-same_length : tie.Need-same-length invariant-loop decreases-loop
+same_length : tie.Need-shape_of-out invariant-loop-w decreases-loop-w
 same_length c =
-    let start = c.before.before.before in
-    c.before.loop.invariant.1.long ∙ sym start.requires.room
+    c.loop-w.invariant.1.long ∙ sym c.requires.room
 
-returns : tie.Need-returns invariant-loop decreases-loop
+returns : tie.Need-returns invariant-loop-w decreases-loop-w
 unfolding spectrum
-returns c = filled_whole (pos 0) _ _ c.before.loop.w c.before.loop.out c.before.loop.invariant.1 (omega arith)
+returns c = filled_whole (pos 0) _ _ c.loop-w.w c.loop-w.out c.loop-w.invariant.1 (omega arith)
 
 pub by_definition_spec : {M : Type 1} → statement M
 by_definition_spec =
     tie.close
-    (tie.spec invariant-loop decreases-loop cast_size loop-holds value_requires cast_out (λ c. search rules) (λ c. search rules) (λ c. search rules) add_w
+    (tie.spec invariant-loop-w decreases-loop-w cast_size loop-holds value_requires cast_out (λ c. search rules) (λ c. search rules) (λ c. search rules) add_w
     (λ c. search rules) loop-again same_length returns)

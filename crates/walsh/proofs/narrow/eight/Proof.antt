@@ -14,16 +14,13 @@ use Rattle.walsh.proofs.narrow.eight.Tie as tie
 returns : tie.Need-returns
 unfolding spectrum
 returns c =
-    let copied = c.before in
-    let numbered = copied.before.before in
-    let start = numbered.before.before in
-    let f = at start.args.table.now in
-    let t = numbered.number.result in
-    let told = numbered.number.ensures in
-    let more = four_more start.args.fixed.now f t start.requires.1 told.0 told.1 in
-    let four = more (t * 8) 0 start.args.out.now (sym (add-zero (t * 8))) (omega arith) (filled_none (pos 0) _ 8 start.args.out.now start.requires.0.room) in
+    let f = at c.args.table.now in
+    let t = c.number.result in
+    let told = c.number.ensures in
+    let more = four_more c.args.fixed.now f t c.requires.1 told.0 told.1 in
+    let four = more (t * 8) 0 c.args.out.now (sym (add-zero (t * 8))) (omega arith) (filled_none (pos 0) _ 8 c.args.out.now c.requires.0.room) in
     let all = more (t * 8 + 4) 4 _ refl (omega arith) four in
-    copied.copy_eight.ensures ∙ filled_whole (pos 0) (λ v. approximation 3 f v) 8 8 _ all (le_refl 8)
+    c.copy_eight.ensures ∙ filled_whole (pos 0) (λ v. approximation 3 f v) 8 8 _ all (le_refl 8)
 
 pub eight_spec : {M : Type 1} → statement M
 eight_spec =

@@ -17,63 +17,54 @@ use Rattle.walsh.proofs.narrow.largest_sum.Tie as tie
 abbrev both : (values : List ℤ) (h k : ℕ) → ℕ
 both values h k = nat_abs (value_at values k) + nat_abs (value_at values (h + k))
 
-abbrev invariant-loop : tie.invariant-loop
-invariant-loop values h largest₀ k₀ largest k = (k ≤ h) × (largest ≡ largest_below k (λ k. both values h k))
+abbrev invariant-loop-k : tie.invariant-loop-k
+invariant-loop-k values h largest₀ k₀ largest k = (k ≤ h) × (largest ≡ largest_below k (λ k. both values h k))
 
-abbrev decreases-loop : tie.decreases-loop
-decreases-loop values h largest₀ k₀ largest k = h - k
+abbrev decreases-loop-k : tie.decreases-loop-k
+decreases-loop-k values h largest₀ k₀ largest k = h - k
 
-loop-holds : tie.Need-loop-init invariant-loop decreases-loop
+loop-holds : tie.Need-loop-k-init invariant-loop-k decreases-loop-k
 unfolding largest_below
 loop-holds c = (zero-le, refl)
 
 -- the two numbers that are read, and the sum of their magnitudes
-lower : (c : tie.After-magnitude invariant-loop decreases-loop) → let at_loop = c.before.before.before in
-    c.magnitude.result ≡ nat_abs (value_at at_loop.before.args.values.now at_loop.loop.k)
+lower : (c : tie.After-magnitude invariant-loop-k decreases-loop-k) → c.magnitude.result ≡ nat_abs (value_at c.args.values.now c.loop-k.k)
 lower c =
-    let at_loop = c.before.before.before in
-    c.magnitude.ensures ∙ ap nat_abs (narrow_told (value_at at_loop.before.args.values.now at_loop.loop.k) c.before.magnitude_arg.given)
+    c.magnitude.ensures ∙ ap nat_abs (narrow_told (value_at c.args.values.now c.loop-k.k) c.magnitude-arg-1.given)
 
-upper : (c : tie.After-magnitude2 invariant-loop decreases-loop) → let at_loop = c.before.before.before.before.before in
-    c.magnitude2.result ≡ nat_abs (value_at at_loop.before.args.values.now (at_loop.before.args.h + at_loop.loop.k))
+upper : (c : tie.After-magnitude-in-loop-k invariant-loop-k decreases-loop-k) → c.magnitude-in-loop-k.result ≡ nat_abs (value_at c.args.values.now (c.args.h + c.loop-k.k))
 upper c =
-    let at_loop = c.before.before.before.before.before in
-    c.magnitude2.ensures
-    ∙ ap nat_abs (narrow_told (value_at at_loop.before.args.values.now (at_loop.before.args.h + at_loop.loop.k)) c.before.magnitude_arg2.given)
+    c.magnitude-in-loop-k.ensures
+    ∙ ap nat_abs (narrow_told (value_at c.args.values.now (c.args.h + c.loop-k.k)) c.magnitude-arg-in-loop-k-1.given)
 
-sum : (c : tie.After-magnitude2 invariant-loop decreases-loop) → let at_loop = c.before.before.before.before.before in
-    c.before.before.magnitude.result + c.magnitude2.result ≡ both at_loop.before.args.values.now at_loop.before.args.h at_loop.loop.k
+sum : (c : tie.After-magnitude-in-loop-k invariant-loop-k decreases-loop-k) → c.magnitude.result + c.magnitude-in-loop-k.result ≡ both c.args.values.now c.args.h c.loop-k.k
 sum c = ap₂ (λ (a b : ℕ). a + b) (lower c.before.before) (upper c)
 
-shared_slice_copy_out_magnitude_2 : tie.Need-shared-slice-copy-out-magnitude-2 invariant-loop decreases-loop
+shared_slice_copy_out_magnitude_2 : tie.Need-bounds-values-h invariant-loop-k decreases-loop-k
 shared_slice_copy_out_magnitude_2 c =
-    let at_loop = c.before.before.before in
-    omega (arith, at_loop.before.requires.size, c.before.before.loop-test.true)
+    omega (arith, c.requires.size, c.loop-k-test.true)
 
-add_size : tie.Need-overflow-add-size invariant-loop decreases-loop
+add_size : tie.Need-overflow_add-size invariant-loop-k decreases-loop-k
 add_size c =
-    let at_loop = c.before.before.before.before.before in
-    let small = at_loop.before.requires.small in
-    omega (arith, lower c.before.before, upper c, small at_loop.loop.k, small (at_loop.before.args.h + at_loop.loop.k))
+    let small = c.requires.small in
+    omega (arith, lower c.before.before, upper c, small c.loop-k.k, small (c.args.h + c.loop-k.k))
 
-loop-again : tie.Need-loop-preserved invariant-loop decreases-loop
+loop-again : tie.Need-loop-k-preserved invariant-loop-k decreases-loop-k
 loop-again c =
-    let at_loop = c.before.before.before.before.before.before in
-    let sums : ℕ → ℕ = λ k. both at_loop.before.args.values.now at_loop.before.args.h k in
-    let so_far = at_loop.loop.invariant.1 in (
+    let sums : ℕ → ℕ = λ k. both c.args.values.now c.args.h k in
+    let so_far = c.loop-k.invariant.1 in (
       omega arith,
-      ⊎_elim (λ t. t.1 ∙ sum c.before ∙ largest_takes at_loop.loop.k sums so_far (omega (arith, sum c.before, t.0.taken)))
-          (λ t. t.1 ∙ largest_keeps at_loop.loop.k sums so_far (omega (arith, sum c.before, t.0.left))) c.if1.branch,
+      ⊎_elim (λ t. t.largest-is ∙ sum c.before ∙ largest_takes c.loop-k.k sums so_far (omega (arith, sum c.before, t.if-largest-size.true)))
+          (λ t. t.largest-is ∙ largest_keeps c.loop-k.k sums so_far (omega (arith, sum c.before, t.if-largest-size.false))) c.if-largest-size.branch-raw,
     )
 
-returns : tie.Need-returns invariant-loop decreases-loop
+returns : tie.Need-returns invariant-loop-k decreases-loop-k
 returns c =
-    let start = c.before.before in
-    let end : c.before.loop.k ≡ start.args.h = omega (arith, c.before.loop.invariant.0, c.loop-test.false) in
-    c.before.loop.invariant.1 ∙ ap (λ (k : ℕ). largest_below k (λ k. both start.args.values.now start.args.h k)) end
+    let end : c.loop-k.k ≡ c.args.h = omega (arith, c.loop-k.invariant.0, c.loop-k-test.false) in
+    c.loop-k.invariant.1 ∙ ap (λ (k : ℕ). largest_below k (λ k. both c.args.values.now c.args.h k)) end
 
 pub largest_sum_spec : {M : Type 1} → statement M
 largest_sum_spec =
     tie.close
-    (tie.spec invariant-loop decreases-loop loop-holds (λ c. search rules) (λ c. search rules) (λ c κs. search rules) (λ c. search rules)
+    (tie.spec invariant-loop-k decreases-loop-k loop-holds (λ c. search rules) (λ c. search rules) (λ c κs. search rules) (λ c. search rules)
     (λ c. search rules) shared_slice_copy_out_magnitude_2 (λ c κs. search rules) add_size (λ c. search rules) (λ c. search rules) loop-again returns)

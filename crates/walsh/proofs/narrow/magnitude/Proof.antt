@@ -7,14 +7,14 @@ use Rattle.walsh.proofs.Short.{widens, widened, short_size}
 use Rattle.walsh.proofs.narrow.magnitude.Statement.{statement}
 use Rattle.walsh.proofs.narrow.magnitude.Tie as tie
 
-cast_magnitude : tie.Need-overflow-cast-magnitude
+cast_magnitude : tie.Need-overflow_cast-v
 cast_magnitude c = widens c.args.v c.ranges.v.sfits
 
-size : (c : tie.After-magnitude) → c.magnitude.result ≡ nat_abs c.before.args.v
-size c = c.magnitude.ensures ∙ ap nat_abs (widened c.before.args.v c.before.ranges.v.sfits)
+size : (c : tie.After-magnitude) → c.magnitude.result ≡ nat_abs c.args.v
+size c = c.magnitude.ensures ∙ ap nat_abs (widened c.args.v c.ranges.v.sfits)
 
-cast_result : tie.Need-overflow-cast-result
-cast_result c = record { fits = omega (arith, size c, short_size c.before.args.v c.before.ranges.v.sfits) }
+cast_result : tie.Need-overflow_cast-result
+cast_result c = record { fits = omega (arith, size c, short_size c.args.v c.ranges.v.sfits) }
 
 returns : tie.Need-returns
 returns c = size c

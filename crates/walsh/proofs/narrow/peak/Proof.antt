@@ -18,42 +18,37 @@ told : (s : tie.Start) (k r : ℕ) → s.args.n ≡ k → r ≡ largest_magnitud
     → r ≡ largest_magnitude (spectrum s.args.n (at s.args.table.now))
 told s k r e = subst (λ (j : ℕ). r ≡ largest_magnitude (spectrum j (at s.args.table.now))) (sym e)
 
-peak_of_two_fifty_six_requires : tie.Need-peak-of-two-fifty-six-requires
-peak_of_two_fifty_six_requires c κs = let e = c.before in asked e.before.before 8 e.if1.true
+peak_of_two_fifty_six_requires : tie.Need-peak_of_two_fifty_six-requires
+peak_of_two_fifty_six_requires c κs = asked c.before.before.before 8 c.if-n-eq8.true
 
-peak_of_one_twenty_eight_requires : tie.Need-peak-of-one-twenty-eight-requires
-peak_of_one_twenty_eight_requires c κs = let e = c.before in asked e.before.before.before 7 e.if2.true
+peak_of_one_twenty_eight_requires : tie.Need-peak_of_one_twenty_eight-requires
+peak_of_one_twenty_eight_requires c κs = asked c.before.before.before.before 7 c.if-n-eq7.true
 
-peak_of_sixty_four_requires : tie.Need-peak-of-sixty-four-requires
-peak_of_sixty_four_requires c κs = let e = c.before in asked e.before.before.before.before 6 e.if3.true
+peak_of_sixty_four_requires : tie.Need-peak_of_sixty_four-requires
+peak_of_sixty_four_requires c κs = asked c.before.before.before.before.before 6 c.if-n-eq6.true
 
-at_once_requires : tie.Need-at-once-requires
+at_once_requires : tie.Need-at_once-requires
 at_once_requires c κs =
-    let e = c.before in
-    let s = e.before.before.before.before in
-    (omega (arith, s.requires.0.read.n_high, e.before.before.if1.false, e.before.if2.false, e.if3.false), s.requires.0, s.requires.1)
+    (omega (arith, c.requires.0.read.n_high, c.if-n-eq8.false, c.if-n-eq7.false, c.if-n-eq6.false), c.requires.0, c.requires.1)
 
-returns : tie.Need-returns
+returns : tie.Need-returns-then-n-eq8
 returns c =
-    let e = c.before.before.before in
-    let called = c.before.peak_of_two_fifty_six.ensures in
-    (told e.before.before 8 _ e.if1.true called.0, called.1)
+    let called = c.peak_of_two_fifty_six.ensures in
+    (told c.before.before.before.before.before 8 _ c.if-n-eq8.true called.0, called.1)
 
-returns-2 : tie.Need-returns-2
+returns-2 : tie.Need-returns-then-n-eq7
 returns-2 c =
-    let e = c.before.before.before in
-    let called = c.before.peak_of_one_twenty_eight.ensures in
-    (told e.before.before.before 7 _ e.if2.true called.0, called.1)
+    let called = c.peak_of_one_twenty_eight.ensures in
+    (told c.before.before.before.before.before.before 7 _ c.if-n-eq7.true called.0, called.1)
 
-returns-3 : tie.Need-returns-3
+returns-3 : tie.Need-returns-then-n-eq6
 returns-3 c =
-    let e = c.before.before.before in
-    let called = c.before.peak_of_sixty_four.ensures in
-    (told e.before.before.before.before 6 _ e.if3.true called.0, called.1)
+    let called = c.peak_of_sixty_four.ensures in
+    (told c.before.before.before.before.before.before.before 6 _ c.if-n-eq6.true called.0, called.1)
 
-returns-4 : tie.Need-returns-4
+returns-4 : tie.Need-returns-else-n-eq6
 returns-4 c =
-    let called = c.before.before.before.at_once in
+    let called = c.at_once in
     (c.largest_magnitude.ensures ∙ ap largest_magnitude called.ensures, called.auto.1.1.1.0)
 
 pub peak_spec : {M : Type 1} → statement M

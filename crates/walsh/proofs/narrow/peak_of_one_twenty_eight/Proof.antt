@@ -11,36 +11,30 @@ use Rattle.walsh.proofs.narrow.peak_of_one_twenty_eight.Tie as tie
 cut : (s : tie.Start) → halves.Cut 7 6 64 s.args.table.now s.args.work.now
 cut s = record { ready = s.requires.0; one_less = refl; low = lit≤ tt; half = refl }
 
-slice_aggregate_sixty_four : tie.Need-slice-aggregate-sixty-four
-slice_aggregate_sixty_four c = halves.lower_length (cut c.before.before)
+slice_aggregate_sixty_four : tie.Need-slice_bounds-sixty_four-end
+slice_aggregate_sixty_four c = halves.lower_length (cut c.before)
 
-slice_aggregate_sixty_four_2 : tie.Need-slice-aggregate-sixty-four-2
-slice_aggregate_sixty_four_2 c = halves.lower_room (cut c.before.before.before)
+slice_aggregate_sixty_four_2 : tie.Need-slice_bounds-sixty_four-end-3
+slice_aggregate_sixty_four_2 c = halves.lower_room (cut c.before.before)
 
-sixty_four_requires : tie.Need-sixty-four-requires
-sixty_four_requires c κs = let s = c.before.before.before in (halves.lower_ready (cut s), s.requires.1)
+sixty_four_requires : tie.Need-sixty_four-requires
+sixty_four_requires c κs = (halves.lower_ready (cut c.before.before), c.requires.1)
 
-sixty_four_requires_2 : tie.Need-sixty-four-requires-2
+sixty_four_requires_2 : tie.Need-sixty_four-requires-2
 sixty_four_requires_2 c κs =
-    let first = c.before.before.before in
-    let s = first.before.before.before.before in
-    (halves.upper_ready (cut s) first.sixty_four.new.1.1.0 first.sixty_four.ensures, s.requires.1)
+    (halves.upper_ready (cut c.before.before.before.before.before.before) c.sixty_four.new.out c.sixty_four.ensures, c.requires.1)
 
-largest_sum_requires : tie.Need-largest-sum-requires
+largest_sum_requires : tie.Need-largest_sum-requires
 largest_sum_requires c κs =
-    let second = c.before.before in
-    let first = second.before.before.before.before in
-    halves.crossing (cut first.before.before.before.before)
-    first.sixty_four.new.1.1.0 first.sixty_four.ensures second.sixty_four2.new.1.1.0 second.sixty_four2.ensures (2 ^ 13) (lit≤ tt)
+    halves.crossing (cut c.before.before.before.before.before.before.before.before)
+    c.sixty_four.new.out c.sixty_four.ensures c.sixty_four-2.new.out c.sixty_four-2.ensures (2 ^ 13) (lit≤ tt)
 
 returns : tie.Need-returns
 returns c =
-    let second = c.before.before.before in
-    let first = second.before.before.before.before in
-    let whole = cut first.before.before.before.before in (
+    let whole = cut c.before.before.before.before.before.before.before.before.before in (
       c.largest_sum.ensures
-          ∙ halves.peak_is whole first.sixty_four.new.1.1.0 first.sixty_four.ensures second.sixty_four2.new.1.1.0 second.sixty_four2.ensures,
-      halves.same_long whole first.sixty_four.new.1.1.0 first.sixty_four.ensures second.sixty_four2.new.1.1.0 second.sixty_four2.ensures,
+          ∙ halves.peak_is whole c.sixty_four.new.out c.sixty_four.ensures c.sixty_four-2.new.out c.sixty_four-2.ensures,
+      halves.same_long whole c.sixty_four.new.out c.sixty_four.ensures c.sixty_four-2.new.out c.sixty_four-2.ensures,
     )
 
 pub peak_of_one_twenty_eight_spec : {M : Type 1} → statement M

@@ -11,36 +11,30 @@ use Rattle.walsh.proofs.narrow.peak_of_two_fifty_six.Tie as tie
 cut : (s : tie.Start) → halves.Cut 8 7 128 s.args.table.now s.args.work.now
 cut s = record { ready = s.requires.0; one_less = refl; low = lit≤ tt; half = refl }
 
-slice_aggregate_one_twenty_eight : tie.Need-slice-aggregate-one-twenty-eight
-slice_aggregate_one_twenty_eight c = halves.lower_length (cut c.before.before)
+slice_aggregate_one_twenty_eight : tie.Need-slice_bounds-one_twenty_eight-end
+slice_aggregate_one_twenty_eight c = halves.lower_length (cut c.before)
 
-slice_aggregate_one_twenty_eight_2 : tie.Need-slice-aggregate-one-twenty-eight-2
-slice_aggregate_one_twenty_eight_2 c = halves.lower_room (cut c.before.before.before)
+slice_aggregate_one_twenty_eight_2 : tie.Need-slice_bounds-one_twenty_eight-end-3
+slice_aggregate_one_twenty_eight_2 c = halves.lower_room (cut c.before.before)
 
-one_twenty_eight_requires : tie.Need-one-twenty-eight-requires
-one_twenty_eight_requires c κs = let s = c.before.before.before in (halves.lower_ready (cut s), s.requires.1)
+one_twenty_eight_requires : tie.Need-one_twenty_eight-requires
+one_twenty_eight_requires c κs = (halves.lower_ready (cut c.before.before), c.requires.1)
 
-one_twenty_eight_requires_2 : tie.Need-one-twenty-eight-requires-2
+one_twenty_eight_requires_2 : tie.Need-one_twenty_eight-requires-2
 one_twenty_eight_requires_2 c κs =
-    let first = c.before.before.before in
-    let s = first.before.before.before.before in
-    (halves.upper_ready (cut s) first.one_twenty_eight.new.1.1.0 first.one_twenty_eight.ensures, s.requires.1)
+    (halves.upper_ready (cut c.before.before.before.before.before.before) c.one_twenty_eight.new.out c.one_twenty_eight.ensures, c.requires.1)
 
-largest_sum_requires : tie.Need-largest-sum-requires
+largest_sum_requires : tie.Need-largest_sum-requires
 largest_sum_requires c κs =
-    let second = c.before.before in
-    let first = second.before.before.before.before in
-    halves.crossing (cut first.before.before.before.before)
-    first.one_twenty_eight.new.1.1.0 first.one_twenty_eight.ensures second.one_twenty_eight2.new.1.1.0 second.one_twenty_eight2.ensures (2 ^ 13) (lit≤ tt)
+    halves.crossing (cut c.before.before.before.before.before.before.before.before)
+    c.one_twenty_eight.new.out c.one_twenty_eight.ensures c.one_twenty_eight-2.new.out c.one_twenty_eight-2.ensures (2 ^ 13) (lit≤ tt)
 
 returns : tie.Need-returns
 returns c =
-    let second = c.before.before.before in
-    let first = second.before.before.before.before in
-    let whole = cut first.before.before.before.before in (
+    let whole = cut c.before.before.before.before.before.before.before.before.before in (
       c.largest_sum.ensures
-          ∙ halves.peak_is whole first.one_twenty_eight.new.1.1.0 first.one_twenty_eight.ensures second.one_twenty_eight2.new.1.1.0 second.one_twenty_eight2.ensures,
-      halves.same_long whole first.one_twenty_eight.new.1.1.0 first.one_twenty_eight.ensures second.one_twenty_eight2.new.1.1.0 second.one_twenty_eight2.ensures,
+          ∙ halves.peak_is whole c.one_twenty_eight.new.out c.one_twenty_eight.ensures c.one_twenty_eight-2.new.out c.one_twenty_eight-2.ensures,
+      halves.same_long whole c.one_twenty_eight.new.out c.one_twenty_eight.ensures c.one_twenty_eight-2.new.out c.one_twenty_eight-2.ensures,
     )
 
 pub peak_of_two_fifty_six_spec : {M : Type 1} → statement M
