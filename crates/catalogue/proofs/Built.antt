@@ -72,7 +72,7 @@ pub places_back : (b : List ℕ) (pos : ℕ) (ps : List Place) → stand b pos p
 places_back b pos [] h = refl
 places_back b pos (p ∷ ps) h =
     let t = stand_cons b pos p ps h in
-    ap₂ (λ (n : ℕ) (l : List Place). record { offset = p.offset; size = n } ∷ l) (length_part _ _ b t.0.inside) (places_back b _ ps t.1)
+    ap₂ (λ (n : ℕ) (l : List Place). record { offset = p.offset; size = n } ∷ l) (length_part _ _ b t.0.inside) (places_back b (p.offset + p.size) ps t.1)
 
 -- The directory.
 word_back : (lo hi : ℕ) → lo < 256 → word (lo + 256 * hi) ≡ lo ∷ hi ∷ []
@@ -175,7 +175,7 @@ length_records b = length-map (places b) (item_at b) ∙ length_list_below (coun
 -- Back: the build of records that fit.
 pub fits_inside : (pos size : ℕ) (rs : List Item) → LieInOrder pos size rs → pos ≤ size
 fits_inside pos size [] f = f
-fits_inside pos size (r ∷ rs) f = omega (arith, f.0, fits_inside _ size rs f.2)
+fits_inside pos size (r ∷ rs) f = omega (arith, f.0, fits_inside (r.start + length r.bytes) size rs f.2)
 
 pub length_body : (pos size : ℕ) (rs : List Item) → LieInOrder pos size rs → length (body pos size rs) ≡ size - pos
 unfolding body

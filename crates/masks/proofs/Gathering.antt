@@ -52,13 +52,13 @@ module _ (checks : List Check) (m low high : ℕ) where
 module _ (before : ℕ → ℕ → Bool) {m : ℕ} (reply : Cut m → Reply) where
   pub turns_gathered : (c : Cut m) (cs : List (Cut m))
       → (q : ℕ → Bool) × Gathered before m reply q (merged_in_turn before (reply c) (replies reply cs)) × ((k : ℕ) → Covered k (c ∷ cs) → q k ≡ true)
-  turns_gathered c cs = let t = fold cs (single c) in (t.0, t.1, λ k u. t.2 k (lies u))
+  turns_gathered c cs = let t = fold cs _ _ (single c) in (t.0, t.1, λ k u. t.2 k (lies u))
     where
-      fold : {p : ℕ → Bool} {x : Reply} (ds : List (Cut m)) → Gathered before m reply p x
+      fold : (ds : List (Cut m)) (p : ℕ → Bool) (x : Reply) → Gathered before m reply p x
           → (q : ℕ → Bool) × Gathered before m reply q (merged_in_turn before x (replies reply ds)) × ((k : ℕ) → (p k ≡ true) ⊎ Covered k ds → q k ≡ true)
-      fold {p} [] g = (p, g, λ k h. ⊎_elim (λ e. e) (λ t. absurd (Memᴰ.not-nil t.1)) h)
-      fold {p} (d ∷ ds) g =
-          let t = fold ds (both g (single d)) in
+      fold [] p x g = (p, g, λ k h. ⊎_elim (λ e. e) (λ t. absurd (Memᴰ.not-nil t.1)) h)
+      fold (d ∷ ds) p x g =
+          let t = fold ds _ _ (both g (single d)) in
           (t.0, t.1, λ k h. t.2 k (⊎_elim (λ e. inl (or_left (p k) (in_range d.low d.high k) e)) (λ u. next k u) h))
         where
           or_left : (s t : Bool) → s ≡ true → (s || t) ≡ true

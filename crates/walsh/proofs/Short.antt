@@ -16,7 +16,7 @@ pub fits_narrow : (z : ℤ) → nat_abs z ≤ 2 ^ 13 + 2 ^ 13 → SFits w16 z
 fits_narrow z h = record { sfits = omega (arith, mag_abs z) }
 
 pub narrow_told : (z : ℤ) → mag z < 2 ^ 15 → narrow z ≡ z
-narrow_told z h = to_z-of_z (record { sfits = h })
+narrow_told z h = to_z-of_z {w = w16} {z = z} (record { sfits = h })
 
 pub widens : (z : ℤ) → mag z < 2 ^ 15 → SFits w32 (narrow z)
 widens z h = subst (SFits w32) (sym (narrow_told z h)) (record { sfits = omega arith })

@@ -100,8 +100,8 @@ module _ (t : ℕ) where
       let s = c.before.before in
       halves.one_value s.args.n s.args.values.now s.requires.1 c.if1.false
 
-pub +moebius-spec : {M : Type 1} → statement M
-+moebius-spec =
+pub +moebius_spec : {M : Type 1} → statement M
++moebius_spec =
     close μ (λ t. lts.spec (calls t) (given t) moebius.Post
     (sub_moebius t) (slice_relend_prefix_moebius t) (slice_aggregate_moebius t) (moebius_requires t) (sub_moebius_2 t)
     (mul_moebius t) (sub_moebius_3 t) (part_moebius_start t) (part_moebius_end t) (moebius_requires_2 t)

@@ -7,7 +7,7 @@ use Rattle.border.proofs.give.Statement.{statement}
 use Rattle.border.proofs.give.Tie as tie
 
 returns : tie.Need-returns-then-figures-found
-returns c = gives_other c.number_of_lem.ensures c.if-figures-found.true
+returns c = gives_other c.number_of.ensures c.if-figures-found.true
 
 returns-2 : tie.Need-returns
 returns-2 c =

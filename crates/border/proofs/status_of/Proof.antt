@@ -13,7 +13,7 @@ returns c = search rules
 
 returns-2 : tie.Need-returns-in-Declined
 unfolding status
-returns-2 c = c.number_of_lem.ensures ∙ sym (ap (λ (w : Written). status (said_written w)) c.in-Declined.is)
+returns-2 c = c.number_of.ensures ∙ sym (ap (λ (w : Written). status (said_written w)) c.in-Declined.is)
 
 pub status_of_spec : {M : Type 1} → statement M
 status_of_spec =

@@ -47,7 +47,7 @@ put_rows_requires : tie.Need-put_rows-requires
 put_rows_requires c κs = simp length-set (room c.before)
 
 same_length : tie.Need-shape_of-file
-same_length c = c.put_rows.auto.1 ∙ simp length-set
+same_length c = c.put_rows.auto.file ∙ simp length-set
 
 returns-2 : tie.Need-returns
 unfolding file_of

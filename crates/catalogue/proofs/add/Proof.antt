@@ -19,109 +19,90 @@ use borrow.Author.Rules.{rules}
 use Rattle.catalogue.proofs.add.Statement.{statement}
 use Rattle.catalogue.proofs.add.Tie as tie
 
-offered : (c : tie.After-enum-told) →
-    let a = c.before.before.before.before.before.before.args in
+offered : (c : tie.In_default) →
+    let a = c.args in
     first (offered_checks a.catalogue.now a.file.now) ≡ Accepted
-offered c = sym c.before.before.check_offered.ensures ∙ c.enum_told.given.1
+offered c = sym c.check_offered.ensures ∙ c.in_default.is
 
-whole : (c : tie.After-enum-told) → valid c.before.before.before.before.before.before.args.catalogue.now ≡ true
+whole : (c : tie.In_default) → valid c.args.catalogue.now ≡ true
 whole c = offered_whole _ _ (offered c)
 
-bytes : (c : tie.After-enum-told) → AllBytes c.before.before.before.before.before.before.args.catalogue.now
-bytes c i = omega (arith, c.before.before.before.before.before.slice_known.given i)
+bytes : (c : tie.In_default) → AllBytes c.args.catalogue.now
+bytes c i = omega (arith, c.slice_known-1.given i)
 
-counted : (c : tie.After-word-at) → c.word_at.result ≡ count c.before.before.before.before.before.before.before.before.args.catalogue.now
+counted : (c : tie.After-word_at-n) → c.word_at-n.result ≡ count c.args.catalogue.now
 unfolding count
-counted c = c.word_at.ensures.0
+counted c = c.word_at-n.ensures.0
 
-few : (c : tie.Else1) → count c.before.before.before.before.before.before.before.before.before.args.catalogue.now < 64
-few c = omega (arith, counted c.before, c.if1.false)
+few : (c : tie.Else-n-ge64) → count c.args.catalogue.now < 64
+few c = omega (arith, counted c.before, c.if-n-ge64.false)
 
-answer : (c : tie.After-find-gap) →
-    let a = c.before.before.before.before.before.before.before.before.before.before.before.args in
-    gap_for a.catalogue.now a.file.now ≡ c.find_gap.result
+answer : (c : tie.After-find_gap-gap) →
+    let a = c.args in
+    gap_for a.catalogue.now a.file.now ≡ c.find_gap-gap.result
 unfolding gap_for
-answer c = sym c.find_gap.ensures
+answer c = sym c.find_gap-gap.ensures
 
-starts : (c : tie.After-known-told2) →
-    let a = c.before.before.before.before.before.before.before.before.before.before.before.before.before.before.args in
-    gap_for a.catalogue.now a.file.now ≡ Starts c.before.gap.given.0.0 c.before.gap.given.0.1.0
-starts c = answer c.before.before.before ∙ c.before.gap.given.1
+starts : (c : tie.In-Starts) →
+    let a = c.args in
+    gap_for a.catalogue.now a.file.now ≡ Starts c.in-Starts.index c.in-Starts.start
+starts c = answer c.before ∙ c.in-Starts.is
 
-returns : tie.Need-returns
+returns : tie.Need-returns-in-Refused
 returns c =
-    let p = c.before.before.before in
-    let h = add_refused _ _ (sym p.check_offered.ensures ∙ c.before.e.given.1) in
+    let h = add_refused _ _ (sym c.check_offered.ensures ∙ c.in-Refused.is) in
     record { reply = reply_refused h _; content = after_refused h _ _ }
 
-word_at_requires : tie.Need-word-at-requires
-word_at_requires c κs = omega (arith, (valid_says _ (whole c.before)).low)
+word_at_requires : tie.Need-word_at-n-requires
+word_at_requires c κs = omega (arith, (valid_says _ (whole c)).low)
 
-returns-2 : tie.Need-returns-2
+returns-2 : tie.Need-returns-then-n-ge64
 returns-2 c =
-    let t = c.before.before.before in
-    let h = add_full _ _ (offered t) (omega (arith, counted c.before, c.if1.true)) in
+    let h = add_full _ _ (offered c.before.before) (omega (arith, counted c.before, c.if-n-ge64.true)) in
     record { reply = reply_refused h _; content = after_refused h _ _ }
 
-find_gap_requires : tie.Need-find-gap-requires
+find_gap_requires : tie.Need-find_gap-gap-requires
 find_gap_requires c κs =
-    let w = c.before.before in
-    (whole w.before.before, counted w)
+    (whole c.before.before, counted c.before)
 
-returns-3 : tie.Need-returns-3
+returns-3 : tie.Need-returns-in_default-gap
 returns-3 c =
-    let g = c.before.before in
-    let s = g.before.before in
-    let t = s.before.before.before in
-    let h = add_nowhere _ _ (offered t) (few s) (answer g ∙ c.enum_told2.given.1) in
+    let h = add_nowhere _ _ (offered c.before.before.before.before) (few c.before.before) (answer c.before ∙ c.in_default-gap.is) in
     record { reply = reply_refused h _; content = after_refused h _ _ }
 
-open_place_requires : tie.Need-open-place-requires
+open_place_requires : tie.Need-open_place-requires
 open_place_requires c κs =
-    let t = c.before in
-    let s = t.before.before.before.before.before in
-    let w = s.before in
-    let o = w.before.before in
-    let h = whole o in
+    let h = whole c.before.before.before.before.before in
     let low = (valid_says _ h).low in
     let high = (valid_says _ h).high in
-    let room = gap_room _ _ h (starts t) in
-    let n = counted w in (
-      omega (arith, gap_index_lem _ _ h (starts t), n),
-      s.if1.false,
+    let room = gap_room _ _ h (starts c.before) in
+    let n = counted c.before.before.before.before in (
+      omega (arith, gap_index_lem _ _ h (starts c.before), n),
+      c.if-n-ge64.false,
       low,
       omega (arith, room, high),
       omega (arith, room, high),
-      ap (λ (k : ℕ). part (4 * k + 2) 4 o.before.before.before.before.before.before.args.catalogue.now) n ∙ next_place _ [] h (few s),
+      ap (λ (k : ℕ). part (4 * k + 2) 4 c.args.catalogue.now) n ∙ next_place _ [] h (few c.before.before.before),
     )
 
-copy_in_requires : tie.Need-copy-in-requires
+copy_in_requires : tie.Need-copy_in-requires
 copy_in_requires c κs =
-    let t = c.before.before.before.before.before in
-    let h = whole t.before.before.before.before.before.before.before.before in
-    omega (arith, gap_room _ _ h (starts t))
+    let h = whole c.before.before.before.before.before.before.before.before.before in
+    omega (arith, gap_room _ _ h (starts c.before.before.before.before.before))
 
-cast_t24 : tie.Need-overflow-cast-t24
+cast_t24 : tie.Need-overflow_cast-result
 cast_t24 c =
-    let t = c.before.before.before.before.before.before.before.before in
-    let s = t.before.before.before.before.before in
-    let h = whole s.before.before.before in
-    omega (arith, gap_index_lem _ _ h (starts t), few s)
+    let h = whole c.before.before.before.before.before.before.before.before.before.before.before.before in
+    omega (arith, gap_index_lem _ _ h (starts c.before.before.before.before.before.before.before.before), few c.before.before.before.before.before.before.before.before.before.before)
 
-returns-4 : tie.Need-returns-4
+returns-4 : tie.Need-returns
 returns-4 c =
-    let i = c.before.before in
-    let o = i.before.before.before.before in
-    let t = o.before.before in
-    let s = t.before.before.before.before.before in
-    let w = s.before in
-    let g = w.before.before in
-    let a = g.before.before.before.before.before.before.args in
-    let h = add_accepted _ _ (offered g) (few s) (starts t) in
+    let a = c.args in
+    let h = add_accepted _ _ (offered c.before.before.before.before.before.before.before.before.before.before.before.before) (few c.before.before.before.before.before.before.before.before.before.before) (starts c.before.before.before.before.before.before.before.before) in
     record {
-      reply = ap (λ (x : Gap). figures (gap_index x ∷ [])) (sym (starts t)) ∙ reply_accepted h _;
-      content = i.copy_in.ensures ∙ ap (λ (l : List ℕ). sets l t.before.gap.given.0.1.0 a.file.now) o.open_place.ensures
-          ∙ added_is a.catalogue.now a.file.now (whole g) (starts t) (bytes g) w.word_at.result (counted w) s.if1.false
+      reply = ap (λ (x : Gap). figures (gap_index x ∷ [])) (sym (starts c.before.before.before.before.before.before.before.before)) ∙ reply_accepted h _;
+      content = c.copy_in.ensures ∙ ap (λ (l : List ℕ). sets l c.in-Starts.start a.file.now) c.open_place.ensures
+          ∙ added_is a.catalogue.now a.file.now (whole c.before.before.before.before.before.before.before.before.before.before.before.before) (starts c.before.before.before.before.before.before.before.before) (bytes c.before.before.before.before.before.before.before.before.before.before.before.before) c.word_at-n.result (counted c.before.before.before.before.before.before.before.before.before.before.before) c.if-n-ge64.false
           ∙ after_accepted h _ _;
     }
 

@@ -8,14 +8,14 @@ use borrow.Author.Rules.{rules}
 use Rattle.catalogue.proofs.check_offered.Statement.{statement}
 use Rattle.catalogue.proofs.check_offered.Tie as tie
 
-returns : tie.Need-returns
+returns : tie.Need-returns-then-not-is_valid
 unfolding offered_checks
-returns c = found (stop (fails c.before.is_valid.ensures c.if1.true))
+returns c = found (stop (fails c.is_valid.ensures c.if-not-is_valid.true-raw))
 
-returns-2 : tie.Need-returns-2
+returns-2 : tie.Need-returns
 unfolding offered_checks file_found
 returns-2 c =
-    c.check_alone.ensures ∙ sym (first_passed Catalogue _ _ (holds c.before.before.is_valid.ensures c.before.if1.false))
+    c.check_alone.ensures ∙ sym (first_passed Catalogue _ _ (holds c.is_valid.ensures c.if-not-is_valid.false-raw))
 
 pub check_offered_spec : {M : Type 1} → statement M
 check_offered_spec =

@@ -8,36 +8,36 @@ use borrow.Author.Rules.{rules}
 use Rattle.catalogue.proofs.clear.Statement.{statement}
 use Rattle.catalogue.proofs.clear.Tie as tie
 
-abbrev invariant-loop : tie.invariant-loop
-invariant-loop b₀ start size i₀ b i = Storing b₀ start (replicate size 0) i b
+abbrev invariant-loop-i : tie.invariant-loop-i
+invariant-loop-i b₀ start size i₀ b i = Storing b₀ start (replicate size 0) i b
 
-abbrev decreases-loop : tie.decreases-loop
-decreases-loop b₀ start size i₀ b i = size - i
+abbrev decreases-loop-i : tie.decreases-loop-i
+decreases-loop-i b₀ start size i₀ b i = size - i
 
 zeros : (n : ℕ) → length (replicate {A = ℕ} n 0) ≡ n
 zeros n = length-replicate n 0
 
-loop-holds : tie.Need-loop-init invariant-loop decreases-loop
+loop-holds : tie.Need-loop-i-init invariant-loop-i decreases-loop-i
 loop-holds c = storing_none _ _ _
 
-add_b : tie.Need-overflow-add-b invariant-loop decreases-loop
-add_b c = omega (arith, zeros c.before.before.args.size)
+add_b : tie.Need-overflow_add-b invariant-loop-i decreases-loop-i
+add_b c = omega (arith, zeros c.args.size)
 
-slice_write_b : tie.Need-slice-write-b invariant-loop decreases-loop
-slice_write_b c = omega (arith, storing_length c.before.loop.invariant)
+slice_write_b : tie.Need-bounds-b-start invariant-loop-i decreases-loop-i
+slice_write_b c = omega (arith, storing_length c.loop-i.invariant)
 
-loop-again : tie.Need-loop-preserved invariant-loop decreases-loop
+loop-again : tie.Need-loop-i-preserved invariant-loop-i decreases-loop-i
 loop-again c =
-    let a = c.before.before.args in
-    storing_next c.before.loop.invariant (omega (arith, zeros a.size, c.loop-test.true)) 0 (sym (get_or-replicate a.size c.before.loop.i 0 0 c.loop-test.true))
+    let a = c.args in
+    storing_next c.loop-i.invariant (omega (arith, zeros a.size, c.loop-i-test.true)) 0 (sym (get_or-replicate a.size c.loop-i.i 0 0 c.loop-i-test.true))
 
-same_length : tie.Need-same-length invariant-loop decreases-loop
-same_length c = storing_length c.before.loop.invariant
+same_length : tie.Need-shape_of-b invariant-loop-i decreases-loop-i
+same_length c = storing_length c.loop-i.invariant
 
-returns : tie.Need-returns invariant-loop decreases-loop
-returns c = storing_all c.before.loop.invariant (omega (arith, zeros c.before.before.args.size, c.loop-test.false))
+returns : tie.Need-returns invariant-loop-i decreases-loop-i
+returns c = storing_all c.loop-i.invariant (omega (arith, zeros c.args.size, c.loop-i-test.false))
 
 pub clear_spec : {M : Type 1} → statement M
 clear_spec =
     tie.close
-    (tie.spec invariant-loop decreases-loop loop-holds add_b slice_write_b (λ c. search rules) (λ c. search rules) loop-again same_length returns)
+    (tie.spec invariant-loop-i decreases-loop-i loop-holds add_b slice_write_b (λ c. search rules) (λ c. search rules) loop-again same_length returns)

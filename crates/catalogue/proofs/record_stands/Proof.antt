@@ -13,46 +13,39 @@ use borrow.Author.Rules.{rules}
 use Rattle.catalogue.proofs.record_stands.Statement.{statement}
 use Rattle.catalogue.proofs.record_stands.Tie as tie
 
-answer : (c : tie.After-check-alone) →
-    let a = c.before.before.before.before.before.before.before.before.args in
+answer : (c : tie.After-check_alone) →
+    let a = c.args in
     accepted (part a.offset a.size a.b.now) ≡ is_accepted c.check_alone.result
 unfolding accepted
 answer c =
-    let a = c.before.before.before.before.before.before.before.before.args in
+    let a = c.args in
     let e : a.size ≡ a.offset + a.size - a.offset = omega arith in
     ap (λ (n : ℕ). is_accepted (file_found (take n (drop a.offset a.b.now)))) e ∙ ap is_accepted (sym c.check_alone.ensures)
 
-returns : tie.Need-returns
+returns : tie.Need-returns-then-offset-end
 unfolding stands
-returns c = stop_at _ _ (lt-leb _ _ c.if1.true)
+returns c = stop_at _ _ (lt-leb _ _ c.if-offset-end.true)
 
-returns-2 : tie.Need-returns-2
+returns-2 : tie.Need-returns-then-b-past
 unfolding stands
-returns-2 c = go_on _ _ (le-leb _ _ c.before.if1.false) (stop_at _ _ (lt-leb _ _ c.if2.true))
+returns-2 c = go_on _ _ (le-leb _ _ c.if-offset-end.false) (stop_at _ _ (lt-leb _ _ c.if-b-past.true))
 
-returns-3 : tie.Need-returns-3
+returns-3 : tie.Need-returns-then-not-values_below
 unfolding stands
 returns-3 c =
-    let p = c.before.before.before in
-    go_on _ _ (le-leb _ _ p.before.if1.false) (go_on _ _ (le-leb _ _ p.if2.false) (stop_at _ _ (fails c.before.values_below.ensures c.if3.true)))
+    go_on _ _ (le-leb _ _ c.if-offset-end.false) (go_on _ _ (le-leb _ _ c.if-b-past.false) (stop_at _ _ (fails c.values_below.ensures c.if-not-values_below.true-raw)))
 
-returns-4 : tie.Need-returns-4
+returns-4 : tie.Need-returns-in-Refused
 unfolding stands
 returns-4 c =
-    let r = c.before.before in
-    let v = r.before.before in
-    let p = v.before.before.before in
-    go_on _ _ (le-leb _ _ p.before.if1.false) (go_on _ _ (le-leb _ _ p.if2.false) (go_on _ _ (holds v.before.values_below.ensures v.if3.false)
-    (sym (answer r ∙ ap is_accepted c.enum_told.given.1))))
+    go_on _ _ (le-leb _ _ c.if-offset-end.false) (go_on _ _ (le-leb _ _ c.if-b-past.false) (go_on _ _ (holds c.values_below.ensures c.if-not-values_below.false-raw)
+    (sym (answer c.before ∙ ap is_accepted c.in-Refused.is))))
 
-returns-5 : tie.Need-returns-5
+returns-5 : tie.Need-returns
 unfolding stands
 returns-5 c =
-    let r = c.before.before in
-    let v = r.before.before in
-    let p = v.before.before.before in
-    go_on _ _ (le-leb _ _ p.before.if1.false) (go_on _ _ (le-leb _ _ p.if2.false) (go_on _ _ (holds v.before.values_below.ensures v.if3.false)
-    (sym (answer r ∙ ap is_accepted c.enum_told2.given.1))))
+    go_on _ _ (le-leb _ _ c.if-offset-end.false) (go_on _ _ (le-leb _ _ c.if-b-past.false) (go_on _ _ (holds c.values_below.ensures c.if-not-values_below.false-raw)
+    (sym (answer c.before ∙ ap is_accepted c.in_default.is))))
 
 pub record_stands_spec : {M : Type 1} → statement M
 record_stands_spec =

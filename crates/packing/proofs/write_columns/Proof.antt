@@ -36,7 +36,7 @@ loop-again c =
     let next = next_column c.loop-j.j c.args.size in
     let inside = column_inside c.loop-j.j c.args.m c.args.size c.loop-j-test.true in (
       omega arith,
-      record { within = omega arith; long = omega (arith, c.loop-j.invariant.1.long); c.before.before = λ p h. c.write_column.ensures p (omega arith) },
+      record { within = omega arith; long = omega (arith, c.loop-j.invariant.1.long); done = λ p h. c.write_column.ensures p (omega arith) },
     )
 
 same_length : tie.Need-shape_of-out invariant-loop-j decreases-loop-j

@@ -207,8 +207,8 @@ module _ (t : ℕ) where
       c.descend-else-n-eq4.new.out c.descend-else-n-eq4.ensures c.descend-else-n-eq4-2.new.out c.descend-else-n-eq4-2.ensures
       c.butterfly-else-n-eq4.new.values c.butterfly-else-n-eq4.auto.values c.butterfly-else-n-eq4.ensures
 
-pub +descend-spec : {M : Type 1} → statement M
-+descend-spec =
+pub +descend_spec : {M : Type 1} → statement M
++descend_spec =
     close μ (λ t. lts.spec (calls t) (given t) descend.Post
     (by_definition_requires t) (by_table_requires t) (slice_aggregate_descend t) (slice_relend_prefix_descend t)
     (slice_aggregate_descend_2 t) (descend_requires t) (sub_descend t) (part_descend_start t) (part_descend_end t)

@@ -100,8 +100,8 @@ module _ (t : ℕ) where
       c.transform.new.values c.transform.ensures c.transform-else-n-lt5.new.values c.transform-else-n-lt5.ensures
       c.butterfly.new.values c.butterfly.auto.values c.butterfly.ensures
 
-pub +transform-spec : {M : Type 1} → statement M
-+transform-spec =
+pub +transform_spec : {M : Type 1} → statement M
++transform_spec =
     close μ (λ t. lts.spec (calls t) (given t) transform.Post
     (λ c κs. (c.if-n-lt5.true, c.requires.1)) (sub_transform t) (slice_relend_prefix_transform t) (slice_aggregate_transform t)
     (transform_requires t) (sub_transform_2 t) (mul_transform t) (sub_transform_3 t) (part_transform_start t) (part_transform_end t)

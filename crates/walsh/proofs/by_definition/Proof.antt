@@ -43,7 +43,7 @@ loop-again c =
       size,
       filled_more (pos 0) (λ v. approximation c.args.n (at table) v) (2 ^ c.args.n) w c.loop-w.out c.loop-w.invariant.1
           (omega (arith, c.loop-w-test.true, size)) _
-          (word_told c.value.result c.value.type-inv ∙ c.value.ensures ∙ by_size c.args.n table w c.requires.read.n_low size),
+          (word_told c.value.result c.value.type_inv ∙ c.value.ensures ∙ by_size c.args.n table w c.requires.read.n_low size),
     )
 
 same_length : tie.Need-shape_of-out invariant-loop-w decreases-loop-w

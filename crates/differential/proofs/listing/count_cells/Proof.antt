@@ -57,7 +57,7 @@ loop-again c =
     let box = c.requires.0 in
     let same = c.requires.2 in
     let t = row c.before.before.before in
-    ⊎_elim (λ w. rw w.2 (counting_more c.loop-a.invariant (below c.before.before.before) _ t.few (measured_number box t same w.if-standings-a.true)))
+    ⊎_elim (λ w. rw w.count-is (counting_more c.loop-a.invariant (below c.before.before.before) _ t.few (measured_number box t same w.if-standings-a.true)))
     (λ w. rw w.count-is (counting_same c.loop-a.invariant (below c.before.before.before) (measured_other box _ same (c.loop-a.invariant.a_low, below c.before.before.before) t w.if-standings-a.false))) c.if-standings-a.branch-raw
 
 returns : tie.Need-returns invariant-loop-a decreases-loop-a

@@ -42,12 +42,11 @@ list_runs_requires c κs =
     )
 
 returns : tie.Need-returns
-returns c =
-    (
-      c.list_runs.ensures.0 ∙ ap (λ (l : List ℕ). c.args.start + length l) (are_row c.before.before.before.before.before.before),
-      c.list_runs.ensures.1 ∙ ap (sets c.args.list.now c.args.start) (are_row c.before.before.before.before.before.before),
-      record { c.before.before.before.before.before.before.before.before.before.before.before = _; paired = c.write_pairs.ensures; c.before.before.before.before.before.before.before = c.sort.ensures },
-    )
+returns c = (
+  c.list_runs.ensures.0 ∙ ap (λ (l : List ℕ). c.args.start + length l) (are_row c.before.before.before.before.before.before),
+  c.list_runs.ensures.1 ∙ ap (sets c.args.list.now c.args.start) (are_row c.before.before.before.before.before.before),
+  record { written = _; paired = c.write_pairs.ensures; sorted = c.sort.ensures },
+)
 
 pub list_several_spec : {M : Type 1} → statement M
 list_several_spec =

@@ -116,7 +116,7 @@ module _ (t : ℕ) where
       c.descend.new.out c.descend.ensures c.descend-else-n-le7.new.out c.descend-else-n-le7.ensures
       c.butterfly.new.values c.butterfly.auto.values c.butterfly.ensures
 
-pub +descend-spec : {M : Type 1} → statement M
-+descend-spec =
+pub +descend_spec : {M : Type 1} → statement M
++descend_spec =
     close μ (λ t. lts.spec (calls t) (given t) descend.Post
     (at_once_requires t) (sub_descend t) (slice_aggregate_descend t) (slice_relend_prefix_descend t) (slice_aggregate_descend_2 t) (descend_requires t) (sub_descend_2 t) (sub_descend_3 t) (part_descend_start t) (part_descend_end t) (mul_descend t) (sub_descend_4 t) (part_descend_start_2 t) (part_descend_end_2 t) (descend_requires_2 t) (butterfly_requires t) (same_length t) (returns t) (same_length_2 t) (returns-2 t))

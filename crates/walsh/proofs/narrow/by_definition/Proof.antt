@@ -42,7 +42,7 @@ value_is : (c : tie.After-value invariant-loop-w decreases-loop-w) →
     let a = c.args in
     word c.value.result ≡ approximation a.n (at a.table.now) c.loop-w.w
 value_is c =
-    word_told c.value.result c.value.type-inv ∙ c.value.ensures
+    word_told c.value.result c.value.type_inv ∙ c.value.ensures
     ∙ by_size c.args.n c.args.table.now c.loop-w.w c.requires.read.n_low c.requires.read.size
 
 cast_out : tie.Need-overflow_cast-out invariant-loop-w decreases-loop-w

@@ -49,7 +49,7 @@ returns-3 c =
 returns-4 : tie.Need-returns-else-n-eq6
 returns-4 c =
     let called = c.at_once in
-    (c.largest_magnitude.ensures ∙ ap largest_magnitude called.ensures, called.auto.1.1.1.0)
+    (c.largest_magnitude.ensures ∙ ap largest_magnitude called.ensures, called.auto.out)
 
 pub peak_spec : {M : Type 1} → statement M
 peak_spec =
