@@ -20,7 +20,7 @@ ghost use Rattle.algebraic.specs.Work.{WordInserted, BasisGathered, DegreesSwept
 use refusals::{Checked, Refusal, Verdict, Written};
 
 // The weakest component so far: its degree, its mask, and the threshold that another degree must be below to matter.
-#[derive(Drop)]
+#[derive(Clone, Copy)]
 pub struct Weakest {
     pub degree: u32,
     pub c: u32,
@@ -28,14 +28,14 @@ pub struct Weakest {
 }
 
 // A mask that a sweep meets, with its component's degree.
-#[derive(Drop)]
+#[derive(Clone, Copy)]
 pub struct Met {
     pub c: u64,
     pub degree: u32,
 }
 
 // The answer of the degree.
-#[derive(Drop)]
+#[derive(Clone, Copy)]
 pub enum DegreeFound {
     Reached { degree: u32, c: u32 },
     Declined(Refusal),

@@ -23,7 +23,7 @@ ghost use Rattle.avalanche.specs.Work.{FirstWithin, Listed, ChangesInside, Large
 use refusals::{Checked, Refusal, Verdict};
 
 // The best so far.
-#[derive(Drop)]
+#[derive(Clone, Copy)]
 pub struct FoundChange {
     pub figure: u32,
     pub c: u32,
@@ -31,14 +31,14 @@ pub struct FoundChange {
 }
 
 // The answer of the autocorrelation and of the dynamic distance.
-#[derive(Drop)]
+#[derive(Clone, Copy)]
 pub enum LargestChange {
     Reached { figure: u32, c: u32, s: u32 },
     Declined(Refusal),
 }
 
 // The answer of the two over a part of the combinations: the same, or that none within the limit lies in the part.
-#[derive(Drop)]
+#[derive(Clone, Copy)]
 pub enum PartChange {
     Reached { figure: u32, c: u32, s: u32 },
     Nothing,

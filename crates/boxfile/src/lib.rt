@@ -12,7 +12,7 @@ ghost use Rattle.boxfile.specs.File.{row_bytes, write_checks, WriteCalled};
 use refusals::{Checked, Refusal, Written};
 
 // The answer of reading a file: the widths of its box.
-#[derive(Drop)]
+#[derive(Clone, Copy)]
 pub enum BoxFile {
     Read { n: u32, m: u32 },
     Declined(Refusal),

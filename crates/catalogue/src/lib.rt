@@ -15,21 +15,21 @@ use refusals::{Checked, Refusal, Written};
 const RECORDS_START: usize = 258;
 
 // The answer of a call that gives one number.
-#[derive(Drop)]
+#[derive(Clone, Copy)]
 pub enum Told {
     Number(u32),
     Declined(Refusal),
 }
 
 // The answer of the call that says where a record lies.
-#[derive(Drop)]
+#[derive(Clone, Copy)]
 pub enum Fetched {
     Lies { offset: u32, size: u32 },
     Unfetched(Refusal),
 }
 
 // A gap between the records: the index that a record there has, and its start.
-#[derive(Drop)]
+#[derive(Clone, Copy)]
 pub enum Gap {
     Starts { index: usize, start: usize },
     Nowhere,

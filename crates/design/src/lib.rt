@@ -15,7 +15,7 @@ use refusals::{Checked, Refusal, Written};
 // A mark: 1 and the rows of the moment when it was last set, or zeros where it was never set. A caller in C may hand in any number, so it
 // is no bool.
 #[repr(C)]
-#[derive(Drop)]
+#[derive(Clone, Copy)]
 pub struct Snapshot {
     pub taken: u32,
     pub rows: [u32; 256],
@@ -23,7 +23,7 @@ pub struct Snapshot {
 
 // One box, its rows at the start of the array, and the marks 1 to 16.
 #[repr(C)]
-#[derive(Drop)]
+#[derive(Clone, Copy)]
 pub struct Design {
     pub n: u32,
     pub m: u32,
@@ -32,14 +32,14 @@ pub struct Design {
 }
 
 // The design after an operation, with the operation's answer.
-#[derive(Drop)]
+#[derive(Clone, Copy)]
 pub struct Tuned {
     pub design: Design,
     pub answer: Written,
 }
 
 // The answer of reading a design: the widths of its box.
-#[derive(Drop)]
+#[derive(Clone, Copy)]
 pub enum BoxHeld {
     Given { n: u32, m: u32 },
     Declined(Refusal),

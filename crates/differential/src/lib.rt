@@ -24,7 +24,7 @@ const TWO_TO_40: u64 = 1099511627776;
 const STANDING_OF_0: u64 = 4294967295;
 
 // The best cell so far.
-#[derive(Drop)]
+#[derive(Clone, Copy)]
 pub struct FoundCell {
     pub count: u32,
     pub a: u32,
@@ -32,21 +32,21 @@ pub struct FoundCell {
 }
 
 // What a rise leaves: the standing of the difference whose count has risen, and the running value.
-#[derive(Drop)]
+#[derive(Clone, Copy)]
 pub struct AfterRise {
     pub standing: u64,
     pub running: u64,
 }
 
 // The answer of the largest cell.
-#[derive(Drop)]
+#[derive(Clone, Copy)]
 pub enum LargestCell {
     Reached { count: u32, a: u32, beta: u32 },
     Declined(Refusal),
 }
 
 // The answer of the list of cells: how many there are.
-#[derive(Drop)]
+#[derive(Clone, Copy)]
 pub enum CellList {
     Listed { count: u32 },
     Unlisted(Refusal),

@@ -15,7 +15,7 @@ use crate::{CellList, STANDING_OF_0, TWO_TO_32, TWO_TO_40, larger, rise, write_p
 use refusals::Refusal;
 
 // What the list needs of a row: its largest standing, and how many of its cells reach that count.
-#[derive(Drop)]
+#[derive(Clone, Copy)]
 pub struct RowLargest {
     pub standing: u64,
     pub cells: u32,

@@ -20,7 +20,7 @@ use refusals::{Checked, Refusal, Written};
 
 // The best pair so far. It stands in a server, which crosses to C by value: so its fields lie as C lays them.
 #[repr(C)]
-#[derive(Drop)]
+#[derive(Clone, Copy)]
 pub struct Found {
     pub count: u32,
     pub c: u32,
@@ -29,14 +29,14 @@ pub struct Found {
 }
 
 // The answer of the nonlinearity call.
-#[derive(Drop)]
+#[derive(Clone, Copy)]
 pub enum LeastPair {
     Reached { count: u32, c: u32, w: u32, b: u32 },
     Declined(Refusal),
 }
 
 // The answer of the nonlinearity call over a part of the combinations: the same, or that none within the limit lies in the part.
-#[derive(Drop)]
+#[derive(Clone, Copy)]
 pub enum PartPair {
     Reached { count: u32, c: u32, w: u32, b: u32 },
     Nothing,

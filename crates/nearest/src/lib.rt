@@ -14,14 +14,14 @@ use linear::LeastPair;
 use refusals::Refusal;
 
 // The answer of the call: how many pairs there are, all of which stand in the list.
-#[derive(Drop)]
+#[derive(Clone, Copy)]
 pub enum PairList {
     Listed { count: u64 },
     Declined(Refusal),
 }
 
 // What is listed: the pairs of a box of n inputs and m outputs, within the limit i, that differ at d inputs.
-#[derive(Drop)]
+#[derive(Clone, Copy)]
 struct Sought {
     n: u32,
     m: u32,

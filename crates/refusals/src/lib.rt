@@ -7,7 +7,7 @@ ghost use Rattle.boolean.specs.Sums.{largest_below};
 ghost use Rattle.refusals.specs.Table.{number, first, in_range, all_below, box_checks_up_to};
 ghost use Rattle.refusals.specs.Table.{box_checks, limit_checks, table_checks, table_call_checks};
 
-#[derive(Drop)]
+#[derive(Clone, Copy)]
 pub enum Refusal {
     InputWidth,
     OutputWidth,
@@ -31,21 +31,21 @@ pub enum Refusal {
 }
 
 // What a call's checks find: nothing, or the first that applies.
-#[derive(Drop)]
+#[derive(Clone, Copy)]
 pub enum Checked {
     Accepted,
     Refused(Refusal),
 }
 
 // The answer of a call that only writes.
-#[derive(Drop)]
+#[derive(Clone, Copy)]
 pub enum Written {
     Done,
     Declined(Refusal),
 }
 
 // The answer of a call that says yes or no.
-#[derive(Drop)]
+#[derive(Clone, Copy)]
 pub enum Verdict {
     Yes,
     No,

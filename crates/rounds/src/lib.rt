@@ -22,7 +22,7 @@ ghost use Rattle.rounds.specs.Work.{found_candidate, Highest, TopOf, TopIf, Witn
 use refusals::{Checked, Refusal};
 
 // The inputs and outputs of the four boxes that are handed over.
-#[derive(Drop)]
+#[derive(Clone, Copy)]
 pub struct Widths {
     pub n1: u32,
     pub m1: u32,
@@ -35,14 +35,14 @@ pub struct Widths {
 }
 
 // The first mask of the largest magnitude of a spectrum, and the sign bit of the value there.
-#[derive(Drop)]
+#[derive(Clone, Copy)]
 struct Top {
     mask: u32,
     sign: u32,
 }
 
 // A mask for each box, 0 for a box past the number given, and b.
-#[derive(Drop)]
+#[derive(Clone, Copy)]
 struct Witness {
     w1: u32,
     w2: u32,
@@ -52,14 +52,14 @@ struct Witness {
 }
 
 // The best component so far, with the product of the boxes' largest magnitudes.
-#[derive(Drop)]
+#[derive(Clone, Copy)]
 struct Found {
     size: u64,
     c: u32,
 }
 
 // The first nearest pair of a sum: the figure, c, a mask for each box (0 past the number given) and b.
-#[derive(Drop)]
+#[derive(Clone, Copy)]
 struct NearestSum {
     figure: u32,
     c: u32,
@@ -71,7 +71,7 @@ struct NearestSum {
 }
 
 // The answer of the call: the figure, c, a mask for each box (0 past the number given) and b.
-#[derive(Drop)]
+#[derive(Clone, Copy)]
 pub enum LeastSum {
     Reached {
         figure: u32,
@@ -86,7 +86,7 @@ pub enum LeastSum {
 }
 
 // The answer of the call over a part of the combinations: the same, or that none within the limit lies in the part.
-#[derive(Drop)]
+#[derive(Clone, Copy)]
 pub enum PartSum {
     Reached {
         figure: u32,

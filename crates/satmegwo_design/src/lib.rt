@@ -13,7 +13,7 @@ use refusals::Refusal;
 
 // The design after an operation, with 0 or the number of the refusal.
 #[repr(C)]
-#[derive(Drop)]
+#[derive(Clone, Copy)]
 pub struct Outcome {
     pub design: Design,
     pub status: u32,

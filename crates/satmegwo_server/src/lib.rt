@@ -10,7 +10,7 @@ use server::{Asked, Server};
 
 // The server after a call that may be refused, with the status.
 #[repr(C)]
-#[derive(Drop)]
+#[derive(Clone, Copy)]
 pub struct Outcome {
     pub server: Server,
     pub status: u32,

@@ -22,7 +22,7 @@ use refusals::{Checked, Refusal, Written};
 // A place: a box with the number of its combinations that were examined and the best pair among exactly those, or, where `taken` is not
 // 1, none. A caller in C may hand in any number, so it is no bool.
 #[repr(C)]
-#[derive(Drop)]
+#[derive(Clone, Copy)]
 pub struct Place {
     pub taken: u32,
     pub n: u32,
@@ -34,21 +34,21 @@ pub struct Place {
 
 // The eight places, and the one last served: 0 before the first step.
 #[repr(C)]
-#[derive(Drop)]
+#[derive(Clone, Copy)]
 pub struct Server {
     pub places: [Place; 8],
     pub last: u32,
 }
 
 // The server after a call, with the call's answer.
-#[derive(Drop)]
+#[derive(Clone, Copy)]
 pub struct Served {
     pub server: Server,
     pub answer: Written,
 }
 
 // The answer of asking.
-#[derive(Drop)]
+#[derive(Clone, Copy)]
 pub enum Asked {
     Unfinished,
     Finished { count: u32, c: u32, w: u32, b: u32 },

@@ -20,7 +20,7 @@ use linear::LeastPair;
 use refusals::Verdict;
 
 // What comes of a line: it is printed up to a place, or its figure is refused and the sheet stops before it.
-#[derive(Drop)]
+#[derive(Clone, Copy)]
 enum Printed {
     UpTo(usize),
     Stopped,

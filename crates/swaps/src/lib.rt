@@ -22,7 +22,7 @@ use linear::{Found, LeastPair};
 use refusals::{Checked, Refusal};
 
 // The answer of the call: both inputs and the new figure, none, or a refusal.
-#[derive(Drop)]
+#[derive(Clone, Copy)]
 pub enum RaisingSwap {
     Raised { low: u32, high: u32, figure: u32 },
     NoSwap,
@@ -30,14 +30,14 @@ pub enum RaisingSwap {
 }
 
 // What a try of a swap found: no component and the new figure, where it raises the nonlinearity; or else a component that turned it down.
-#[derive(Drop)]
+#[derive(Clone, Copy)]
 struct Attempt {
     mask: u32,
     figure: u32,
 }
 
 // What a part of the search found, with the new figure, and the component to try first next time.
-#[derive(Drop)]
+#[derive(Clone, Copy)]
 struct Searched {
     found: bool,
     low: usize,
@@ -47,7 +47,7 @@ struct Searched {
 }
 
 // What each part of the search is told: the widths of the box, its nonlinearity, and how many tables of nearest pairs there are.
-#[derive(Drop)]
+#[derive(Clone, Copy)]
 struct Job {
     n: u32,
     m: u32,

@@ -6,32 +6,31 @@ use Rattle.algebraic.proofs.Adding.{Adding, adding_none, adding_more, adding_all
 use Rattle.algebraic.proofs.add_lower_half.Statement.{statement}
 use Rattle.algebraic.proofs.add_lower_half.Tie as tie
 
-abbrev invariant-loop : tie.invariant-loop
-invariant-loop values₀ h k₀ values k = Adding h k values₀ values
+abbrev invariant-loop-k : tie.invariant-loop-k
+invariant-loop-k values₀ h k₀ values k = Adding h k values₀ values
 
-abbrev decreases-loop : tie.decreases-loop
-decreases-loop values₀ h k₀ values k = h - k
+abbrev decreases-loop-k : tie.decreases-loop-k
+decreases-loop-k values₀ h k₀ values k = h - k
 
-loop-holds : tie.Need-loop-init invariant-loop decreases-loop
+loop-holds : tie.Need-loop-k-init invariant-loop-k decreases-loop-k
 loop-holds c = adding_none c.args.h c.args.values.now
 
-slice_read_values : tie.Need-slice-read-values invariant-loop decreases-loop
-slice_read_values c = omega (arith, c.before.before.loop.invariant.long, c.before.before.before.requires)
+slice_read_values : tie.Need-bounds-values-k invariant-loop-k decreases-loop-k
+slice_read_values c = omega (arith, c.loop-k.invariant.long, c.requires)
 
-loop-again : tie.Need-loop-preserved invariant-loop decreases-loop
+loop-again : tie.Need-loop-k-preserved invariant-loop-k decreases-loop-k
 loop-again c =
-    let at_loop = c.before.before.before in
-    adding_more at_loop.before.requires at_loop.loop.invariant c.before.before.loop-test.true
+    adding_more c.requires c.loop-k.invariant c.loop-k-test.true
 
-same_length : tie.Need-same-length invariant-loop decreases-loop
-same_length c = c.before.loop.invariant.long
+same_length : tie.Need-shape_of-values invariant-loop-k decreases-loop-k
+same_length c = c.loop-k.invariant.long
 
-returns : tie.Need-returns invariant-loop decreases-loop
-returns c = adding_all c.before.loop.invariant c.loop-test.false
+returns : tie.Need-returns invariant-loop-k decreases-loop-k
+returns c = adding_all c.loop-k.invariant c.loop-k-test.false
 
 pub add_lower_half_spec : {M : Type 1} → statement M
 add_lower_half_spec =
     tie.close
-    (tie.spec invariant-loop decreases-loop loop-holds (λ c. search rules) slice_read_values (λ c. search rules) (λ c. search rules)
+    (tie.spec invariant-loop-k decreases-loop-k loop-holds (λ c. search rules) slice_read_values (λ c. search rules) (λ c. search rules)
     (λ c. search rules) (λ c. search rules) (λ c. search rules) (λ c. search rules) (λ c. search rules) (λ c. search rules) loop-again
     same_length returns)

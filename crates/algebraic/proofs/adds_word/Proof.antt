@@ -12,25 +12,23 @@ use Rattle.algebraic.proofs.adds_word.Statement.{statement}
 use Rattle.algebraic.proofs.adds_word.Tie as tie
 
 -- the word that is read is one of the words
-shared_slice_read_insert_word : tie.Need-shared-slice-read-insert-word
+shared_slice_read_insert_word : tie.Need-bounds-words-place
 shared_slice_read_insert_word c = search rules
 
-insert_word_requires : tie.Need-insert-word-requires
-insert_word_requires c κs = let start = c.before.before.before.before.before in
-    (start.requires.0, start.requires.1 _, start.requires.2)
+insert_word_requires : tie.Need-insert_word-requires
+insert_word_requires c κs = (c.requires.0, c.requires.1 _, c.requires.2)
 
-returns : tie.Need-returns
-returns c = let start = c.before.before.before.before.before.before in
-    let a = start.args in
-    subst (λ (u : ℕ). WordInserted a.m (at a.words.now u) a.basis.now c.insert_word.new.1.1.0 c.insert_word.result)
-    c.before.before.before.before.wide.ensures.0 c.insert_word.ensures
+returns : tie.Need-returns-then-place-words
+returns c = let a = c.args in
+    subst (λ (u : ℕ). WordInserted a.m (at a.words.now u) a.basis.now c.insert_word.new.basis c.insert_word.result)
+    c.wide-place.ensures.0 c.insert_word.ensures
 
-returns-2 : tie.Need-returns-2
-returns-2 c = let a = c.before.before.before.args in
+returns-2 : tie.Need-returns-else-place-words
+returns-2 c = let a = c.args in
     record {
       kept = refl;
       even = λ e h.
-          ap (λ (v : ℕ). dot v e) (get_or-eq_default a.words.now 0 (omega (arith, c.before.wide.ensures.0, c.if1.false))) ∙ dot_zero e;
+          ap (λ (v : ℕ). dot v e) (get_or-eq_default a.words.now 0 (omega (arith, c.wide-place.ensures.0, c.if-place-words.false))) ∙ dot_zero e;
     }
 
 pub adds_word_spec : {M : Type 1} → statement M

@@ -11,60 +11,46 @@ use Rattle.algebraic.proofs.Scanning.{NoneOdd, first_odd, none_odd}
 use Rattle.algebraic.proofs.component_degree.Statement.{statement}
 use Rattle.algebraic.proofs.component_degree.Tie as tie
 
-abbrev invariant-loop : tie.invariant-loop
-invariant-loop words inputs count c i₀ i = (i ≤ count) × NoneOdd words inputs c i
+abbrev invariant-loop-i : tie.invariant-loop-i
+invariant-loop-i words inputs count c i₀ i = (i ≤ count) × NoneOdd words inputs c i
 
-abbrev decreases-loop : tie.decreases-loop
-decreases-loop words inputs count c i₀ i = count - i
+abbrev decreases-loop-i : tie.decreases-loop-i
+decreases-loop-i words inputs count c i₀ i = count - i
 
-loop-holds : tie.Need-loop-init invariant-loop decreases-loop
+loop-holds : tie.Need-loop-i-init invariant-loop-i decreases-loop-i
 loop-holds c = (omega arith, λ j l e. omega arith)
 
-mul_is_odd : tie.Need-overflow-mul-is-odd invariant-loop decreases-loop
+mul_is_odd : tie.Need-offset_bounds-words-wide invariant-loop-i decreases-loop-i
 mul_is_odd c =
-    let in_loop = c.before.before in
-    let at_loop = in_loop.before in
-    let start = at_loop.before.before.before in
-    omega (arith, c.wide.ensures.0, start.requires.inside at_loop.loop.i in_loop.loop-test.true, start.well-formed.0.1)
+    omega (arith, c.wide.ensures.0, c.requires.inside c.loop-i.i c.loop-i-test.true, c.well_formed.0.1)
 
-shared_slice_read_is_odd : tie.Need-shared-slice-read-is-odd invariant-loop decreases-loop
+shared_slice_read_is_odd : tie.Need-bounds-words-wide invariant-loop-i decreases-loop-i
 shared_slice_read_is_odd c =
-    let in_loop = c.before.before.before in
-    let at_loop = in_loop.before in
-    omega (arith, c.before.wide.ensures.0, at_loop.before.before.before.requires.inside at_loop.loop.i in_loop.loop-test.true)
+    omega (arith, c.wide.ensures.0, c.requires.inside c.loop-i.i c.loop-i-test.true)
 
-returns : tie.Need-returns invariant-loop decreases-loop
+returns : tie.Need-returns-then-is_odd invariant-loop-i decreases-loop-i
 returns c =
-    let found = c.before.before in
-    let placed = found.before.before in
-    let in_loop = placed.before.before in
-    let at_loop = in_loop.before in
-    let start = at_loop.before.before.before in
-    let a = start.args in
+    let a = c.args in
     c.ones_of.ensures
-    ∙ first_odd start.requires a.c at_loop.loop.i in_loop.loop-test.true at_loop.loop.invariant.1
-    (ap (λ (u : ℕ). dot (at a.words.now u) a.c) (sym placed.wide.ensures.0) ∙ eqb-true _ 1 (sym found.is_odd.ensures ∙ c.before.if1.true))
+    ∙ first_odd c.requires a.c c.loop-i.i c.loop-i-test.true c.loop-i.invariant.1
+    (ap (λ (u : ℕ). dot (at a.words.now u) a.c) (sym c.wide.ensures.0) ∙ eqb-true _ 1 (sym c.is_odd.ensures ∙ c.if-is_odd.true))
 
-loop-again : tie.Need-loop-preserved invariant-loop decreases-loop
+loop-again : tie.Need-loop-i-preserved invariant-loop-i decreases-loop-i
 loop-again c =
-    let placed = c.before.before.before in
-    let at_loop = placed.before.before.before in
-    let a = at_loop.before.before.before.args in (
+    let a = c.args in (
       search rules,
-      below_more _ _ at_loop.loop.invariant.1
+      below_more _ _ c.loop-i.invariant.1
           (λ e.
-          eqb-false _ 1 (sym c.before.is_odd.ensures ∙ c.if1.false)
-          (ap (λ (u : ℕ). dot (at a.words.now u) a.c) placed.wide.ensures.0 ∙ e)),
+          eqb-false _ 1 (sym c.is_odd.ensures ∙ c.if-is_odd.false)
+          (ap (λ (u : ℕ). dot (at a.words.now u) a.c) c.wide.ensures.0 ∙ e)),
     )
 
-returns-2 : tie.Need-returns-2 invariant-loop decreases-loop
+returns-2 : tie.Need-returns invariant-loop-i decreases-loop-i
 returns-2 c =
-    let at_loop = c.before in
-    let start = at_loop.before.before.before in
-    none_odd start.requires start.args.c (λ j l. at_loop.loop.invariant.1 j (omega (arith, l, c.loop-test.false)))
+    none_odd c.requires c.args.c (λ j l. c.loop-i.invariant.1 j (omega (arith, l, c.loop-i-test.false)))
 
 pub component_degree_spec : {M : Type 1} → statement M
 component_degree_spec =
     tie.close
-    (tie.spec invariant-loop decreases-loop loop-holds (λ c. search rules) (λ c κs. search rules) (λ c. search rules) mul_is_odd shared_slice_read_is_odd
+    (tie.spec invariant-loop-i decreases-loop-i loop-holds (λ c. search rules) (λ c κs. search rules) (λ c. search rules) mul_is_odd shared_slice_read_is_odd
     (λ c κs. search rules) (λ c κs. search rules) returns (λ c. search rules) (λ c. search rules) loop-again returns-2)

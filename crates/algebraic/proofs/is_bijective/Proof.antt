@@ -10,30 +10,30 @@ use Rattle.algebraic.proofs.Bijections.{bijective_unequal, bijective_equal}
 use Rattle.algebraic.proofs.is_bijective.Statement.{statement}
 use Rattle.algebraic.proofs.is_bijective.Tie as tie
 
-returns : tie.Need-returns
-returns c = reply_refused (sym c.before.before.before.check_box.ensures ∙ c.before.e.given.1) _
+returns : tie.Need-returns-in-Refused
+returns c = reply_refused (sym c.check_box.ensures ∙ c.in-Refused.is) _
 
 -- accepted: what is found of the rows is the reply's figure
-accepted : (c : tie.After-enum-told) → let a = c.before.before.before.before.args in first (box_checks a.n a.m a.rows.now) ≡ Accepted
-accepted c = sym c.before.before.check_box.ensures ∙ c.enum_told.given.1
+accepted : (c : tie.In_default) → let a = c.args in first (box_checks a.n a.m a.rows.now) ≡ Accepted
+accepted c = sym c.check_box.ensures ∙ c.in_default.is
 
-decided : (c : tie.After-enum-told) (found : Bool) →
-    let a = c.before.before.before.before.args in
+decided : (c : tie.In_default) (found : Bool) →
+    let a = c.args in
     bijective a.n a.m a.rows.now ≡ found → figures (as_figure found) ≡ reply_after (first (box_checks a.n a.m a.rows.now)) (as_figure (bijective a.n a.m a.rows.now))
 decided c found e = ap (λ (t : Bool). figures (as_figure t)) (sym e) ∙ reply_accepted (accepted c) _
 
-returns-2 : tie.Need-returns-2
-returns-2 c = decided c.before false (bijective_unequal _ _ _ c.if1.true)
+returns-2 : tie.Need-returns-then-n-m
+returns-2 c = decided c.before false (bijective_unequal _ _ _ c.if-n-m.true)
 
 -- of equal widths: what was found of the rows
-found : (c : tie.After-rows-distinct) → let a = c.before.before.before.before.before.before.args in bijective a.n a.m a.rows.now ≡ c.rows_distinct.result
-found c = bijective_equal _ _ _ c.before.if1.false ∙ sym c.rows_distinct.ensures
+found : (c : tie.After-rows_distinct) → let a = c.args in bijective a.n a.m a.rows.now ≡ c.rows_distinct.result
+found c = bijective_equal _ _ _ c.if-n-m.false ∙ sym c.rows_distinct.ensures
 
-returns-3 : tie.Need-returns-3
-returns-3 c = decided c.before.before.before true (found c.before ∙ c.if2.true)
+returns-3 : tie.Need-returns-then-rows_distinct
+returns-3 c = decided c.before.before.before true (found c.before ∙ c.if-rows_distinct.true)
 
-returns-4 : tie.Need-returns-4
-returns-4 c = decided c.before.before.before false (found c.before ∙ c.if2.false)
+returns-4 : tie.Need-returns-else-rows_distinct
+returns-4 c = decided c.before.before.before false (found c.before ∙ c.if-rows_distinct.false)
 
 pub is_bijective_spec : {M : Type 1} → statement M
 is_bijective_spec =

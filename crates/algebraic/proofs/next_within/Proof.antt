@@ -7,20 +7,18 @@ use Rattle.algebraic.proofs.Sweeping.{next_whole}
 use Rattle.algebraic.proofs.next_within.Statement.{statement}
 use Rattle.algebraic.proofs.next_within.Tie as tie
 
-add_result : tie.Need-overflow-add-result
+add_result : tie.Need-overflow_add-result
 add_result c =
-    let start = c.before in
-    omega (arith, lt_of_lt_of_le start.requires.2 (pow_mono {j = 32} start.requires.1))
+    omega (arith, lt_of_lt_of_le c.requires.2 (pow_mono {j = 32} c.requires.1))
 
-returns : tie.Need-returns
-returns c = let start = c.before in next_whole start.args.m start.args.i start.args.c start.requires.0 c.if1.true start.requires.2
+returns : tie.Need-returns-then-m-i
+returns c = next_whole c.args.m c.args.i c.args.c c.requires.0 c.if-m-i.true c.requires.2
 
-next_mask_requires : tie.Need-next-mask-requires
+next_mask_requires : tie.Need-next_mask-requires
 next_mask_requires c κs =
-    let start = c.before in
-    (start.requires.0, lt_of_lt_of_le start.requires.2 (pow_mono {j = 32} start.requires.1), start.requires.3)
+    (c.requires.0, lt_of_lt_of_le c.requires.2 (pow_mono {j = 32} c.requires.1), c.requires.3)
 
-returns-2 : tie.Need-returns-2
+returns-2 : tie.Need-returns-else-m-i
 returns-2 c = c.next_mask.ensures.0
 
 pub next_within_spec : {M : Type 1} → statement M

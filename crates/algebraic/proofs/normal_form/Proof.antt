@@ -15,8 +15,8 @@ use Rattle.refusals.proofs.Outcomes.{wrote_refused, wrote_accepted}
 use Rattle.algebraic.proofs.normal_form.Statement.{statement}
 use Rattle.algebraic.proofs.normal_form.Tie as tie
 
-returns : tie.Need-returns
-returns c = wrote_refused (sym c.before.before.before.check_table_call.ensures ∙ c.before.e.given.1)
+returns : tie.Need-returns-in-Refused
+returns c = wrote_refused (sym c.check_table_call.ensures ∙ c.in-Refused.is)
 
 -- accepted: the table is one, and the array has 2^n places
 room : (n : ℕ) (values out : List ℕ) → first (table_call_checks n values (length out)) ≡ Accepted → length out ≡ 2 ^ n
@@ -30,33 +30,31 @@ tabled n values out h = table n values _ h
 small : (n : ℕ) (values : List ℕ) → Table n values → length values ≤ 256
 small n values t = let most : 2 ^ n ≤ 256 = pow_mono t.n_high in omega (arith, t.size)
 
-accepted : (c : tie.After-enum-told) →
-    let a = c.before.before.before.before.before.args in
+accepted : (c : tie.In_default) →
+    let a = c.args in
     first (table_call_checks a.n a.table.now (length a.out.now)) ≡ Accepted
-accepted c = sym c.before.before.check_table_call.ensures ∙ c.enum_told.given.1
+accepted c = sym c.check_table_call.ensures ∙ c.in_default.is
 
-is_table : (c : tie.After-enum-told) → let a = c.before.before.before.before.before.args in Table a.n a.table.now
-is_table c = let a = c.before.before.before.before.before.args in tabled a.n a.table.now a.out.now (accepted c)
+is_table : (c : tie.In_default) → let a = c.args in Table a.n a.table.now
+is_table c = let a = c.args in tabled a.n a.table.now a.out.now (accepted c)
 
-few : (c : tie.After-enum-told) → length c.before.before.before.before.before.args.table.now ≤ 256
-few c = let a = c.before.before.before.before.before.args in small a.n a.table.now (is_table c)
+few : (c : tie.In_default) → length c.args.table.now ≤ 256
+few c = let a = c.args in small a.n a.table.now (is_table c)
 
-array_borrow_prefix_words : tie.Need-array-borrow-prefix-words
+array_borrow_prefix_words : tie.Need-slice_bounds-words-end
 array_borrow_prefix_words c = few c
 
-slice_aggregate_write_form : tie.Need-slice-aggregate-write-form
+slice_aggregate_write_form : tie.Need-slice_bounds-write_form-end
 slice_aggregate_write_form c = sym (length-take-le _ _ (few c.before))
 
-write_form_requires : tie.Need-write-form-requires
+write_form_requires : tie.Need-write_form-requires
 write_form_requires c κs =
-    let told = c.before.before in
-    let a = told.before.before.before.before.before.args in
-    (is_table told, length-take-le _ _ (few told) ∙ (is_table told).size, room a.n a.table.now a.out.now (accepted told))
+    let a = c.args in
+    (is_table c.before.before, length-take-le _ _ (few c.before.before) ∙ (is_table c.before.before).size, room a.n a.table.now a.out.now (accepted c.before.before))
 
-returns-2 : tie.Need-returns-2
+returns-2 : tie.Need-returns
 returns-2 c =
-    let written = c.before.before.before in
-    wrote_accepted (accepted written.before.before.before) written.write_form.ensures.0
+    wrote_accepted (accepted c.before.before.before.before.before.before) c.write_form.ensures.0
 
 pub normal_form_spec : {M : Type 1} → statement M
 normal_form_spec =

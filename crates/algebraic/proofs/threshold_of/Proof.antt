@@ -6,11 +6,11 @@ use Rattle.algebraic.proofs.Preferring.{threshold_single, threshold_several}
 use Rattle.algebraic.proofs.threshold_of.Statement.{statement}
 use Rattle.algebraic.proofs.threshold_of.Tie as tie
 
-returns : tie.Need-returns
-returns c = sym (threshold_single _ _ c.if1.true)
+returns : tie.Need-returns-then-c-le1
+returns c = sym (threshold_single _ _ c.if-c-le1.true)
 
-returns-2 : tie.Need-returns-2
-returns-2 c = sym (threshold_several _ _ (omega (arith, c.if1.false)))
+returns-2 : tie.Need-returns-else-c-le1
+returns-2 c = sym (threshold_several _ _ (omega (arith, c.if-c-le1.false)))
 
 pub threshold_of_spec : {M : Type 1} → statement M
 threshold_of_spec = tie.close (tie.spec (λ c. search rules) returns returns-2)

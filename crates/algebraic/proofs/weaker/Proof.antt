@@ -9,23 +9,19 @@ use Rattle.algebraic.specs.Work.{degree_at, degree_candidate}
 use Rattle.algebraic.proofs.weaker.Statement.{statement}
 use Rattle.algebraic.proofs.weaker.Tie as tie
 
-returns : tie.Need-returns
+returns : tie.Need-returns-then-is_preferred
 unfolding best
 returns c =
-    let tested = c.before.before in
-    let start = tested.before in
-    let a = start.args in (
-      sym (best_takes (ranked lower outputs) (degree_candidate a.found) (degree_at a.degree a.c) [] (sym tested.is_preferred.ensures ∙ c.before.if1.true)),
-      c.threshold_of.ensures,
+    let a = c.args in (
+      sym (best_takes (ranked lower outputs) (degree_candidate a.found) (degree_at a.degree a.c) [] (sym c.is_preferred.ensures ∙ c.if-is_preferred.true)),
+      c.threshold_of-threshold.ensures,
     )
 
-returns-2 : tie.Need-returns-2
+returns-2 : tie.Need-returns-else-is_preferred
 unfolding best
 returns-2 c =
-    let tested = c.before in
-    let start = tested.before in
-    let a = start.args in
-    (sym (best_keeps (ranked lower outputs) (degree_candidate a.found) (degree_at a.degree a.c) [] (sym tested.is_preferred.ensures ∙ c.if1.false)), start.requires.1)
+    let a = c.args in
+    (sym (best_keeps (ranked lower outputs) (degree_candidate a.found) (degree_at a.degree a.c) [] (sym c.is_preferred.ensures ∙ c.if-is_preferred.false)), c.requires.1)
 
 pub weaker_spec : {M : Type 1} → statement M
 weaker_spec = tie.close (tie.spec (λ c κs. search rules) (λ c κs. search rules) returns returns-2)

@@ -12,27 +12,24 @@ use Rattle.algebraic.proofs.write_form.Tie as tie
 
 -- after the transform the words are the normal form of the table
 formed : (c : tie.After-moebius) →
-    let a = c.before.before.before.before.before.before.before.before.before.args in
-    c.moebius.new.1.0 ≡ normal_form a.n (at a.table.now)
+    let a = c.args in
+    c.moebius.new.values ≡ normal_form a.n (at a.table.now)
 formed c =
-    let a = c.before.before.before.before.before.before.before.before.before.args in
-    c.moebius.ensures ∙ ap (λ (t : List ℕ). normal_form a.n (at t)) c.before.before.before.before.write_words.ensures
+    let a = c.args in
+    c.moebius.ensures ∙ ap (λ (t : List ℕ). normal_form a.n (at t)) c.write_words.ensures
 
-write_bits_requires : tie.Need-write-bits-requires
+write_bits_requires : tie.Need-write_bits-requires
 write_bits_requires c κs =
-    let done = c.before.before.before.before in
-    let start = done.before.before.before.before.before.before.before.before.before in
-    let a = start.args in
-    let t = form_is_table a.n a.table.now start.requires.0 in (
-      start.requires.2 ∙ sym (ap length (formed done) ∙ length_normal_form a.n (at a.table.now)),
-      λ x. subst (λ (l : List ℕ). at l x < 2) (sym (formed done)) (t.bits x),
+    let a = c.args in
+    let t = form_is_table a.n a.table.now c.requires.0 in (
+      c.requires.2 ∙ sym (ap length (formed c.before.before.before) ∙ length_normal_form a.n (at a.table.now)),
+      λ x. subst (λ (l : List ℕ). at l x < 2) (sym (formed c.before.before.before)) (t.bits x),
     )
 
 returns : tie.Need-returns
 returns c =
-    let wrote = c.before.before in
-    let is = formed wrote.before.before.before.before.before in
-    (wrote.write_bits.ensures ∙ is, is)
+    let is = formed c.before.before.before.before.before.before in
+    (c.write_bits.ensures ∙ is, is)
 
 pub write_form_spec : {M : Type 1} → statement M
 write_form_spec =

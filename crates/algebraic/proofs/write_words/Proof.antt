@@ -9,32 +9,30 @@ use Rattle.boolean.proofs.Lists.{list_is}
 use Rattle.algebraic.proofs.write_words.Statement.{statement}
 use Rattle.algebraic.proofs.write_words.Tie as tie
 
-abbrev invariant-loop : tie.invariant-loop
-invariant-loop table words₀ x₀ words x = Filled 0 (at table) (length table) x words
+abbrev invariant-loop-x : tie.invariant-loop-x
+invariant-loop-x table words₀ x₀ words x = Filled 0 (at table) (length table) x words
 
-abbrev decreases-loop : tie.decreases-loop
-decreases-loop table words₀ x₀ words x = length table - x
+abbrev decreases-loop-x : tie.decreases-loop-x
+decreases-loop-x table words₀ x₀ words x = length table - x
 
-loop-holds : tie.Need-loop-init invariant-loop decreases-loop
-loop-holds c = let start = c.before.before in filled_none 0 _ _ start.args.words.now start.requires
+loop-holds : tie.Need-loop-x-init invariant-loop-x decreases-loop-x
+loop-holds c = filled_none 0 _ _ c.args.words.now c.requires
 
-loop-again : tie.Need-loop-preserved invariant-loop decreases-loop
+loop-again : tie.Need-loop-x-preserved invariant-loop-x decreases-loop-x
 loop-again c =
-    let in_loop = c.before.before in
-    let at_loop = in_loop.before in
-    filled_more 0 (at at_loop.before.before.before.args.table.now) _ at_loop.loop.x at_loop.loop.words at_loop.loop.invariant in_loop.loop-test.true _ c.wide.ensures.0
+    filled_more 0 (at c.args.table.now) _ c.loop-x.x c.loop-x.words c.loop-x.invariant c.loop-x-test.true _ c.wide.ensures.0
 
-same_length : tie.Need-same-length invariant-loop decreases-loop
-same_length c = c.before.loop.invariant.long ∙ sym c.before.before.before.before.requires
+same_length : tie.Need-shape_of-words invariant-loop-x decreases-loop-x
+same_length c = c.loop-x.invariant.long ∙ sym c.requires
 
-returns : tie.Need-returns invariant-loop decreases-loop
+returns : tie.Need-returns invariant-loop-x decreases-loop-x
 returns c =
-    let table = c.before.before.before.before.args.table.now in
-    filled_whole 0 (at table) _ c.before.loop.x c.before.loop.words c.before.loop.invariant c.loop-test.false
+    let table = c.args.table.now in
+    filled_whole 0 (at table) _ c.loop-x.x c.loop-x.words c.loop-x.invariant c.loop-x-test.false
     ∙ sym (list_is 0 (length table) (at table) table refl (λ i l. refl))
 
 pub write_words_spec : {M : Type 1} → statement M
 write_words_spec =
     tie.close
-    (tie.spec invariant-loop decreases-loop loop-holds (λ c. search rules) (λ c κs. search rules) (λ c. search rules) (λ c. search rules)
+    (tie.spec invariant-loop-x decreases-loop-x loop-holds (λ c. search rules) (λ c κs. search rules) (λ c. search rules) (λ c. search rules)
     (λ c. search rules) (λ c. search rules) loop-again same_length returns)

@@ -13,34 +13,33 @@ use borrow.Author.Rules.{rules}
 use Rattle.avalanche.proofs.autocorrelation.Statement.{statement}
 use Rattle.avalanche.proofs.autocorrelation.Tie as tie
 
-returns : tie.Need-returns
-returns c = reply_refused (sym c.before.before.before.check_limited.ensures ∙ c.before.e.given.1) _
+returns : tie.Need-returns-in-Refused
+returns c = reply_refused (sym c.check_limited.ensures ∙ c.in-Refused.is) _
 
 -- accepted: the rows are a box, and the limit is one of it
-accepted : (c : tie.After-enum-told) → let a = c.before.before.before.before.args in first (limit_checks a.n a.m a.rows.now a.i) ≡ Accepted
-accepted c = sym c.before.before.check_limited.ensures ∙ c.enum_told.given.1
+accepted : (c : tie.In_default) → let a = c.args in first (limit_checks a.n a.m a.rows.now a.i) ≡ Accepted
+accepted c = sym c.check_limited.ensures ∙ c.in_default.is
 
-within : (c : tie.After-enum-told) → let a = c.before.before.before.before.args in Limited a.n a.m a.rows.now a.i
-within c = let a = c.before.before.before.before.args in limited a.n a.m a.rows.now a.i (accepted c)
+within : (c : tie.In_default) → let a = c.args in Limited a.n a.m a.rows.now a.i
+within c = let a = c.args in limited a.n a.m a.rows.now a.i (accepted c)
 
-power_of_two_requires : tie.Need-power-of-two-requires
+power_of_two_requires : tie.Need-power_of_two-requires
 power_of_two_requires c κs = (within c).box.m_high
 
-sub_masks : tie.Need-overflow-sub-masks
-sub_masks c = omega (arith, c.power_of_two.ensures.0, pow_pos c.before.before.before.before.before.args.m)
+sub_masks : tie.Need-overflow_sub-masks
+sub_masks c = omega (arith, c.power_of_two.ensures.0, pow_pos c.args.m)
 
-largest_correlation_requires : tie.Need-largest-correlation-requires
+largest_correlation_requires : tie.Need-largest_correlation-found-requires
 largest_correlation_requires c κs =
     let l = within c.before in (l.box, omega arith, omega arith, whole_part l.box.m_low l.i_low c.power_of_two.ensures.0)
 
-returns-2 : tie.Need-returns-2
+returns-2 : tie.Need-returns
 unfolding box_autocorrelation
 returns-2 c =
-    let p = c.before in
-    let a = p.before.before.before.before.before.args in
+    let a = c.args in
     ap (λ (k : Candidate). figures (shown k))
-    (c.largest_correlation.ensures ∙ ap first_largest (whole_largest a.n a.m a.i a.n (correlated a.n a.rows.now) p.power_of_two.ensures.0))
-    ∙ reply_accepted (accepted p.before) _
+    (c.largest_correlation-found.ensures ∙ ap first_largest (whole_largest a.n a.m a.i a.n (correlated a.n a.rows.now) c.power_of_two.ensures.0))
+    ∙ reply_accepted (accepted c.before.before) _
 
 pub autocorrelation_spec : {M : Type 1} → statement M
 autocorrelation_spec =

@@ -16,41 +16,38 @@ use Rattle.avalanche.proofs.Ranges.{part_found, part_nothing}
 use Rattle.avalanche.proofs.autocorrelation_between.Statement.{statement}
 use Rattle.avalanche.proofs.autocorrelation_between.Tie as tie
 
-returns : tie.Need-returns
-returns c = reply_refused (sym c.before.before.before.check_part.ensures ∙ c.before.e.given.1) _
+returns : tie.Need-returns-in-Refused
+returns c = reply_refused (sym c.check_part.ensures ∙ c.in-Refused.is) _
 
-accepted : (c : tie.After-enum-told) → let a = c.before.before.before.before.args in first (part_checks a.n a.m a.rows.now a.i a.first a.last) ≡ Accepted
-accepted c = sym c.before.before.check_part.ensures ∙ c.enum_told.given.1
+accepted : (c : tie.In_default) → let a = c.args in first (part_checks a.n a.m a.rows.now a.i a.first a.last) ≡ Accepted
+accepted c = sym c.check_part.ensures ∙ c.in_default.is
 
-within : (c : tie.After-enum-told) → let a = c.before.before.before.before.args in Within a.n a.m a.rows.now a.i a.first a.last
-within c = let a = c.before.before.before.before.args in part_accepted a.n a.m a.rows.now a.i a.first a.last (accepted c)
+within : (c : tie.In_default) → let a = c.args in Within a.n a.m a.rows.now a.i a.first a.last
+within c = let a = c.args in part_accepted a.n a.m a.rows.now a.i a.first a.last (accepted c)
 
-first_mask_requires : tie.Need-first-mask-requires
-first_mask_requires c κs = ((within c).limit.i_low, omega (arith, c.before.before.before.before.ranges.first))
+first_mask_requires : tie.Need-first_mask-start-requires
+first_mask_requires c κs = ((within c).limit.i_low, omega (arith, c.ranges.first))
 
-returns-2 : tie.Need-returns-2
+returns-2 : tie.Need-returns-then-last-start
 unfolding autocorrelation_between
 returns-2 c =
-    let p = c.before in
-    let a = p.before.before.before.before.before.args in
-    ap figures (part_nothing a.n a.m a.n (correlated a.n a.rows.now) a.last p.first_mask.ensures c.if1.true) ∙ reply_accepted (accepted p.before) _
+    let a = c.args in
+    ap figures (part_nothing a.n a.m a.n (correlated a.n a.rows.now) a.last c.first_mask-start.ensures c.if-last-start.true) ∙ reply_accepted (accepted c.before.before) _
 
-largest_correlation_requires : tie.Need-largest-correlation-requires
+largest_correlation_requires : tie.Need-largest_correlation-widest-requires
 largest_correlation_requires c κs =
-    let p = c.before in
-    let a = p.before.before.before.before.before.args in
-    let w = within p.before in
-    (w.limit.box, w.limit.i_low, w.limit.box.n_low, part_from a.n a.m a.rows.now a.last p.first_mask.ensures w.low w.high c.if1.false)
+    let a = c.args in
+    let w = within c.before.before in
+    (w.limit.box, w.limit.i_low, w.limit.box.n_low, part_from a.n a.m a.rows.now a.last c.first_mask-start.ensures w.low w.high c.if-last-start.false)
 
-returns-3 : tie.Need-returns-3
+returns-3 : tie.Need-returns
 unfolding autocorrelation_between
 returns-3 c =
-    let p = c.before.before in
-    let a = p.before.before.before.before.before.args in
-    let w = within p.before in
-    ap (λ (k : Candidate). figures (shown k)) c.largest_correlation.ensures
-    ∙ ap figures (part_found a.n a.m a.n (correlated a.n a.rows.now) a.last p.first_mask.ensures w.limit.box.n_low w.limit.box.n_low w.low w.high c.before.if1.false)
-    ∙ reply_accepted (accepted p.before) _
+    let a = c.args in
+    let w = within c.before.before.before in
+    ap (λ (k : Candidate). figures (shown k)) c.largest_correlation-widest.ensures
+    ∙ ap figures (part_found a.n a.m a.n (correlated a.n a.rows.now) a.last c.first_mask-start.ensures w.limit.box.n_low w.limit.box.n_low w.low w.high c.if-last-start.false)
+    ∙ reply_accepted (accepted c.before.before.before) _
 
 pub autocorrelation_between_spec : {M : Type 1} → statement M
 autocorrelation_between_spec =

@@ -10,41 +10,38 @@ use Rattle.avalanche.proofs.check_distance.Statement.{statement}
 use Rattle.avalanche.proofs.check_distance.Tie as tie
 
 -- the lines of the box's checks, where they were passed
-ok_box : (c : tie.After-enum-told) →
-    let a = c.before.before.before.before.args in
+ok_box : (c : tie.In_default) →
+    let a = c.args in
     first (box_checks a.n a.m a.rows.now) ≡ Accepted
-ok_box c = sym c.before.before.check_box.ensures ∙ c.enum_told.given.1
+ok_box c = sym c.check_box.ensures ∙ c.in_default.is
 
 -- and the order's, where each was passed
-outputs : (c : tie.Else1) → let a = c.before.before.before.before.before.before.args in in_range 1 a.m a.i ≡ true
-outputs c = holds c.before.in_range.ensures c.if1.false
+outputs : (c : tie.Else-not-in_range) → let a = c.args in in_range 1 a.m a.i ≡ true
+outputs c = holds c.in_range.ensures c.if-not-in_range.false-raw
 
-inputs : (c : tie.Else2) → let a = c.before.before.before.before.before.before.before.before.args in in_range 1 a.n a.j ≡ true
-inputs c = holds c.before.in_range2.ensures c.if2.false
+inputs : (c : tie.Else-not-in_range-2) → let a = c.args in in_range 1 a.n a.j ≡ true
+inputs c = holds c.in_range-2.ensures c.if-not-in_range-2.false-raw
 
-returns : tie.Need-returns
+returns : tie.Need-returns-in-Refused
 unfolding distance_checks
 returns c =
-    let p = c.before.before.before in
-    let a = p.before.before.args in
-    found_before (box_checks a.n a.m a.rows.now) _ (sym p.check_box.ensures ∙ c.before.e.given.1)
+    let a = c.args in
+    found_before (box_checks a.n a.m a.rows.now) _ (sym c.check_box.ensures ∙ c.in-Refused.is)
 
-returns-2 : tie.Need-returns-2
+returns-2 : tie.Need-returns-then-not-in_range
 unfolding distance_checks
-returns-2 c = found_after _ (ok_box c.before.before) (stop (fails c.before.in_range.ensures c.if1.true))
+returns-2 c = found_after _ (ok_box c.before.before) (stop (fails c.in_range.ensures c.if-not-in_range.true-raw))
 
-returns-3 : tie.Need-returns-3
+returns-3 : tie.Need-returns-then-not-in_range-2
 unfolding distance_checks
 returns-3 c =
-    let else = c.before.before in
-    found_after _ (ok_box else.before.before) (skip (outputs else)
-    (stop (fails c.before.in_range2.ensures c.if2.true)))
+    found_after _ (ok_box c.before.before.before.before) (skip (outputs c.before.before)
+    (stop (fails c.in_range-2.ensures c.if-not-in_range-2.true-raw)))
 
-returns-4 : tie.Need-returns-4
+returns-4 : tie.Need-returns
 unfolding distance_checks
 returns-4 c =
-    let else = c.before.before in
-    found_after _ (ok_box else.before.before) (skip (outputs else) (skip (inputs c) end))
+    found_after _ (ok_box c.before.before.before.before) (skip (outputs c.before.before) (skip (inputs c) end))
 
 pub check_distance_spec : {M : Type 1} → statement M
 check_distance_spec =

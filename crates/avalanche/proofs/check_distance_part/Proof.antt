@@ -11,27 +11,26 @@ use Rattle.avalanche.proofs.check_distance_part.Statement.{statement}
 use Rattle.avalanche.proofs.check_distance_part.Tie as tie
 
 -- the lines of the plain call's checks, where they were passed
-passed : (c : tie.After-enum-told) →
-    let a = c.before.before.before.before.args in
+passed : (c : tie.In_default) →
+    let a = c.args in
     first (distance_checks a.n a.m a.rows.now a.i a.j) ≡ Accepted
-passed c = sym c.before.before.check_distance.ensures ∙ c.enum_told.given.1
+passed c = sym c.check_distance.ensures ∙ c.in_default.is
 
-returns : tie.Need-returns
+returns : tie.Need-returns-in-Refused
 unfolding distance_part_checks
 returns c =
-    let p = c.before.before.before in
-    let a = p.before.before.args in
-    found_before (distance_checks a.n a.m a.rows.now a.i a.j) _ (sym p.check_distance.ensures ∙ c.before.e.given.1)
+    let a = c.args in
+    found_before (distance_checks a.n a.m a.rows.now a.i a.j) _ (sym c.check_distance.ensures ∙ c.in-Refused.is)
 
-check_part_requires : tie.Need-check-part-requires
+check_part_requires : tie.Need-check_part-requires
 check_part_requires c κs =
-    let a = c.before.before.before.before.args in
+    let a = c.args in
     (distance_box a.n a.m a.rows.now a.i a.j (passed c)).m_high
 
-returns-2 : tie.Need-returns-2
+returns-2 : tie.Need-returns
 unfolding distance_part_checks
 returns-2 c =
-    let a = c.before.before.before.before.before.args in
+    let a = c.args in
     c.check_part.ensures ∙ sym (first_append (distance_checks a.n a.m a.rows.now a.i a.j) _ (passed c.before))
 
 pub check_distance_part_spec : {M : Type 1} → statement M

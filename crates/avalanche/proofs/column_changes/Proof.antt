@@ -10,45 +10,42 @@ use borrow.Author.Rules.{rules}
 use Rattle.avalanche.proofs.column_changes.Statement.{statement}
 use Rattle.avalanche.proofs.column_changes.Tie as tie
 
-abbrev invariant-loop : tie.invariant-loop
-invariant-loop n m rows flip j x₀ x = Unchanged rows flip j x
+abbrev invariant-loop-x : tie.invariant-loop-x
+invariant-loop-x n m rows flip j x₀ x = Unchanged rows flip j x
 
-abbrev decreases-loop : tie.decreases-loop
-decreases-loop n m rows flip j x₀ x = length rows - x
+abbrev decreases-loop-x : tie.decreases-loop-x
+decreases-loop-x n m rows flip j x₀ x = length rows - x
 
-loop-holds : tie.Need-loop-init invariant-loop decreases-loop
-loop-holds c = let a = c.before.args in unchanged_none a.rows.now a.flip a.j
+loop-holds : tie.Need-loop-x-init invariant-loop-x decreases-loop-x
+loop-holds c = let a = c.args in unchanged_none a.rows.now a.flip a.j
 
 -- the other input is one of the box
-inside : (c : tie.In-loop invariant-loop decreases-loop) →
-    let a = c.before.before.before.args in
-    bit_xor c.before.loop.x a.flip < length a.rows.now
-inside c = let s = c.before.before.before in flipped_inside c.before.loop.invariant s.args.n s.requires.0.size s.requires.1 c.loop-test.true
+inside : (c : tie.In-loop-x invariant-loop-x decreases-loop-x) →
+    let a = c.args in
+    bit_xor c.loop-x.x a.flip < length a.rows.now
+inside c = flipped_inside c.loop-x.invariant c.args.n c.requires.0.size c.requires.1 c.loop-x-test.true
 
-mul_bit_differs_2 : tie.Need-overflow-mul-bit-differs-2 invariant-loop decreases-loop
+mul_bit_differs_2 : tie.Need-offset_bounds-rows-x-in-loop-x invariant-loop-x decreases-loop-x
 mul_bit_differs_2 c = let h = inside c.before in omega arith
 
-shared_slice_read_bit_differs_2 : tie.Need-shared-slice-read-bit-differs-2 invariant-loop decreases-loop
+shared_slice_read_bit_differs_2 : tie.Need-bounds-rows-x-in-loop-x invariant-loop-x decreases-loop-x
 shared_slice_read_bit_differs_2 c = inside c.before.before
 
-returns : tie.Need-returns invariant-loop decreases-loop
+returns : tie.Need-returns-then-bit_differs invariant-loop-x decreases-loop-x
 unfolding column
 returns c =
-    let known = c.before.before.before in
-    let at_loop = known.before.before in
-    changed_at at_loop.loop.invariant at_loop.before.before.args.n at_loop.before.before.requires.0.size known.before.loop-test.true (sym c.before.bit_differs.ensures ∙ c.if1.true)
+    changed_at c.loop-x.invariant c.args.n c.requires.0.size c.loop-x-test.true (sym c.bit_differs.ensures ∙ c.if-bit_differs.true)
 
-loop-again : tie.Need-loop-preserved invariant-loop decreases-loop
+loop-again : tie.Need-loop-x-preserved invariant-loop-x decreases-loop-x
 unfolding column
 loop-again c =
-    let known = c.before.before.before in
-    unchanged_more known.before.before.loop.invariant known.before.loop-test.true (sym c.before.bit_differs.ensures ∙ c.if1.false)
+    unchanged_more c.loop-x.invariant c.loop-x-test.true (sym c.bit_differs.ensures ∙ c.if-bit_differs.false)
 
-returns-2 : tie.Need-returns-2 invariant-loop decreases-loop
-returns-2 c = unchanged_all c.before.loop.invariant c.before.before.before.args.n c.before.before.before.requires.0.size c.loop-test.false
+returns-2 : tie.Need-returns invariant-loop-x decreases-loop-x
+returns-2 c = unchanged_all c.loop-x.invariant c.args.n c.requires.0.size c.loop-x-test.false
 
 pub column_changes_spec : {M : Type 1} → statement M
 column_changes_spec =
     tie.close
-    (tie.spec invariant-loop decreases-loop loop-holds (λ c. search rules) (λ c. search rules) mul_bit_differs_2 shared_slice_read_bit_differs_2
+    (tie.spec invariant-loop-x decreases-loop-x loop-holds (λ c. search rules) (λ c. search rules) mul_bit_differs_2 shared_slice_read_bit_differs_2
     (λ c κs. search rules) returns (λ c. search rules) (λ c. search rules) loop-again returns-2)

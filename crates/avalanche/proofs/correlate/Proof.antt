@@ -11,52 +11,41 @@ use borrow.Author.Rules.{rules}
 use Rattle.avalanche.proofs.correlate.Statement.{statement}
 use Rattle.avalanche.proofs.correlate.Tie as tie
 
-short_spectrum_requires : tie.Need-short-spectrum-requires
+short_spectrum_requires : tie.Need-short_spectrum-requires
 short_spectrum_requires c κs =
-    let start = c.before.before.before in
-    let a = start.args in (
+    let a = c.args in (
       record {
-        read = subst (Table a.n) (sym start.requires.2) (table_is a.n a.rows.now a.c a.m start.requires.0.box);
-        room = start.requires.0.out_size;
+        read = subst (Table a.n) (sym c.requires.2) (table_is a.n a.rows.now a.c a.m c.requires.0.box);
+        room = c.requires.0.out_size;
       },
-      start.requires.1,
+      c.requires.1,
     )
 
 -- the spectrum of the truth table is the component's
-spectrum_is : (c : tie.After-short-spectrum) →
-    let start = c.before.before.before.before in
-    c.short_spectrum.new.1.1.1.0 ≡ spectrum start.args.n (component start.args.rows.now start.args.c)
+spectrum_is : (c : tie.After-short_spectrum) →
+    c.short_spectrum.new.out ≡ spectrum c.args.n (component c.args.rows.now c.args.c)
 spectrum_is c =
-    let start = c.before.before.before.before in
-    let a = start.args in
-    c.short_spectrum.ensures ∙ ap (λ (t : List ℕ). spectrum a.n (at t)) start.requires.2 ∙ table_spectrum a.n a.rows.now a.c
+    let a = c.args in
+    c.short_spectrum.ensures ∙ ap (λ (t : List ℕ). spectrum a.n (at t)) c.requires.2 ∙ table_spectrum a.n a.rows.now a.c
 
-square_all_requires : tie.Need-square-all-requires
+square_all_requires : tie.Need-square_all-requires
 square_all_requires c κs =
-    let done = c.before.before.before in
-    let start = done.before.before.before.before in
-    let a = start.args in (
-      spectrum_small a.n a.rows.now a.c start.requires.0.box.n_low start.requires.0.box.n_high (spectrum_is done),
-      start.requires.3 ∙ sym (values_length a.n a.rows.now a.c (spectrum_is done)),
+    let a = c.args in (
+      spectrum_small a.n a.rows.now a.c c.requires.0.box.n_low c.requires.0.box.n_high (spectrum_is c.before.before),
+      c.requires.3 ∙ sym (values_length a.n a.rows.now a.c (spectrum_is c.before.before)),
     )
 
 transform_requires : tie.Need-transform-requires
 transform_requires c κs =
-    let squared = c.before.before in
-    let done = squared.before.before.before.before in
-    let start = done.before.before.before.before in
-    let a = start.args in
-    squares_summable a.n a.rows.now a.c start.requires.0.box.n_low start.requires.0.box.n_high (spectrum_is done) squared.square_all.ensures
+    let a = c.args in
+    squares_summable a.n a.rows.now a.c c.requires.0.box.n_low c.requires.0.box.n_high (spectrum_is c.before.before.before.before.before) c.square_all.ensures
 
 returns : tie.Need-returns
 returns c =
-    let squared = c.before.before.before.before in
-    let done = squared.before.before.before.before in
-    let start = done.before.before.before.before in
-    let a = start.args in (
-      c.before.transform.ensures
-          ∙ squares_correlate a.n a.rows.now a.c start.requires.0.box.n_low start.requires.0.box.n_high (spectrum_is done) squared.square_all.ensures,
-      values_length a.n a.rows.now a.c (spectrum_is done) ∙ sym start.requires.0.out_size,
+    let a = c.args in (
+      c.transform.ensures
+          ∙ squares_correlate a.n a.rows.now a.c c.requires.0.box.n_low c.requires.0.box.n_high (spectrum_is c.before.before.before.before.before.before.before) c.square_all.ensures,
+      values_length a.n a.rows.now a.c (spectrum_is c.before.before.before.before.before.before.before) ∙ sym c.requires.0.out_size,
     )
 
 pub correlate_spec : {M : Type 1} → statement M

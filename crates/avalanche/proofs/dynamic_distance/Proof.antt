@@ -17,43 +17,40 @@ use borrow.Author.Rules.{rules}
 use Rattle.avalanche.proofs.dynamic_distance.Statement.{statement}
 use Rattle.avalanche.proofs.dynamic_distance.Tie as tie
 
-returns : tie.Need-returns
-returns c = reply_refused (sym c.before.before.before.check_distance.ensures ∙ c.before.e.given.1) _
+returns : tie.Need-returns-in-Refused
+returns c = reply_refused (sym c.check_distance.ensures ∙ c.in-Refused.is) _
 
 -- accepted: the rows are a box, and the order is in its range
-accepted : (c : tie.After-enum-told) →
-    let a = c.before.before.before.before.args in
+accepted : (c : tie.In_default) →
+    let a = c.args in
     first (distance_checks a.n a.m a.rows.now a.i a.j) ≡ Accepted
-accepted c = sym c.before.before.check_distance.ensures ∙ c.enum_told.given.1
+accepted c = sym c.check_distance.ensures ∙ c.in_default.is
 
-the_box : (c : tie.After-enum-told) → let a = c.before.before.before.before.args in Box a.n a.m a.rows.now
-the_box c = let a = c.before.before.before.before.args in distance_box a.n a.m a.rows.now a.i a.j (accepted c)
+the_box : (c : tie.In_default) → let a = c.args in Box a.n a.m a.rows.now
+the_box c = let a = c.args in distance_box a.n a.m a.rows.now a.i a.j (accepted c)
 
-power_of_two_requires : tie.Need-power-of-two-requires
+power_of_two_requires : tie.Need-power_of_two-requires
 power_of_two_requires c κs = (the_box c).m_high
 
-sub_masks : tie.Need-overflow-sub-masks
-sub_masks c = omega (arith, c.power_of_two.ensures.0, pow_pos c.before.before.before.before.before.args.m)
+sub_masks : tie.Need-overflow_sub-masks
+sub_masks c = omega (arith, c.power_of_two.ensures.0, pow_pos c.args.m)
 
-largest_correlation_requires : tie.Need-largest-correlation-requires
+largest_correlation_requires : tie.Need-largest_correlation-found-requires
 largest_correlation_requires c κs =
-    let told = c.before in
-    let a = told.before.before.before.before.args in
-    let b = the_box told in
-    let i_low = outputs_low a.n a.m a.rows.now a.i a.j (accepted told) in
-    let j_low = inputs_low a.n a.m a.rows.now a.i a.j (accepted told) in
+    let a = c.args in
+    let b = the_box c.before in
+    let i_low = outputs_low a.n a.m a.rows.now a.i a.j (accepted c.before) in
+    let j_low = inputs_low a.n a.m a.rows.now a.i a.j (accepted c.before) in
     (b, omega arith, omega arith, whole_part b.m_low i_low c.power_of_two.ensures.0)
 
-returns-2 : tie.Need-returns-2
+returns-2 : tie.Need-returns
 unfolding dynamic_distance measured
 returns-2 c =
-    let power = c.before.before in
-    let told = power.before in
-    let a = told.before.before.before.before.args in
+    let a = c.args in
     ap figures
-    (distance_shown a.n a.rows.now a.j (components a.m a.i) (the_box told).n_low
-    (change_candidate c.before.largest_correlation.result) (c.before.largest_correlation.ensures ∙ ap first_largest (whole_largest a.n a.m a.i a.j (correlated a.n a.rows.now) power.power_of_two.ensures.0)))
-    ∙ reply_accepted (accepted told) _
+    (distance_shown a.n a.rows.now a.j (components a.m a.i) (the_box c.before.before.before).n_low
+    (change_candidate c.largest_correlation-found.result) (c.largest_correlation-found.ensures ∙ ap first_largest (whole_largest a.n a.m a.i a.j (correlated a.n a.rows.now) c.power_of_two.ensures.0)))
+    ∙ reply_accepted (accepted c.before.before.before) _
 
 pub dynamic_distance_spec : {M : Type 1} → statement M
 dynamic_distance_spec =

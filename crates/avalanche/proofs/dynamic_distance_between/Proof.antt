@@ -17,52 +17,48 @@ use Rattle.avalanche.proofs.Ranges.{part_found, part_nothing}
 use Rattle.avalanche.proofs.dynamic_distance_between.Statement.{statement}
 use Rattle.avalanche.proofs.dynamic_distance_between.Tie as tie
 
-returns : tie.Need-returns
-returns c = reply_refused (sym c.before.before.before.check_distance_part.ensures ∙ c.before.e.given.1) _
+returns : tie.Need-returns-in-Refused
+returns c = reply_refused (sym c.check_distance_part.ensures ∙ c.in-Refused.is) _
 
-accepted : (c : tie.After-enum-told) →
-    let a = c.before.before.before.before.args in
+accepted : (c : tie.In_default) →
+    let a = c.args in
     first (distance_part_checks a.n a.m a.rows.now a.i a.j a.first a.last) ≡ Accepted
-accepted c = sym c.before.before.check_distance_part.ensures ∙ c.enum_told.given.1
+accepted c = sym c.check_distance_part.ensures ∙ c.in_default.is
 
-within : (c : tie.After-enum-told) →
-    let a = c.before.before.before.before.args in
+within : (c : tie.In_default) →
+    let a = c.args in
     DistanceWithin a.n a.m a.rows.now a.i a.j a.first a.last
 within c =
-    let a = c.before.before.before.before.args in
+    let a = c.args in
     part_accepted a.n a.m a.rows.now a.i a.j a.first a.last (accepted c)
 
-first_mask_requires : tie.Need-first-mask-requires
-first_mask_requires c κs = ((within c).i_low, omega (arith, c.before.before.before.before.ranges.first))
+first_mask_requires : tie.Need-first_mask-start-requires
+first_mask_requires c κs = ((within c).i_low, omega (arith, c.ranges.first))
 
-returns-2 : tie.Need-returns-2
+returns-2 : tie.Need-returns-then-last-start
 unfolding distance_between
 returns-2 c =
-    let p = c.before in
-    let a = p.before.before.before.before.before.args in
-    ap figures (part_nothing a.n a.m a.j (distance_of a.n a.rows.now) a.last p.first_mask.ensures c.if1.true)
-    ∙ reply_accepted (accepted p.before) _
+    let a = c.args in
+    ap figures (part_nothing a.n a.m a.j (distance_of a.n a.rows.now) a.last c.first_mask-start.ensures c.if-last-start.true)
+    ∙ reply_accepted (accepted c.before.before) _
 
-largest_correlation_requires : tie.Need-largest-correlation-requires
+largest_correlation_requires : tie.Need-largest_correlation-widest-requires
 largest_correlation_requires c κs =
-    let p = c.before in
-    let a = p.before.before.before.before.before.args in
-    let w = within p.before in
-    (w.box, w.i_low, w.j_low, part_from a.n a.m a.rows.now a.last p.first_mask.ensures w.low_end w.high_end c.if1.false)
+    let a = c.args in
+    let w = within c.before.before in
+    (w.box, w.i_low, w.j_low, part_from a.n a.m a.rows.now a.last c.first_mask-start.ensures w.low_end w.high_end c.if-last-start.false)
 
-returns-3 : tie.Need-returns-3
+returns-3 : tie.Need-returns
 unfolding distance_between measured_between
 returns-3 c =
-    let swept = c.before in
-    let p = swept.before.before in
-    let a = p.before.before.before.before.before.args in
-    let w = within p.before in
+    let a = c.args in
+    let w = within c.before.before.before.before in
     ap figures
-    (distance_shown a.n a.rows.now a.j (components_between a.m a.i p.first_mask.result a.last) w.box.n_low
-    (change_candidate swept.largest_correlation.result) swept.largest_correlation.ensures
-    ∙ part_found a.n a.m a.j (distance_of a.n a.rows.now) a.last p.first_mask.ensures w.box.n_low w.j_low w.low_end
-    w.high_end swept.before.if1.false)
-    ∙ reply_accepted (accepted p.before) _
+    (distance_shown a.n a.rows.now a.j (components_between a.m a.i c.first_mask-start.result a.last) w.box.n_low
+    (change_candidate c.largest_correlation-widest.result) c.largest_correlation-widest.ensures
+    ∙ part_found a.n a.m a.j (distance_of a.n a.rows.now) a.last c.first_mask-start.ensures w.box.n_low w.j_low w.low_end
+    w.high_end c.if-last-start.false)
+    ∙ reply_accepted (accepted c.before.before.before.before) _
 
 pub dynamic_distance_between_spec : {M : Type 1} → statement M
 dynamic_distance_between_spec =

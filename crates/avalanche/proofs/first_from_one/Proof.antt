@@ -11,16 +11,15 @@ use Rattle.avalanche.proofs.first_from_one.Tie as tie
 some : (s : tie.Start) → 1 ≤ length s.args.values.now
 some s = omega (arith, (s.requires.1.reached s.requires.2).1.high)
 
-sub_first_place : tie.Need-overflow-sub-first-place
+sub_first_place : tie.Need-slice_bounds-first_place-count
 sub_first_place c = let h = some c in omega arith
 
-part_first_place_start : tie.Need-slice-bounds-first-place-start
+part_first_place_start : tie.Need-slice_bounds-first_place-start
 part_first_place_start c = let h = some c in omega arith
 
 returns : tie.Need-returns
 returns c =
-    let start = c.before.before in
-    first_from start.args.values.now start.requires.0 (start.requires.1.reached start.requires.2) c.first_place.ensures
+    first_from c.args.values.now c.requires.0 (c.requires.1.reached c.requires.2) c.first_place-place.ensures
 
 pub first_from_one_spec : {M : Type 1} → statement M
 first_from_one_spec =

@@ -19,26 +19,22 @@ short s = le_trans (le_of_eq s.requires.1) (pow_mono {i = s.args.n} {j = 8} s.re
 listed : (s : tie.Start) → s.args.j < s.args.n → Listed s.args.j (length s.args.values.now) s.args.list.now
 listed s l = subst (λ (k : ℕ). Listed s.args.j k s.args.list.now) (sym s.requires.1) (s.requires.2 l)
 
-first_from_one_requires : tie.Need-first-from-one-requires
+first_from_one_requires : tie.Need-first_from_one-requires
 first_from_one_requires c κs =
-    let s = c.before.before in
-    (short s, largest_anywhere s.args.values.now s.requires.1 c.if1.true s.requires.0 s.requires.3, s.requires.4)
+    (short c.before.before, largest_anywhere c.args.values.now c.requires.1 c.if-n-j.true c.requires.0 c.requires.3, c.requires.4)
 
-first_listed_requires : tie.Need-first-listed-requires
+first_listed_requires : tie.Need-first_listed-requires
 first_listed_requires c κs =
-    let s = c.before.before in
-    let l = listed s c.if1.false in
-    (listed_inside s.args.values.now l, largest_within_listed s.args.values.now l s.requires.3, s.requires.4)
+    let l = listed c.before.before c.if-n-j.false in
+    (listed_inside c.args.values.now l, largest_within_listed c.args.values.now l c.requires.3, c.requires.4)
 
-returns : tie.Need-returns
+returns : tie.Need-returns-then-n-j
 returns c =
-    let s = c.before.before.before in
-    first_anywhere s.args.values.now s.requires.1 s.requires.0 c.before.if1.true c.first_from_one.ensures
+    first_anywhere c.args.values.now c.requires.1 c.requires.0 c.if-n-j.true c.first_from_one.ensures
 
-returns-2 : tie.Need-returns-2
+returns-2 : tie.Need-returns-else-n-j
 returns-2 c =
-    let s = c.before.before.before in
-    first_listed_within s.args.values.now (listed s c.before.if1.false) c.first_listed.ensures
+    first_listed_within c.args.values.now (listed c.before.before.before c.if-n-j.false) c.first_listed.ensures
 
 pub first_within_spec : {M : Type 1} → statement M
 first_within_spec =

@@ -23,30 +23,27 @@ unless : (t : Bool) → not t ≡ true → t ≡ false
 unless true z = absurd (false≢true z)
 unless false z = refl
 
-returns : tie.Need-returns
+returns : tie.Need-returns-then-list-values
 returns c =
-    let a = c.before.before.before.args in
-    ((λ z. absurd (false≢true z)), simp (lt-ltb (length a.list.now) (length a.values.now / 2) c.if1.true))
+    let a = c.args in
+    ((λ z. absurd (false≢true z)), simp (lt-ltb (length a.list.now) (length a.values.now / 2) c.if-list-values.true))
 
-largest_from_one_requires : tie.Need-largest-from-one-requires
+largest_from_one_requires : tie.Need-largest_from_one-requires
 largest_from_one_requires c κs =
-    let s = c.before.before.before in
-    let a = s.args in
-    (omega (arith, values_length a.n a.rows.now a.c a.j s.requires.values_are, pow_pos a.n), short s)
+    let a = c.args in
+    (omega (arith, values_length a.n a.rows.now a.c a.j c.requires.values_are, pow_pos a.n), short c.before.before.before)
 
-div_bound : tie.Need-nonzero-div-bound
-div_bound c = let s = c.before.before.before.before in omega (arith, s.requires.box.size, pow_pos s.args.n)
+div_bound : tie.Need-nonzero_div-bound
+div_bound c = omega (arith, c.requires.box.size, pow_pos c.args.n)
 
-returns-2 : tie.Need-returns-2
+returns-2 : tie.Need-returns
 returns-2 c =
-    let called = c.before in
-    let s = called.before.before.before.before in
-    let a = s.args in (
-      (λ z. beaten a.n a.rows.now a.c a.j s.requires.values_are
-          (λ t w. called.largest_from_one.ensures.0.bounds t (record { low = w.low; high = w.high; few = ones-le 8 t (omega (arith, w.high, short s)) }))
-          s.requires.box.n_low s.requires.j_low (ap (λ (k : ℕ). called.largest_from_one.result / k) s.requires.box.size) (change_candidate a.found)
+    let a = c.args in (
+      (λ z. beaten a.n a.rows.now a.c a.j c.requires.values_are
+          (λ t w. c.largest_from_one.ensures.0.bounds t (record { low = w.low; high = w.high; few = ones-le 8 t (omega (arith, w.high, short c.before.before.before.before.before)) }))
+          c.requires.box.n_low c.requires.j_low (ap (λ (k : ℕ). c.largest_from_one.result / k) c.requires.box.size) (change_candidate a.found)
           (sym c.is_preferred.ensures ∙ unless c.is_preferred.result z)),
-      simp (le-ltb (length a.list.now) (length a.values.now / 2) called.before.if1.false, c.is_preferred.ensures, called.largest_from_one.ensures.1),
+      simp (le-ltb (length a.list.now) (length a.values.now / 2) c.if-list-values.false, c.is_preferred.ensures, c.largest_from_one.ensures.1),
     )
 
 pub is_beaten_spec : {M : Type 1} → statement M

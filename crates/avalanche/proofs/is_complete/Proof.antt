@@ -9,22 +9,22 @@ use borrow.Author.Rules.{rules}
 use Rattle.avalanche.proofs.is_complete.Statement.{statement}
 use Rattle.avalanche.proofs.is_complete.Tie as tie
 
-returns : tie.Need-returns
-returns c = reply_refused (sym c.before.before.before.check_box.ensures ∙ c.before.e.given.1) _
+returns : tie.Need-returns-in-Refused
+returns c = reply_refused (sym c.check_box.ensures ∙ c.in-Refused.is) _
 
-accepted : (c : tie.After-enum-told) → let a = c.before.before.before.before.args in first (box_checks a.n a.m a.rows.now) ≡ Accepted
-accepted c = sym c.before.before.check_box.ensures ∙ c.enum_told.given.1
+accepted : (c : tie.In_default) → let a = c.args in first (box_checks a.n a.m a.rows.now) ≡ Accepted
+accepted c = sym c.check_box.ensures ∙ c.in_default.is
 
-all_complete_requires : tie.Need-all-complete-requires
-all_complete_requires c κs = let a = c.before.before.before.before.args in box a.n a.m a.rows.now [] (accepted c)
+all_complete_requires : tie.Need-all_complete-requires
+all_complete_requires c κs = let a = c.args in box a.n a.m a.rows.now [] (accepted c)
 
-returns-2 : tie.Need-returns-2
+returns-2 : tie.Need-returns-then-all_complete
 returns-2 c =
-    ap (λ (t : Bool). figures (as_figure t)) (sym c.if1.true ∙ c.before.all_complete.ensures) ∙ reply_accepted (accepted c.before.before) _
+    ap (λ (t : Bool). figures (as_figure t)) (sym c.if-all_complete.true ∙ c.all_complete.ensures) ∙ reply_accepted (accepted c.before.before) _
 
-returns-3 : tie.Need-returns-3
+returns-3 : tie.Need-returns-else-all_complete
 returns-3 c =
-    ap (λ (t : Bool). figures (as_figure t)) (sym c.if1.false ∙ c.before.all_complete.ensures) ∙ reply_accepted (accepted c.before.before) _
+    ap (λ (t : Bool). figures (as_figure t)) (sym c.if-all_complete.false ∙ c.all_complete.ensures) ∙ reply_accepted (accepted c.before.before) _
 
 pub is_complete_spec : {M : Type 1} → statement M
 is_complete_spec =

@@ -7,9 +7,8 @@ use Rattle.avalanche.proofs.largest_from_one.Tie as tie
 
 returns : tie.Need-returns
 returns c =
-    let start = c.before.before in
     let e = c.largest_magnitude.ensures in
-    (largest_from start.args.values.now start.requires.1 e, e ∙ rest_magnitude start.args.values.now)
+    (largest_from c.args.values.now c.requires.1 e, e ∙ rest_magnitude c.args.values.now)
 
 pub largest_from_one_spec : {M : Type 1} → statement M
 largest_from_one_spec =

@@ -19,21 +19,19 @@ short s = le_trans (le_of_eq s.requires.1) (pow_mono {i = s.args.n} {j = 8} s.re
 listed : (s : tie.Start) → s.args.j < s.args.n → Listed s.args.j (length s.args.values.now) s.args.list.now
 listed s l = subst (λ (k : ℕ). Listed s.args.j k s.args.list.now) (sym s.requires.1) (s.requires.2 l)
 
-largest_listed_requires : tie.Need-largest-listed-requires
-largest_listed_requires c κs = listed_inside c.before.before.args.values.now (listed c.before.before c.if1.true)
+largest_listed_requires : tie.Need-largest_listed-requires
+largest_listed_requires c κs = listed_inside c.args.values.now (listed c.before.before c.if-j-n.true)
 
-largest_from_one_requires : tie.Need-largest-from-one-requires
-largest_from_one_requires c κs = let s = c.before.before in (le_trans (pow_pos s.args.n) (le_of_eq (sym s.requires.1)), short s)
+largest_from_one_requires : tie.Need-largest_from_one-requires
+largest_from_one_requires c κs = (le_trans (pow_pos c.args.n) (le_of_eq (sym c.requires.1)), short c.before.before)
 
-returns : tie.Need-returns
+returns : tie.Need-returns-then-j-n
 returns c =
-    let s = c.before.before.before in
-    largest_listed_within s.args.values.now (listed s c.before.if1.true) c.largest_listed.ensures
+    largest_listed_within c.args.values.now (listed c.before.before.before c.if-j-n.true) c.largest_listed.ensures
 
-returns-2 : tie.Need-returns-2
+returns-2 : tie.Need-returns-else-j-n
 returns-2 c =
-    let s = c.before.before.before in
-    largest_anywhere s.args.values.now s.requires.1 s.requires.0 c.before.if1.false c.largest_from_one.ensures.0
+    largest_anywhere c.args.values.now c.requires.1 c.requires.0 c.if-j-n.false c.largest_from_one.ensures.0
 
 pub largest_within_spec : {M : Type 1} → statement M
 largest_within_spec =

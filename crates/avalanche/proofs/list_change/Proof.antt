@@ -7,14 +7,13 @@ use Rattle.avalanche.proofs.Listing.{listed_skips, listed_takes}
 use Rattle.avalanche.proofs.list_change.Statement.{statement}
 use Rattle.avalanche.proofs.list_change.Tie as tie
 
-returns : tie.Need-returns
-returns c = let a = c.before.args in (omega arith, listed_skips c.before.requires.2 c.if1.true, refl)
+returns : tie.Need-returns-then-j-s
+returns c = let a = c.args in (omega arith, listed_skips c.requires.2 c.if-j-s.true, refl)
 
-returns-2 : tie.Need-returns-2
+returns-2 : tie.Need-returns
 returns-2 c =
-    let s = c.before in
-    let a = s.args in
-    (omega arith, listed_takes a.j a.s a.count a.list.now s.requires.2 s.requires.0 c.if1.false s.requires.1, length-set a.list.now a.count a.s)
+    let a = c.args in
+    (omega arith, listed_takes a.j a.s a.count a.list.now c.requires.2 c.requires.0 c.if-j-s.false c.requires.1, length-set a.list.now a.count a.s)
 
 pub list_change_spec : {M : Type 1} → statement M
 list_change_spec =

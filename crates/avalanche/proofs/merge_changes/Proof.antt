@@ -8,30 +8,30 @@ use Rattle.avalanche.specs.Parts.{said_part_change}
 use Rattle.avalanche.proofs.merge_changes.Statement.{statement}
 use Rattle.avalanche.proofs.merge_changes.Tie as tie
 
-returns : tie.Need-returns
-returns c = sym (ap (λ (x : PartChange). merged_reply above (said_part_change x) (said_part_change c.before.before.before.args.y)) c.before.x.given.1)
+returns : tie.Need-returns-in-Declined
+returns c = sym (ap (λ (x : PartChange). merged_reply above (said_part_change x) (said_part_change c.args.y)) c.in-Declined.is)
 
-returns-2 : tie.Need-returns-2
+returns-2 : tie.Need-returns-in-Nothing
 returns-2 c =
-    let y = c.before.before.args.y in
-    sym (ap (λ (x : PartChange). merged_reply above (said_part_change x) (said_part_change y)) c.enum_told.given.1 ∙ merged_nothing above (said_part_change y))
+    let y = c.args.y in
+    sym (ap (λ (x : PartChange). merged_reply above (said_part_change x) (said_part_change y)) c.in-Nothing.is ∙ merged_nothing above (said_part_change y))
 
-returns-3 : tie.Need-returns-3
-returns-3 c = sym (ap₂ (λ (x y : PartChange). merged_reply above (said_part_change x) (said_part_change y)) c.before.before.before.before.x2.given.1 c.before.y.given.1)
+returns-3 : tie.Need-returns-in-Declined-y
+returns-3 c = sym (ap₂ (λ (x y : PartChange). merged_reply above (said_part_change x) (said_part_change y)) c.in-Reached.is c.in-Declined-y.is)
 
-returns-4 : tie.Need-returns-4
+returns-4 : tie.Need-returns-in-Nothing-y
 unfolding merged_figures
-returns-4 c = sym (ap₂ (λ (x y : PartChange). merged_reply above (said_part_change x) (said_part_change y)) c.before.before.before.x2.given.1 c.enum_told2.given.1)
+returns-4 c = sym (ap₂ (λ (x y : PartChange). merged_reply above (said_part_change x) (said_part_change y)) c.in-Reached.is c.in-Nothing-y.is)
 
-returns-5 : tie.Need-returns-5
+returns-5 : tie.Need-returns-then-is_sooner
 returns-5 c =
-    sym (ap₂ (λ (x y : PartChange). merged_reply above (said_part_change x) (said_part_change y)) c.before.before.before.before.before.before.x2.given.1 c.before.before.before.y2.given.1
-    ∙ merged_second above _ _ _ _ (sym (c.before.is_sooner.ensures ∙ sooner_above c.before.before.before.before.before.before.x2.given.0.0 c.before.before.before.y2.given.0.0 c.before.before.before.y2.given.0.1.0 c.before.before.before.before.before.before.x2.given.0.1.0) ∙ c.if1.true))
+    sym (ap₂ (λ (x y : PartChange). merged_reply above (said_part_change x) (said_part_change y)) c.in-Reached.is c.in-Reached-y.is
+    ∙ merged_second above _ _ _ _ (sym (c.is_sooner.ensures ∙ sooner_above c.in-Reached.figure c.in-Reached-y.other c.in-Reached-y.mask c.in-Reached.c) ∙ c.if-is_sooner.true))
 
-returns-6 : tie.Need-returns-6
+returns-6 : tie.Need-returns-else-is_sooner
 returns-6 c =
-    sym (ap₂ (λ (x y : PartChange). merged_reply above (said_part_change x) (said_part_change y)) c.before.before.before.before.before.before.x2.given.1 c.before.before.before.y2.given.1
-    ∙ merged_first above _ _ _ _ (sym (c.before.is_sooner.ensures ∙ sooner_above c.before.before.before.before.before.before.x2.given.0.0 c.before.before.before.y2.given.0.0 c.before.before.before.y2.given.0.1.0 c.before.before.before.before.before.before.x2.given.0.1.0) ∙ c.if1.false))
+    sym (ap₂ (λ (x y : PartChange). merged_reply above (said_part_change x) (said_part_change y)) c.in-Reached.is c.in-Reached-y.is
+    ∙ merged_first above _ _ _ _ (sym (c.is_sooner.ensures ∙ sooner_above c.in-Reached.figure c.in-Reached-y.other c.in-Reached-y.mask c.in-Reached.c) ∙ c.if-is_sooner.false))
 
 pub merge_changes_spec : {M : Type 1} → statement M
 merge_changes_spec =

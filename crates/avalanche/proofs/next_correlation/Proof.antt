@@ -9,26 +9,23 @@ use Rattle.avalanche.proofs.next_correlation.Statement.{statement}
 use Rattle.avalanche.proofs.next_correlation.Tie as tie
 
 -- the truth table is that of component c
-truth : (c : tie.After-next-component) →
-    let a = c.before.before.before.before.before.args in
-    c.next_component.new.1.1.1.1.1.0 ≡ truth_table a.n a.rows.now a.c
+truth : (c : tie.After-next_component) →
+    let a = c.args in
+    c.next_component.new.table ≡ truth_table a.n a.rows.now a.c
 truth c =
-    let start = c.before.before.before.before.before in
-    let a = start.args in
-    written_is a.n a.rows.now a.c a.m start.requires.0.box _ c.next_component.ensures
+    let a = c.args in
+    written_is a.n a.rows.now a.c a.m c.requires.0.box _ c.next_component.ensures
 
 correlate_requires : tie.Need-correlate-requires
-correlate_requires c κs =
-    let next = c.before.before.before.before.before in
-    let start = next.before.before.before.before.before in (
-      record { box = start.requires.0.box; table_size = ap length (truth next) ∙ length_list_below _ _; out_size = start.requires.0.out_size },
-      start.requires.1,
-      truth next,
-      start.requires.3,
-    )
+correlate_requires c κs = (
+  record { box = c.requires.0.box; table_size = ap length (truth c.before.before.before.before) ∙ length_list_below _ _; out_size = c.requires.0.out_size },
+  c.requires.1,
+  truth c.before.before.before.before,
+  c.requires.3,
+)
 
 returns : tie.Need-returns
-returns c = let done = c.before.before in (done.correlate.ensures.0, truth done.before.before.before.before.before.before, done.correlate.ensures.1)
+returns c = (c.correlate.ensures.0, truth c.before.before.before.before.before.before.before, c.correlate.ensures.1)
 
 pub next_correlation_spec : {M : Type 1} → statement M
 next_correlation_spec =

@@ -9,25 +9,24 @@ use Rattle.linear.proofs.check_part.Statement.{statement}
 use Rattle.linear.proofs.check_part.Tie as tie
 
 -- the lines of the plain call's checks, where they were passed
-passed : (c : tie.After-enum-told) → let a = c.before.before.before.before.args in first (limit_checks a.n a.m a.rows.now a.limit) ≡ Accepted
-passed c = sym c.before.before.check_limited.ensures ∙ c.enum_told.given.1
+passed : (c : tie.In_default) → let a = c.args in first (limit_checks a.n a.m a.rows.now a.limit) ≡ Accepted
+passed c = sym c.check_limited.ensures ∙ c.in_default.is
 
-returns : tie.Need-returns
+returns : tie.Need-returns-in-Refused
 unfolding part_checks
 returns c =
-    let p = c.before.before.before in
-    let a = p.before.before.args in
-    found_before (limit_checks a.n a.m a.rows.now a.limit) _ (sym p.check_limited.ensures ∙ c.before.e.given.1)
+    let a = c.args in
+    found_before (limit_checks a.n a.m a.rows.now a.limit) _ (sym c.check_limited.ensures ∙ c.in-Refused.is)
 
-check_part_requires : tie.Need-check-part-requires
+check_part_requires : tie.Need-check_part-requires
 check_part_requires c κs =
-    let a = c.before.before.before.before.args in
+    let a = c.args in
     (limited a.n a.m a.rows.now a.limit (passed c)).box.m_high
 
-returns-2 : tie.Need-returns-2
+returns-2 : tie.Need-returns
 unfolding part_checks
 returns-2 c =
-    let a = c.before.before.before.before.before.args in
+    let a = c.args in
     c.check_part.ensures ∙ sym (first_append (limit_checks a.n a.m a.rows.now a.limit) _ (passed c.before))
 
 pub check_part_spec : {M : Type 1} → statement M

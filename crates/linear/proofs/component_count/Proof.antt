@@ -11,32 +11,28 @@ use Rattle.linear.proofs.component_count.Tie as tie
 use Rattle.walsh.proofs.Magnitudes.{Largest, largest_of}
 
 -- where the function began, and that one value of the spectrum has the largest magnitude
-abbrev began : tie.After-component-peak → tie.Start
+abbrev began : tie.After-component_peak-largest → tie.Start
 began c = c.before.before.before.before.before
 
-top : (c : tie.After-component-peak) →
-    let a = (began c).args in
-    Largest (spectrum a.n (component a.rows.now a.c)) c.component_peak.result
+top : (c : tie.After-component_peak-largest) →
+    let a = c.args in
+    Largest (spectrum a.n (component a.rows.now a.c)) c.component_peak-largest.result
 top c =
-    let a = (began c).args in
-    largest_of _ c.component_peak.ensures.0 (values_nonempty a.n a.rows.now a.c refl)
+    let a = c.args in
+    largest_of _ c.component_peak-largest.ensures.0 (values_nonempty a.n a.rows.now a.c refl)
 
-sub_result : tie.Need-overflow-sub-result
+sub_result : tie.Need-overflow_sub-result
 sub_result c =
-    let made = c.before.before.before in
-    let start = began made in
-    let a = start.args in
-    omega (arith, start.pre.0.box.size, largest_le a.n a.rows.now a.c refl start.pre.0.box.n_low (top made))
+    let a = c.args in
+    omega (arith, c.requires.0.box.size, largest_le a.n a.rows.now a.c refl c.requires.0.box.n_low (top c.before.before.before))
 
 returns : tie.Need-returns
 returns c =
-    let made = c.before.before.before in
-    let start = began made in
-    let a = start.args in (
-      ap (λ (k : ℕ). k / 2 - made.component_peak.result) start.pre.0.box.size
-          ∙ sym (least_figure a.n a.rows.now a.c refl start.pre.0.box.n_low (top made)),
-      made.component_peak.ensures.1,
-      made.component_peak.ensures.2,
+    let a = c.args in (
+      ap (λ (k : ℕ). k / 2 - c.component_peak-largest.result) c.requires.0.box.size
+          ∙ sym (least_figure a.n a.rows.now a.c refl c.requires.0.box.n_low (top c.before.before.before)),
+      c.component_peak-largest.ensures.1,
+      c.component_peak-largest.ensures.2,
     )
 
 pub component_count_spec : {M : Type 1} → statement M

@@ -7,21 +7,16 @@ use Rattle.linear.proofs.component_spectrum.Tie as tie
 
 descend_requires : tie.Need-descend-requires
 descend_requires c κs =
-    let w = c.before.before.before.before in
-    let start = w.before.before.before.before in
-    let a = start.args in (
-      written_ready a.n a.rows.now a.c a.m start.requires.0.box _ w.write_component.ensures _ start.requires.0.out_size,
-      start.requires.1,
+    let a = c.args in (
+      written_ready a.n a.rows.now a.c a.m c.requires.0.box _ c.write_component.ensures _ c.requires.0.out_size,
+      c.requires.1,
     )
 
 returns : tie.Need-returns
 returns c =
-    let d = c.before in
-    let w = d.before.before.before.before.before in
-    let start = w.before.before.before.before in
-    let a = start.args in (
-      d.descend.ensures ∙ written_spectrum a.n a.rows.now a.c a.m start.requires.0.box _ w.write_component.ensures,
-      written_is a.n a.rows.now a.c a.m start.requires.0.box _ w.write_component.ensures,
+    let a = c.args in (
+      c.descend.ensures ∙ written_spectrum a.n a.rows.now a.c a.m c.requires.0.box _ c.write_component.ensures,
+      written_is a.n a.rows.now a.c a.m c.requires.0.box _ c.write_component.ensures,
     )
 
 pub component_spectrum_spec : {M : Type 1} → statement M

@@ -9,30 +9,30 @@ use Rattle.linear.specs.Parts.{said_part}
 use Rattle.linear.proofs.merge.Statement.{statement}
 use Rattle.linear.proofs.merge.Tie as tie
 
-returns : tie.Need-returns
-returns c = sym (ap (λ (x : PartPair). merged_reply ltb (said_part x) (said_part c.before.before.before.args.y)) c.before.x.given.1)
+returns : tie.Need-returns-in-Declined
+returns c = sym (ap (λ (x : PartPair). merged_reply ltb (said_part x) (said_part c.args.y)) c.in-Declined.is)
 
-returns-2 : tie.Need-returns-2
+returns-2 : tie.Need-returns-in-Nothing
 returns-2 c =
-    let y = c.before.before.args.y in
-    sym (ap (λ (x : PartPair). merged_reply ltb (said_part x) (said_part y)) c.enum_told.given.1 ∙ merged_nothing ltb (said_part y))
+    let y = c.args.y in
+    sym (ap (λ (x : PartPair). merged_reply ltb (said_part x) (said_part y)) c.in-Nothing.is ∙ merged_nothing ltb (said_part y))
 
-returns-3 : tie.Need-returns-3
-returns-3 c = sym (ap₂ (λ (x y : PartPair). merged_reply ltb (said_part x) (said_part y)) c.before.before.before.before.x2.given.1 c.before.y.given.1)
+returns-3 : tie.Need-returns-in-Declined-y
+returns-3 c = sym (ap₂ (λ (x y : PartPair). merged_reply ltb (said_part x) (said_part y)) c.in-Reached.is c.in-Declined-y.is)
 
-returns-4 : tie.Need-returns-4
+returns-4 : tie.Need-returns-in-Nothing-y
 unfolding merged_figures
-returns-4 c = sym (ap₂ (λ (x y : PartPair). merged_reply ltb (said_part x) (said_part y)) c.before.before.before.x2.given.1 c.enum_told2.given.1)
+returns-4 c = sym (ap₂ (λ (x y : PartPair). merged_reply ltb (said_part x) (said_part y)) c.in-Reached.is c.in-Nothing-y.is)
 
-returns-5 : tie.Need-returns-5
+returns-5 : tie.Need-returns-then-is_sooner
 returns-5 c =
-    sym (ap₂ (λ (x y : PartPair). merged_reply ltb (said_part x) (said_part y)) c.before.before.before.before.before.before.x2.given.1 c.before.before.before.y2.given.1
-    ∙ merged_second ltb _ _ _ _ (sym c.before.is_sooner.ensures ∙ c.if1.true))
+    sym (ap₂ (λ (x y : PartPair). merged_reply ltb (said_part x) (said_part y)) c.in-Reached.is c.in-Reached-y.is
+    ∙ merged_second ltb _ _ _ _ (sym c.is_sooner.ensures ∙ c.if-is_sooner.true))
 
-returns-6 : tie.Need-returns-6
+returns-6 : tie.Need-returns-else-is_sooner
 returns-6 c =
-    sym (ap₂ (λ (x y : PartPair). merged_reply ltb (said_part x) (said_part y)) c.before.before.before.before.before.before.x2.given.1 c.before.before.before.y2.given.1
-    ∙ merged_first ltb _ _ _ _ (sym c.before.is_sooner.ensures ∙ c.if1.false))
+    sym (ap₂ (λ (x y : PartPair). merged_reply ltb (said_part x) (said_part y)) c.in-Reached.is c.in-Reached-y.is
+    ∙ merged_first ltb _ _ _ _ (sym c.is_sooner.ensures ∙ c.if-is_sooner.false))
 
 pub merge_spec : {M : Type 1} → statement M
 merge_spec =

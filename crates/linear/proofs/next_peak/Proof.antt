@@ -8,21 +8,16 @@ use Rattle.linear.proofs.next_peak.Tie as tie
 
 peak_requires : tie.Need-peak-requires
 peak_requires c κs =
-    let next = c.before.before.before.before in
-    let start = next.before.before.before.before.before in
-    let a = start.args in (
-      written_ready a.n a.rows.now a.c a.m start.requires.0.box _ next.next_component.ensures _ start.requires.0.out_size,
-      start.requires.1,
+    let a = c.args in (
+      written_ready a.n a.rows.now a.c a.m c.requires.0.box _ c.next_component.ensures _ c.requires.0.out_size,
+      c.requires.1,
     )
 
 returns : tie.Need-returns
 returns c =
-    let d = c.before in
-    let next = d.before.before.before.before.before in
-    let start = next.before.before.before.before.before in
-    let a = start.args in (
-      d.peak.ensures ∙ ap largest_magnitude (written_spectrum a.n a.rows.now a.c a.m start.requires.0.box _ next.next_component.ensures),
-      written_is a.n a.rows.now a.c a.m start.requires.0.box _ next.next_component.ensures,
+    let a = c.args in (
+      c.peak.ensures ∙ ap largest_magnitude (written_spectrum a.n a.rows.now a.c a.m c.requires.0.box _ c.next_component.ensures),
+      written_is a.n a.rows.now a.c a.m c.requires.0.box _ c.next_component.ensures,
     )
 
 pub next_peak_spec : {M : Type 1} → statement M

@@ -15,9 +15,9 @@ use Rattle.linear.specs.Calls.{component_checks}
 use Rattle.linear.proofs.spectrum_of_component.Statement.{statement}
 use Rattle.linear.proofs.spectrum_of_component.Tie as tie
 
-returns : tie.Need-returns
+returns : tie.Need-returns-in-Refused
 returns c =
-    wrote_refused (sym c.before.before.before.check_component.ensures ∙ c.before.e.given.1)
+    wrote_refused (sym c.check_component.ensures ∙ c.in-Refused.is)
 
 -- accepted: a box, and an array that is as long
 module _ (n m : ℕ) (rows : List ℕ) (k room : ℕ) (h : first (component_checks n m rows k room) ≡ Accepted) where
@@ -29,34 +29,32 @@ module _ (n m : ℕ) (rows : List ℕ) (k room : ℕ) (h : first (component_chec
   unfolding component_checks
   the_room = eqb-true room (2 ^ n) (passed _ (accepted_after (box_checks n m rows) _ h)).1.0
 
-accepted : (c : tie.After-enum-told) →
-    let a = c.before.before.before.before.args in
+accepted : (c : tie.In_default) →
+    let a = c.args in
     first (component_checks a.n a.m a.rows.now a.c (length a.out.now)) ≡ Accepted
-accepted c = sym c.before.before.check_component.ensures ∙ c.enum_told.given.1
+accepted c = sym c.check_component.ensures ∙ c.in_default.is
 
-box_of : (c : tie.After-enum-told) →
-    let a = c.before.before.before.before.args in
+box_of : (c : tie.In_default) →
+    let a = c.args in
     Box a.n a.m a.rows.now
 box_of c = the_box _ _ _ _ _ (accepted c)
 
-array_borrow_prefix_table : tie.Need-array-borrow-prefix-table
+array_borrow_prefix_table : tie.Need-slice_bounds-table-end
 array_borrow_prefix_table c = (box_of c.before.before).small
 
-slice_aggregate_component_spectrum : tie.Need-slice-aggregate-component-spectrum
+slice_aggregate_component_spectrum : tie.Need-slice_bounds-component_spectrum-end
 slice_aggregate_component_spectrum c = sym (length-take-le _ _ (box_of c.before.before.before).small)
 
-component_spectrum_requires : tie.Need-component-spectrum-requires
+component_spectrum_requires : tie.Need-component_spectrum-requires
 component_spectrum_requires c κs =
-    let s = c.before.before.before in
-    let b = box_of s.before in (
-      record { box = b; table_size = length-take-le _ _ b.small ∙ b.size; out_size = the_room _ _ _ _ _ (accepted s.before) },
-      s.spectra.ensures,
+    let b = box_of c.before.before.before.before in (
+      record { box = b; table_size = length-take-le _ _ b.small ∙ b.size; out_size = the_room _ _ _ _ _ (accepted c.before.before.before.before) },
+      c.spectra-fixed.ensures,
     )
 
-returns-2 : tie.Need-returns-2
+returns-2 : tie.Need-returns
 returns-2 c =
-    let p = c.before.before in
-    wrote_accepted (accepted p.before.before.before.before.before) p.component_spectrum.ensures.0
+    wrote_accepted (accepted c.before.before.before.before.before.before.before) c.component_spectrum.ensures.0
 
 pub spectrum_of_component_spec : {M : Type 1} → statement M
 spectrum_of_component_spec =

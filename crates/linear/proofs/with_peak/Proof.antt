@@ -18,38 +18,33 @@ use Rattle.linear.proofs.with_peak.Tie as tie
 top : (s : tie.Start) → Largest (spectrum s.args.n (component s.args.rows.now s.args.c)) s.args.largest
 top s = let a = s.args in largest_of _ s.requires.2 (values_nonempty a.n a.rows.now a.c refl)
 
-sub_near : tie.Need-overflow-sub-near
+sub_near : tie.Need-overflow_sub-near
 sub_near c =
-    let s = c.before.before in
-    let a = s.args in
-    omega (arith, s.requires.0.box.size, largest_le a.n a.rows.now a.c refl s.requires.0.box.n_low (top s))
+    let a = c.args in
+    omega (arith, c.requires.0.box.size, largest_le a.n a.rows.now a.c refl c.requires.0.box.n_low (top c.before.before))
 
 descend_requires : tie.Need-descend-requires
 descend_requires c κs =
-    let s = c.before.before.before.before.before in
-    let a = s.args in (
+    let a = c.args in (
       record {
-        read = subst (Table a.n) (sym s.requires.3) (table_is a.n a.rows.now a.c a.m s.requires.0.box);
-        room = s.requires.0.out_size;
+        read = subst (Table a.n) (sym c.requires.3) (table_is a.n a.rows.now a.c a.m c.requires.0.box);
+        room = c.requires.0.out_size;
       },
-      s.requires.1,
+      c.requires.1,
     )
 
-with_spectrum_requires : tie.Need-with-spectrum-requires
+with_spectrum_requires : tie.Need-with_spectrum-requires
 with_spectrum_requires c κs =
-    let made = c.before.before in
-    let s = made.before.before.before.before.before.before in
-    let a = s.args in (
-      s.requires.0.box,
-      made.descend.ensures ∙ ap (λ (t : List ℕ). spectrum a.n (at t)) s.requires.3 ∙ table_spectrum a.n a.rows.now a.c,
+    let a = c.args in (
+      c.requires.0.box,
+      c.descend.ensures ∙ ap (λ (t : List ℕ). spectrum a.n (at t)) c.requires.3 ∙ table_spectrum a.n a.rows.now a.c,
     )
 
-returns-2 : tie.Need-returns-2
+returns-2 : tie.Need-returns-else-is_preferred
 returns-2 c =
-    let s = c.before.before.before.before in
-    let a = s.args in (
-      kept a.n a.rows.now a.c refl s.requires.0.box.n_low (top s)
-          (ap (λ (k : ℕ). k / 2 - a.largest) s.requires.0.box.size) (pair_candidate a.found) (sym c.before.is_preferred.ensures ∙ c.if1.false),
+    let a = c.args in (
+      kept a.n a.rows.now a.c refl c.requires.0.box.n_low (top c.before.before.before.before)
+          (ap (λ (k : ℕ). k / 2 - a.largest) c.requires.0.box.size) (pair_candidate a.found) (sym c.is_preferred.ensures ∙ c.if-is_preferred.false),
       refl,
     )
 

@@ -13,49 +13,41 @@ use Rattle.linear.proofs.with_spectrum.Tie as tie
 use Rattle.walsh.proofs.Magnitudes.{Largest, largest_of, place_inside}
 
 -- the spectrum has values: one has the largest magnitude
-top : (c : tie.After-largest-magnitude) → Largest c.before.before.args.values.now c.largest_magnitude.result
+top : (c : tie.After-largest_magnitude-largest) → Largest c.args.values.now c.largest_magnitude-largest.result
 top c =
-    let start = c.before.before in
-    let a = start.args in
-    largest_of a.values.now c.largest_magnitude.ensures (values_nonempty a.n a.rows.now a.c start.requires.1)
+    let a = c.args in
+    largest_of a.values.now c.largest_magnitude-largest.ensures (values_nonempty a.n a.rows.now a.c c.requires.1)
 
-sub_count : tie.Need-overflow-sub-count
+sub_count : tie.Need-overflow_sub-count
 sub_count c =
-    let a = c.before.before.args in
-    let h = largest_le a.n a.rows.now a.c c.before.before.requires.1 c.before.before.requires.0.n_low (top c) in
-    omega (arith, c.before.before.requires.0.size)
+    let a = c.args in
+    let h = largest_le a.n a.rows.now a.c c.requires.1 c.requires.0.n_low (top c) in
+    omega (arith, c.requires.0.size)
 
 -- so its first place is a place
-shared_slice_copy_out_sign_bit : tie.Need-shared-slice-copy-out-sign-bit
+shared_slice_copy_out_sign_bit : tie.Need-bounds-values-w
 shared_slice_copy_out_sign_bit c =
     let t = top c.before.before.before in
-    place_inside c.first_place.ensures t.place t.inside t.reached
+    place_inside c.first_place-w.ensures t.place t.inside t.reached
 
-cast_t19 : tie.Need-overflow-cast-t19
+cast_t19 : tie.Need-overflow_cast-result
 cast_t19 c =
-    let placed = c.before.before in
-    let start = placed.before.before.before.before.before in
-    let a = start.args in
-    omega (arith, placed.first_place.ensures.within, values_length a.n a.rows.now a.c start.requires.1, start.requires.0.size, start.requires.0.small)
+    let a = c.args in
+    omega (arith, c.first_place-w.ensures.within, values_length a.n a.rows.now a.c c.requires.1, c.requires.0.size, c.requires.0.small)
 
-returns : tie.Need-returns
+returns : tie.Need-returns-then-is_preferred
 returns c =
-    let placed = c.before.before in
-    let counted = placed.before.before.before in
-    let start = counted.before.before in
-    let a = start.args in
-    taken a.n a.rows.now a.c start.requires.1 start.requires.0.n_low (top counted)
-    (ap (λ (k : ℕ). k / 2 - counted.largest_magnitude.result) start.requires.0.size)
-    (pair_candidate a.found) (sym placed.before.before.is_preferred.ensures ∙ placed.before.if1.true) placed.first_place.ensures
-    (c.sign_bit.ensures ∙ ap sign_bit (word_told (value_at a.values.now placed.first_place.result) c.before.sign_bit_arg.given))
+    let a = c.args in
+    taken a.n a.rows.now a.c c.requires.1 c.requires.0.n_low (top c.before.before.before.before.before)
+    (ap (λ (k : ℕ). k / 2 - c.largest_magnitude-largest.result) c.requires.0.size)
+    (pair_candidate a.found) (sym c.is_preferred.ensures ∙ c.if-is_preferred.true) c.first_place-w.ensures
+    (c.sign_bit-b.ensures ∙ ap sign_bit (word_told (value_at a.values.now c.first_place-w.result) c.sign_bit-arg-1.given))
 
-returns-2 : tie.Need-returns-2
+returns-2 : tie.Need-returns-else-is_preferred
 returns-2 c =
-    let counted = c.before.before in
-    let start = counted.before.before in
-    let a = start.args in
-    kept a.n a.rows.now a.c start.requires.1 start.requires.0.n_low (top counted)
-    (ap (λ (k : ℕ). k / 2 - counted.largest_magnitude.result) start.requires.0.size) (pair_candidate a.found) (sym c.before.is_preferred.ensures ∙ c.if1.false)
+    let a = c.args in
+    kept a.n a.rows.now a.c c.requires.1 c.requires.0.n_low (top c.before.before)
+    (ap (λ (k : ℕ). k / 2 - c.largest_magnitude-largest.result) c.requires.0.size) (pair_candidate a.found) (sym c.is_preferred.ensures ∙ c.if-is_preferred.false)
 
 pub with_spectrum_spec : {M : Type 1} → statement M
 with_spectrum_spec =

@@ -21,103 +21,91 @@ use Rattle.nearest.proofs.list_component.Tie as tie
 small : (c : tie.Start) → c.args.c < 2 ^ 32
 small c = masks_fit c.requires.0.arrays.box c.requires.1.high
 
-cast_component_peak : tie.Need-overflow-cast-component-peak
+cast_component_peak : tie.Need-overflow_cast-c
 cast_component_peak c = omega (arith, small c.before.before.before)
 
-component_peak_requires : tie.Need-component-peak-requires
-component_peak_requires c κs = let start = c.before.before.before.before.before in (start.requires.0.arrays, start.requires.2)
+component_peak_requires : tie.Need-component_peak-largest-requires
+component_peak_requires c κs = (c.requires.0.arrays, c.requires.2)
 
 -- where the function began, of the place after the largest magnitude is known
-abbrev began : tie.After-component-peak → tie.Start
+abbrev began : tie.After-component_peak-largest → tie.Start
 began c = c.before.before.before.before.before.before
 
 -- one value of the spectrum has it
-top : (c : tie.After-component-peak) →
-    let a = (began c).args in
-    Largest (spectrum a.sought.n (component a.rows.now a.c)) c.component_peak.result
+top : (c : tie.After-component_peak-largest) →
+    let a = c.args in
+    Largest (spectrum a.sought.n (component a.rows.now a.c)) c.component_peak-largest.result
 top c =
-    let a = (began c).args in
-    largest_of _ c.component_peak.ensures.0 (values_nonempty a.sought.n a.rows.now a.c refl)
+    let a = c.args in
+    largest_of _ c.component_peak-largest.ensures.0 (values_nonempty a.sought.n a.rows.now a.c refl)
 
 -- the array of the truth table is as long as before
-table_kept : (c : tie.After-component-peak) → AnyContent (began c).args.table.now c.component_peak.new.1.1.1.1.1.0
+table_kept : (c : tie.After-component_peak-largest) → AnyContent c.args.table.now c.component_peak-largest.new.bits
 table_kept c =
-    let a = (began c).args in
-    ap length c.component_peak.ensures.1 ∙ table_length a.sought.n a.rows.now a.c ∙ sym (began c).requires.0.arrays.table_size
+    let a = c.args in
+    ap length c.component_peak-largest.ensures.1 ∙ table_length a.sought.n a.rows.now a.c ∙ sym c.requires.0.arrays.table_size
 
-sub_size : tie.Need-overflow-sub-size
+sub_size : tie.Need-overflow_sub-size
 sub_size c =
-    let start = c.before.before.before.before.before.before.before.before.before.before in
-    omega (arith, least_below start.requires.0.known, start.requires.0.arrays.box.size)
+    omega (arith, least_below c.requires.0.known, c.requires.0.arrays.box.size)
 
-returns : tie.Need-returns
+returns : tie.Need-returns-then-largest-size
 returns c =
-    let made = c.before.before.before.before.before in
-    let start = began made in
-    let a = start.args in
-    let low = start.pre.0.arrays.box.n_low in
-    let more = least_of start.pre.0.known a.c start.pre.1 in
-    let figure = least_figure a.sought.n a.rows.now a.c refl low (top made) in
-    let few = largest_le a.sought.n a.rows.now a.c refl low (top made) in
+    let a = c.args in
+    let low = c.requires.0.arrays.box.n_low in
+    let more = least_of c.requires.0.known a.c c.requires.1 in
+    let figure = least_figure a.sought.n a.rows.now a.c refl low (top c.before.before.before.before.before) in
+    let few = largest_le a.sought.n a.rows.now a.c refl low (top c.before.before.before.before.before) in
     let none = pairs_none a.sought.n a.rows.now a.c a.sought.d
-    (omega (arith, more, figure, few, least_below start.pre.0.known, start.pre.0.arrays.box.size, c.if1.true)) in
-    (omega (arith, ap length none), omega arith, sym (ap (sets a.list.now a.start) none), table_kept made, made.component_peak.ensures.2, refl)
+    (omega (arith, more, figure, few, least_below c.requires.0.known, c.requires.0.arrays.box.size, c.if-largest-size.true)) in
+    (omega (arith, ap length none), omega arith, sym (ap (sets a.list.now a.start) none), table_kept c.before.before.before.before.before, c.component_peak-largest.ensures.2, refl)
 
 descend_requires : tie.Need-descend-requires
 descend_requires c κs =
-    let made = c.before.before.before.before.before.before.before in
-    let start = began made in
-    let a = start.args in (
+    let a = c.args in (
       record {
-        read = subst (Table a.sought.n) (sym made.component_peak.ensures.1) (table_is a.sought.n a.rows.now a.c a.sought.m start.pre.0.arrays.box);
-        room = start.pre.0.values_size;
+        read = subst (Table a.sought.n) (sym c.component_peak-largest.ensures.1) (table_is a.sought.n a.rows.now a.c a.sought.m c.requires.0.arrays.box);
+        room = c.requires.0.values_size;
       },
-      start.pre.2,
+      c.requires.2,
     )
 
--- the spectrum that is made is the component's
+-- the spectrum that is c.before.before.before.before.before.before.before is the component's
 made_is : (c : tie.After-descend) →
-    let a = (began c.before.before.before.before.before.before.before.before).args in
-    c.descend.new.1.1.1.0 ≡ spectrum a.sought.n (component a.rows.now a.c)
+    let a = c.args in
+    c.descend.new.out ≡ spectrum a.sought.n (component a.rows.now a.c)
 made_is c =
-    let made = c.before.before.before.before.before.before.before.before in
-    let a = (began made).args in
-    c.descend.ensures ∙ ap (λ (t : List ℕ). spectrum a.sought.n (at t)) made.component_peak.ensures.1
+    let a = c.args in
+    c.descend.ensures ∙ ap (λ (t : List ℕ). spectrum a.sought.n (at t)) c.component_peak-largest.ensures.1
     ∙ table_spectrum a.sought.n a.rows.now a.c
 
-values_long : (c : tie.After-descend) → length c.descend.new.1.1.1.0 ≡ 2 ^ (began c.before.before.before.before.before.before.before.before).args.sought.n
-values_long c = let a = (began c.before.before.before.before.before.before.before.before).args in values_length a.sought.n a.rows.now a.c (made_is c)
+values_long : (c : tie.After-descend) → length c.descend.new.out ≡ 2 ^ c.args.sought.n
+values_long c = let a = c.args in values_length a.sought.n a.rows.now a.c (made_is c)
 
-list_places_requires : tie.Need-list-places-requires
+list_places_requires : tie.Need-list_places-requires
 list_places_requires c κs =
-    let done = c.before.before.before in
-    let start = began done.before.before.before.before.before.before.before.before in
-    let box = start.pre.0.arrays.box in
-    (small start, omega (arith, values_long done, box.size, box.small), start.pre.3)
+    let box = c.requires.0.arrays.box in
+    (small c.before.before.before.before.before.before.before.before.before.before.before.before.before.before.before, omega (arith, values_long c.before.before, box.size, box.small), c.requires.3)
 
 -- it shows the pairs
 are : (c : tie.After-descend) →
-    let a = (began c.before.before.before.before.before.before.before.before).args in
-    pair_numbers a.c (length a.rows.now / 2 - a.sought.d) c.descend.new.1.1.1.0 ≡ pairs_at a.sought.n a.rows.now a.sought.d a.c
+    let a = c.args in
+    pair_numbers a.c (length a.rows.now / 2 - a.sought.d) c.descend.new.out ≡ pairs_at a.sought.n a.rows.now a.sought.d a.c
 are c =
-    let start = began c.before.before.before.before.before.before.before.before in
-    let a = start.args in
-    let box = start.pre.0.arrays.box in
-    ap (λ (k : ℕ). pair_numbers a.c (k / 2 - a.sought.d) c.descend.new.1.1.1.0) box.size
-    ∙ sym (pairs_by_places a.sought.n a.rows.now a.c a.sought.d (made_is c) box.n_low (least_below start.pre.0.known))
+    let a = c.args in
+    let box = c.requires.0.arrays.box in
+    ap (λ (k : ℕ). pair_numbers a.c (k / 2 - a.sought.d) c.descend.new.out) box.size
+    ∙ sym (pairs_by_places a.sought.n a.rows.now a.c a.sought.d (made_is c) box.n_low (least_below c.requires.0.known))
 
-returns-2 : tie.Need-returns-2
+returns-2 : tie.Need-returns
 returns-2 c =
-    let listed = c.before.before in
-    let done = listed.before.before.before.before in
-    let made = done.before.before.before.before.before.before.before.before in
-    let a = (began made).args in (
-      listed.list_places.ensures.0 ∙ ap (λ (l : List ℕ). a.start + length l) (are done),
-      listed.list_places.ensures.1,
-      listed.list_places.ensures.2 ∙ ap (sets a.list.now a.start) (are done),
-      table_kept made,
-      made.component_peak.ensures.2,
-      values_long done ∙ sym (began made).requires.0.values_size,
+    let a = c.args in (
+      c.list_places.ensures.0 ∙ ap (λ (l : List ℕ). a.start + length l) (are c.before.before.before.before.before),
+      c.list_places.ensures.1,
+      c.list_places.ensures.2 ∙ ap (sets a.list.now a.start) (are c.before.before.before.before.before),
+      table_kept c.before.before.before.before.before.before.before.before.before.before.before.before,
+      c.component_peak-largest.ensures.2,
+      values_long c.before.before.before.before.before ∙ sym c.requires.0.values_size,
     )
 
 pub list_component_spec : {M : Type 1} → statement M

@@ -5,38 +5,38 @@ use borrow.Author.Rules.{rules}
 use Rattle.nearest.proofs.list_nearest.Statement.{statement}
 use Rattle.nearest.proofs.list_nearest.Tie as tie
 
-array_borrow_prefix_table : tie.Need-array-borrow-prefix-table
-array_borrow_prefix_table c = c.before.before.before.before.requires.box.small
+array_borrow_prefix_table : tie.Need-slice_bounds-table-end
+array_borrow_prefix_table c = c.requires.box.small
 
-slice_aggregate_list_with : tie.Need-slice-aggregate-list-with
-slice_aggregate_list_with c = sym (length-take-le _ _ c.before.before.before.before.before.requires.box.small)
+slice_aggregate_list_with : tie.Need-slice_bounds-list_with-end
+slice_aggregate_list_with c = sym (length-take-le _ _ c.requires.box.small)
 
-array_borrow_prefix_work : tie.Need-array-borrow-prefix-work
-array_borrow_prefix_work c = c.before.before.before.before.before.requires.box.small
+array_borrow_prefix_work : tie.Need-slice_bounds-work-end
+array_borrow_prefix_work c = c.requires.box.small
 
-slice_aggregate_list_with_2 : tie.Need-slice-aggregate-list-with-2
-slice_aggregate_list_with_2 c = sym (length-take-le _ _ c.before.before.before.before.before.before.requires.box.small)
+slice_aggregate_list_with_2 : tie.Need-slice_bounds-list_with-end-2
+slice_aggregate_list_with_2 c = sym (length-take-le _ _ c.requires.box.small)
 
-array_borrow_prefix_values : tie.Need-array-borrow-prefix-values
-array_borrow_prefix_values c = c.before.before.before.before.before.before.requires.box.small
+array_borrow_prefix_values : tie.Need-slice_bounds-values-end
+array_borrow_prefix_values c = c.requires.box.small
 
-slice_aggregate_list_with_3 : tie.Need-slice-aggregate-list-with-3
-slice_aggregate_list_with_3 c = sym (length-take-le _ _ c.before.before.before.before.before.before.before.requires.box.small)
+slice_aggregate_list_with_3 : tie.Need-slice_bounds-list_with-end-3
+slice_aggregate_list_with_3 c = sym (length-take-le _ _ c.requires.box.small)
 
-list_with_requires : tie.Need-list-with-requires
+list_with_requires : tie.Need-list_with-requires
 list_with_requires c κs =
-    let pre = c.before.before.before.before.before.before.before.before.requires in
+    let pre = c.requires in
     let b = pre.box in (
       record {
         known = pre;
         arrays = record { box = b; table_size = length-take-le _ _ b.small ∙ b.size; out_size = length-take-le _ _ b.small ∙ b.size };
         values_size = length-take-le _ _ b.small ∙ b.size;
       },
-      c.before.before.before.before.before.spectra.ensures,
+      c.spectra-fixed.ensures,
     )
 
 returns : tie.Need-returns
-returns c = c.before.before.before.before.before.list_with.ensures.0
+returns c = c.list_with.ensures.0
 
 pub list_nearest_spec : {M : Type 1} → statement M
 list_nearest_spec =

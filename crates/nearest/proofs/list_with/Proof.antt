@@ -18,77 +18,70 @@ use borrow.Author.Rules.{rules}
 use Rattle.nearest.proofs.list_with.Statement.{statement}
 use Rattle.nearest.proofs.list_with.Tie as tie
 
-slice_relend_prefix_list_all : tie.Need-slice-relend-prefix-list-all
+slice_relend_prefix_list_all : tie.Need-slice_bounds-list_all-end
 slice_relend_prefix_list_all c = search rules
 
-slice_aggregate_list_all : tie.Need-slice-aggregate-list-all
+slice_aggregate_list_all : tie.Need-slice_bounds-list_all-end-2
 slice_aggregate_list_all c = search rules
 
 -- where the function began, of the place after the pairs were counted, and of the one after they were written
-abbrev began : tie.After-list-all → tie.Start
+abbrev began : tie.After-list_all-count → tie.Start
 began c = c.before.before.before.before.before.before.before.before
 
-abbrev counting : tie.After-list-all2 → tie.After-list-all
+abbrev counting : tie.After-list_all → tie.After-list_all-count
 counting c = c.before.before.before.before.before.before.before.before.before.before.before.before
 
 -- what was counted
-counted : (c : tie.After-list-all) →
-    let a = (began c).args in
-    c.list_all.result ≡ length (nearest_pairs a.sought.n a.sought.m a.rows.now a.sought.i)
-counted c = c.list_all.ensures.0 ∙ ap length (pairs_all (began c).requires.0.known)
+counted : (c : tie.After-list_all-count) →
+    let a = c.args in
+    c.list_all-count.result ≡ length (nearest_pairs a.sought.n a.sought.m a.rows.now a.sought.i)
+counted c = c.list_all-count.ensures.0 ∙ ap length (pairs_all c.requires.0.known)
 
 -- with no entry lent nothing is written
-same_list : (c : tie.After-list-all) → let old = (began c).args.list.now in c.list_all.new.1.1.1.1.1.1.0 ++ old ≡ old
+same_list : (c : tie.After-list_all-count) → let old = c.args.list.now in c.list_all-count.new.list ++ old ≡ old
 same_list c =
-    let a = (began c).args in
-    ap (λ (l : List ℕ). l ++ a.list.now) (c.list_all.ensures.1 ∙ sets_nowhere 0 (pairs_of_all a.sought a.rows.now))
+    let a = c.args in
+    ap (λ (l : List ℕ). l ++ a.list.now) (c.list_all-count.ensures.1 ∙ sets_nowhere 0 (pairs_of_all a.sought a.rows.now))
 
-same_length_4 : tie.Need-same-length-4
+same_length_4 : tie.Need-shape_of-list-then-list-count
 same_length_4 c = ap length (same_list c.before.before.before.before.before.before.before)
 
-returns : tie.Need-returns
+returns : tie.Need-returns-then-list-count
 returns c =
-    let listed = c.before.before.before.before.before.before.before in
-    let start = began listed in
-    let old = start.args.list.now in
-    let e = listed.list_all.ensures in
-    let h = too_short start.pre.0.known (counted listed) (length old) (omega (arith, c.if1.true, ap length (same_list listed))) in
-    (record { reply = reply_refused h _; content = same_list listed ∙ after_refused h _ old }, e.2, e.3, e.4)
+    let old = c.args.list.now in
+    let e = c.list_all-count.ensures in
+    let h = too_short c.requires.0.known (counted c.before.before.before.before.before.before.before) (length old) (omega (arith, c.if-list-count.true, ap length (same_list c.before.before.before.before.before.before.before))) in
+    (record { reply = reply_refused h _; content = same_list c.before.before.before.before.before.before.before ∙ after_refused h _ old }, e.2, e.3, e.4)
 
-list_all_requires_2 : tie.Need-list-all-requires-2
+list_all_requires_2 : tie.Need-list_all-requires
 list_all_requires_2 c κs =
-    let listed = c.before.before.before.before.before.before.before.before.before.before.before in
-    let e = listed.list_all.ensures in
-    (lent_again (began listed).requires.0 e.2 e.3 e.4, (began listed).requires.1)
+    let e = c.list_all-count.ensures in
+    (lent_again c.requires.0 e.2 e.3 e.4, c.requires.1)
 
 -- the list, once all pairs are written to it
-written : (c : tie.After-list-all2) →
-    let a = (began (counting c)).args in
-    c.list_all2.new.1.1.1.1.1.1.0 ≡ sets a.list.now 0 (nearest_pairs a.sought.n a.sought.m a.rows.now a.sought.i)
+written : (c : tie.After-list_all) →
+    let a = c.args in
+    c.list_all.new.list ≡ sets a.list.now 0 (nearest_pairs a.sought.n a.sought.m a.rows.now a.sought.i)
 written c =
-    c.list_all2.ensures.1 ∙ ap₂ (λ (old new : List ℕ). sets old 0 new) (same_list (counting c)) (pairs_all (began (counting c)).requires.0.known)
+    c.list_all.ensures.1 ∙ ap₂ (λ (old new : List ℕ). sets old 0 new) (same_list c.before.before.before.before.before.before.before.before.before.before.before.before) (pairs_all c.requires.0.known)
 
-same_length_8 : tie.Need-same-length-8
+same_length_8 : tie.Need-shape_of-list
 same_length_8 c =
-    let again = c.before.before.before.before.before.before in
-    let a = (began (counting again)).args in
-    ap length (written again) ∙ length-sets a.list.now 0 (nearest_pairs a.sought.n a.sought.m a.rows.now a.sought.i)
+    let a = c.args in
+    ap length (written c.before.before.before.before.before.before) ∙ length-sets a.list.now 0 (nearest_pairs a.sought.n a.sought.m a.rows.now a.sought.i)
 
-returns-2 : tie.Need-returns-2
+returns-2 : tie.Need-returns
 returns-2 c =
-    let again = c.before.before.before.before.before.before in
-    let else = again.before.before.before.before.before in
-    let listed = counting again in
-    let a = (began listed).args in
+    let a = c.args in
     let old = a.list.now in
     let pairs = nearest_pairs a.sought.n a.sought.m a.rows.now a.sought.i in
-    let room = ap length (same_list listed) in
-    let e = listed.list_all.ensures in
-    let e2 = again.list_all2.ensures in
-    let h = long_enough (began listed).pre.0.known (counted listed) (length old) (omega (arith, else.if1.false, room)) in (
+    let room = ap length (same_list c.before.before.before.before.before.before.before.before.before.before.before.before.before.before.before.before.before.before) in
+    let e = c.list_all-count.ensures in
+    let e2 = c.list_all.ensures in
+    let h = long_enough c.requires.0.known (counted c.before.before.before.before.before.before.before.before.before.before.before.before.before.before.before.before.before.before) (length old) (omega (arith, c.if-list-count.false, room)) in (
       record {
-        reply = ap (λ (k : ℕ). figures (k ∷ [])) (counted listed) ∙ reply_accepted h _;
-        content = written_first pairs old _ (omega (arith, counted listed, else.if1.false, room)) (written again) ∙ after_accepted h _ old;
+        reply = ap (λ (k : ℕ). figures (k ∷ [])) (counted c.before.before.before.before.before.before.before.before.before.before.before.before.before.before.before.before.before.before) ∙ reply_accepted h _;
+        content = written_first pairs old _ (omega (arith, counted c.before.before.before.before.before.before.before.before.before.before.before.before.before.before.before.before.before.before, c.if-list-count.false, room)) (written c.before.before.before.before.before.before) ∙ after_accepted h _ old;
       },
       e2.2 ∙ e.2,
       e2.3 ∙ e.3,

@@ -11,33 +11,30 @@ use borrow.Author.Rules.{rules}
 use Rattle.nearest.proofs.nearest_pairs.Statement.{statement}
 use Rattle.nearest.proofs.nearest_pairs.Tie as tie
 
-enum_known_count : tie.Need-enum-known-count
+enum_known_count : tie.Need-enum_known-count
 enum_known_count c = search rules
 
-list_nearest_requires : tie.Need-list-nearest-requires
+list_nearest_requires : tie.Need-list_nearest-requires
 list_nearest_requires c κs =
-    let count = c.before.before in
-    let told = count.before.before in
-    let a = told.before.before.before.args in
-    let t = figure_told a.n a.m a.rows.now a.i (sym told.nonlinearity.ensures ∙ ap said_least_pair count.count.given.1) in
+    let a = c.args in
+    let t = figure_told a.n a.m a.rows.now a.i (sym c.nonlinearity.ensures ∙ ap said_least_pair c.in-Reached.is) in
     let l = limited a.n a.m a.rows.now a.i t.0 in
     record { box = l.box; i_low = l.i_low; i_high = l.i_high; least = sym t.1 }
 
-enum_known_e : tie.Need-enum-known-e
+enum_known_e : tie.Need-enum_known-e
 enum_known_e c = search rules
 
-same_length : tie.Need-same-length
+same_length : tie.Need-shape_of-list
 same_length c = search rules
 
-returns : tie.Need-returns
-returns c = c.before.before.list_nearest.ensures
+returns : tie.Need-returns-in-Reached
+returns c = c.list_nearest.ensures
 
-returns-2 : tie.Need-returns-2
+returns-2 : tie.Need-returns-in-Declined
 returns-2 c =
-    let told = c.before.before.before in
-    let a = told.before.before.before.args in
+    let a = c.args in
     declined a.n a.m a.rows.now a.i (length a.list.now) (shown (nonlinearity a.n a.m a.rows.now a.i))
-    (sym (ap said_least_pair c.before.e.given.1) ∙ told.nonlinearity.ensures)
+    (sym (ap said_least_pair c.in-Declined.is) ∙ c.nonlinearity.ensures)
 
 pub nearest_pairs_spec : {M : Type 1} → statement M
 nearest_pairs_spec =

@@ -11,29 +11,29 @@ use Rattle.nearest.proofs.next_of_ones.Tie as tie
 step : (c : tie.Start) → 1 * 2 ^ count_trailing_zeros 64 c.args.c % 2 ^ 64 ≡ 2 ^ count_trailing_zeros 64 c.args.c
 step c = lowest c.args.c c.requires.0 c.requires.1
 
-cast_carried : tie.Need-overflow-cast-carried
+cast_carried : tie.Need-overflow_cast-carried
 cast_carried c = omega (arith, place_small c.args.c c.requires.0 c.requires.1)
 
-shl_carried : tie.Need-overflow-shl-carried
+shl_carried : tie.Need-overflow_shl-carried
 shl_carried c = omega (arith, place_small c.args.c c.requires.0 c.requires.1)
 
-add_carried : tie.Need-overflow-add-carried
+add_carried : tie.Need-overflow_add-carried
 add_carried c = omega (arith, step c, lowest_low c.args.c c.requires.0 c.requires.1)
 
-sub_lost : tie.Need-overflow-sub-lost
+sub_lost : tie.Need-overflow_sub-lost
 sub_lost c = lost_sub c.args.c c.requires.0 c.requires.1 (step c)
 
-cast_result : tie.Need-overflow-cast-result
+cast_result : tie.Need-overflow_cast-result
 cast_result c = omega (arith, lost_small c.args.c c.requires.0 c.requires.1 (step c))
 
-shl_result : tie.Need-overflow-shl-result
+shl_result : tie.Need-overflow_shl-result
 shl_result c = omega (arith, lost_small c.args.c c.requires.0 c.requires.1 (step c))
 
-sub_result : tie.Need-overflow-sub-result
+sub_result : tie.Need-overflow_sub-result
 sub_result c =
     omega (arith, lost_shifted c.args.c c.requires.0 c.requires.1 (step c), lost_some c.args.c c.requires.0 c.requires.1 (step c))
 
-add_result : tie.Need-overflow-add-result
+add_result : tie.Need-overflow_add-result
 add_result c =
     let a = c.args.c in
     omega (

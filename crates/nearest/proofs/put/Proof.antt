@@ -5,8 +5,8 @@ use lib.Seq.{set_out}
 use Rattle.nearest.proofs.put.Statement.{statement}
 use Rattle.nearest.proofs.put.Tie as tie
 
-returns-2 : tie.Need-returns-2
-returns-2 c = let a = c.before.args in sym (set_out a.list.now a.entry a.number c.if1.false)
+returns-2 : tie.Need-returns-else-entry-list
+returns-2 c = let a = c.args in sym (set_out a.list.now a.entry a.number c.if-entry-list.false)
 
 pub put_spec : {M : Type 1} → statement M
 put_spec = tie.close (tie.spec (λ c. search rules) (λ c. search rules) (λ c. search rules) (λ c. search rules) returns-2)

@@ -33,38 +33,30 @@ all : (c : tie.Start) → first (checks1 c ++ (checks2 c ++ (checks3 c ++ checks
 all c = ap first (checks_are (box1 (lent c)) (box2 (lent c)) (box3 (lent c)) (box4 (lent c)) c.args.count c.requires.0 c.requires.1)
 
 -- where each was passed
-passed1 : (c : tie.After-enum-told) → first (checks1 c.before.before.before.before.before.before.before) ≡ Accepted
-passed1 c = sym c.before.before.check_box.ensures ∙ c.enum_told.given.1
+passed1 : (c : tie.In_default) → first (checks1 c.before.before.before.before.before.before) ≡ Accepted
+passed1 c = sym c.check_box.ensures ∙ c.in_default.is
 
-passed2 : (c : tie.After-enum-told2) → first (checks2 c.before.before.before.before.before.before.before.before.before.before) ≡ Accepted
-passed2 c = sym c.before.before.check_if.ensures ∙ c.enum_told2.given.1
+passed2 : (c : tie.In_default-check_if) → first (checks2 c.before.before.before.before.before.before.before.before) ≡ Accepted
+passed2 c = sym c.check_if.ensures ∙ c.in_default-check_if.is
 
-passed3 : (c : tie.After-enum-told3) → first (checks3 c.before.before.before.before.before.before.before.before.before.before.before.before.before) ≡ Accepted
-passed3 c = sym c.before.before.check_if2.ensures ∙ c.enum_told3.given.1
+passed3 : (c : tie.In_default-check_if-2) → first (checks3 c.before.before.before.before.before.before.before.before.before.before) ≡ Accepted
+passed3 c = sym c.check_if-2.ensures ∙ c.in_default-check_if-2.is
 
-returns : tie.Need-returns
+returns : tie.Need-returns-in-Refused
 returns c =
-    let found = c.before.before.before in
-    let s = found.before.before.before.before.before in
-    refused_1 (checks1 s) (checks2 s) (checks3 s) (checks4 s) (sym found.check_box.ensures ∙ c.before.e.given.1) ∙ all s
+    refused_1 (checks1 c.before.before.before.before.before.before) (checks2 c.before.before.before.before.before.before) (checks3 c.before.before.before.before.before.before) (checks4 c.before.before.before.before.before.before) (sym c.check_box.ensures ∙ c.in-Refused.is) ∙ all c.before.before.before.before.before.before
 
-returns-2 : tie.Need-returns-2
+returns-2 : tie.Need-returns-in-Refused-check_if
 returns-2 c =
-    let found = c.before.before.before in
-    let s = found.before.before.before.before.before.before.before.before in
-    refused_2 (checks1 s) (checks2 s) (checks3 s) (checks4 s) (passed1 found.before) (sym found.check_if.ensures ∙ c.before.e2.given.1) ∙ all s
+    refused_2 (checks1 c.before.before.before.before.before.before.before.before) (checks2 c.before.before.before.before.before.before.before.before) (checks3 c.before.before.before.before.before.before.before.before) (checks4 c.before.before.before.before.before.before.before.before) (passed1 c.before.before) (sym c.check_if.ensures ∙ c.in-Refused-check_if.is) ∙ all c.before.before.before.before.before.before.before.before
 
-returns-3 : tie.Need-returns-3
+returns-3 : tie.Need-returns-in-Refused-check_if-2
 returns-3 c =
-    let found = c.before.before.before in
-    let s = found.before.before.before.before.before.before.before.before.before.before.before in
-    refused_3 (checks1 s) (checks2 s) (checks3 s) (checks4 s) (passed1 found.before.before.before.before) (passed2 found.before) (sym found.check_if2.ensures ∙ c.before.e3.given.1) ∙ all s
+    refused_3 (checks1 c.before.before.before.before.before.before.before.before.before.before) (checks2 c.before.before.before.before.before.before.before.before.before.before) (checks3 c.before.before.before.before.before.before.before.before.before.before) (checks4 c.before.before.before.before.before.before.before.before.before.before) (passed1 c.before.before.before.before) (passed2 c.before.before) (sym c.check_if-2.ensures ∙ c.in-Refused-check_if-2.is) ∙ all c.before.before.before.before.before.before.before.before.before.before
 
-returns-4 : tie.Need-returns-4
+returns-4 : tie.Need-returns
 returns-4 c =
-    let told = c.before in
-    let s = told.before.before.before.before.before.before.before.before.before.before.before.before.before in
-    found_4 (checks1 s) (checks2 s) (checks3 s) (checks4 s) (passed1 told.before.before.before.before.before.before) (passed2 told.before.before.before) (passed3 told) c.check_if3.ensures ∙ all s
+    found_4 (checks1 c.before.before.before.before.before.before.before.before.before.before.before) (checks2 c.before.before.before.before.before.before.before.before.before.before.before) (checks3 c.before.before.before.before.before.before.before.before.before.before.before) (checks4 c.before.before.before.before.before.before.before.before.before.before.before) (passed1 c.before.before.before.before.before) (passed2 c.before.before.before) (passed3 c.before) c.check_if-3.ensures ∙ all c.before.before.before.before.before.before.before.before.before.before.before
 
 pub check_boxes_spec : {M : Type 1} → statement M
 check_boxes_spec =

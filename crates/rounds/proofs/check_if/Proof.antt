@@ -9,17 +9,16 @@ use borrow.Author.Rules.{rules}
 use Rattle.rounds.proofs.check_if.Statement.{statement}
 use Rattle.rounds.proofs.check_if.Tie as tie
 
-returns : tie.Need-returns
+returns : tie.Need-returns-then-used
 returns c =
-    let then = c.before in
-    let a = then.before.before.args in
-    subst (λ (u : Bool). c.check_box.result ≡ first (checks_if u (summand_of a.n a.m a.rows.now))) (sym then.if1.true) c.check_box.ensures
+    let a = c.args in
+    subst (λ (u : Bool). c.check_box.result ≡ first (checks_if u (summand_of a.n a.m a.rows.now))) (sym c.if-used.true) c.check_box.ensures
 
-returns-2 : tie.Need-returns-2
+returns-2 : tie.Need-returns-else-used
 unfolding first
 returns-2 c =
-    let a = c.before.before.args in
-    subst (λ (u : Bool). Accepted ≡ first (checks_if u (summand_of a.n a.m a.rows.now))) (sym c.if1.false) refl
+    let a = c.args in
+    subst (λ (u : Bool). Accepted ≡ first (checks_if u (summand_of a.n a.m a.rows.now))) (sym c.if-used.false) refl
 
 pub check_if_spec : {M : Type 1} → statement M
 check_if_spec = tie.close (tie.spec (λ c κs. search rules) returns returns-2)

@@ -25,75 +25,60 @@ abbrev summed : tie.Start → List Summand
 summed c = first_given c.args.count (four c)
 
 -- what was passed: the number of boxes
-abbrev start1 : tie.Else1 → tie.Start
+abbrev start1 : tie.Else-not-in_range → tie.Start
 start1 c = c.before.before.before.before.before.before
 
-number_ok : (c : tie.Else1) → in_range 1 4 (start1 c).args.count ≡ true
-number_ok c = holds c.before.in_range.ensures c.if1.false
+number_ok : (c : tie.Else-not-in_range) → in_range 1 4 c.args.count ≡ true
+number_ok c = holds c.in_range.ensures c.if-not-in_range.false-raw
 
-number_low : (c : tie.Else1) → 1 ≤ (start1 c).args.count
-number_low c = range_low 1 4 (start1 c).args.count (number_ok c)
+number_low : (c : tie.Else-not-in_range) → 1 ≤ c.args.count
+number_low c = range_low 1 4 c.args.count (number_ok c)
 
-number_high : (c : tie.Else1) → (start1 c).args.count ≤ 4
-number_high c = range_high 1 4 (start1 c).args.count (number_ok c)
+number_high : (c : tie.Else-not-in_range) → c.args.count ≤ 4
+number_high c = range_high 1 4 c.args.count (number_ok c)
 
 -- the boxes' own checks
-abbrev else1 : tie.After-enum-told → tie.Else1
-else1 c = c.before.before.before
+abbrev else1 : tie.In_default → tie.Else-not-in_range
+else1 c = c.before.before
 
-boxes_ok : (c : tie.After-enum-told) → first (each (summed (start1 (else1 c))) summand_checks) ≡ Accepted
-boxes_ok c = sym c.before.before.check_boxes.ensures ∙ c.enum_told.given.1
+boxes_ok : (c : tie.In_default) → first (each (summed c.before.before.before.before.before.before.before.before) summand_checks) ≡ Accepted
+boxes_ok c = sym c.check_boxes-found.ensures ∙ c.in_default.is
 
 -- the output widths, as the code compares them
-widths : (c : tie.After-same-outputs) → c.same_outputs_lem.result ≡ same_outputs (summed (start1 (else1 c.before)))
+widths : (c : tie.After-same_outputs) → c.same_outputs.result ≡ same_outputs (summed c.before.before.before.before.before.before.before.before.before)
 widths c =
-    let e = else1 c.before in
-    let s = start1 e in
-    c.same_outputs_lem.ensures ∙ widths_are (box1 (lent s)) (box2 (lent s)) (box3 (lent s)) (box4 (lent s)) s.args.count (number_low e) (number_high e)
+    c.same_outputs.ensures ∙ widths_are (box1 (lent c.before.before.before.before.before.before.before.before.before)) (box2 (lent c.before.before.before.before.before.before.before.before.before)) (box3 (lent c.before.before.before.before.before.before.before.before.before)) (box4 (lent c.before.before.before.before.before.before.before.before.before)) c.args.count (number_low c.before.before.before) (number_high c.before.before.before)
 
-widths_ok : (c : tie.Else2) → same_outputs (summed (start1 (else1 c.before.before))) ≡ true
-widths_ok c = holds (widths c.before) c.if2.false
+widths_ok : (c : tie.Else-not-same_outputs) → same_outputs (summed c.before.before.before.before.before.before.before.before.before.before) ≡ true
+widths_ok c = holds (widths c.before) c.if-not-same_outputs.false-raw
 
 -- the limit
-limit : (c : tie.After-in-range2) → c.in_range2.result ≡ in_range 1 (outputs_of (summed (start1 (else1 c.before.before.before)))) (start1 (else1 c.before.before.before)).args.i
+limit : (c : tie.After-in_range-2) → c.in_range-2.result ≡ in_range 1 (outputs_of (summed c.before.before.before.before.before.before.before.before.before.before.before)) c.args.i
 limit c =
-    let e = else1 c.before.before.before in
-    let s = start1 e in
-    c.in_range2.ensures ∙ ap (λ (m : ℕ). in_range 1 m s.args.i) (sym (outputs_are (box1 (lent s)) (box2 (lent s)) (box3 (lent s)) (box4 (lent s)) s.args.count (number_low e)))
+    c.in_range-2.ensures ∙ ap (λ (m : ℕ). in_range 1 m c.args.i) (sym (outputs_are (box1 (lent c.before.before.before.before.before.before.before.before.before.before.before)) (box2 (lent c.before.before.before.before.before.before.before.before.before.before.before)) (box3 (lent c.before.before.before.before.before.before.before.before.before.before.before)) (box4 (lent c.before.before.before.before.before.before.before.before.before.before.before)) c.args.count (number_low c.before.before.before.before.before)))
 
-returns : tie.Need-returns
+returns : tie.Need-returns-then-not-in_range
 returns c =
-    let s = c.before.before.before.before.before.before in
-    wrong_number s.args.count (four s) s.args.i (fails c.before.in_range.ensures c.if1.true)
+    wrong_number c.args.count (four c.before.before.before.before.before.before) c.args.i (fails c.in_range.ensures c.if-not-in_range.true-raw)
 
-check_boxes_requires : tie.Need-check-boxes-requires
+check_boxes_requires : tie.Need-check_boxes-found-requires
 check_boxes_requires c κs = (number_low c, number_high c)
 
-returns-2 : tie.Need-returns-2
+returns-2 : tie.Need-returns-in-Refused
 returns-2 c =
-    let checked = c.before.before.before in
-    let s = start1 checked.before in
-    box_refused s.args.count (four s) s.args.i (number_ok checked.before) (sym checked.check_boxes.ensures ∙ c.before.found.given.1)
+    box_refused c.args.count (four c.before.before.before.before.before.before.before.before) c.args.i (number_ok c.before.before) (sym c.check_boxes-found.ensures ∙ c.in-Refused.is)
 
-returns-3 : tie.Need-returns-3
+returns-3 : tie.Need-returns-then-not-same_outputs
 returns-3 c =
-    let told = c.before.before in
-    let s = start1 (else1 told) in
-    boxes_passed s.args.count (four s) s.args.i (number_ok (else1 told)) (boxes_ok told) (stop (fails (widths c.before) c.if2.true))
+    boxes_passed c.args.count (four c.before.before.before.before.before.before.before.before.before.before) c.args.i (number_ok c.before.before.before.before) (boxes_ok c.before.before) (stop (fails (widths c.before) c.if-not-same_outputs.true-raw))
 
-returns-4 : tie.Need-returns-4
+returns-4 : tie.Need-returns-then-not-in_range-2
 returns-4 c =
-    let same = c.before.before in
-    let told = same.before.before in
-    let s = start1 (else1 told) in
-    boxes_passed s.args.count (four s) s.args.i (number_ok (else1 told)) (boxes_ok told) (skip (widths_ok same) (stop (fails (limit c.before) c.if3.true)))
+    boxes_passed c.args.count (four c.before.before.before.before.before.before.before.before.before.before.before.before) c.args.i (number_ok c.before.before.before.before.before.before) (boxes_ok c.before.before.before.before) (skip (widths_ok c.before.before) (stop (fails (limit c.before) c.if-not-in_range-2.true-raw)))
 
-returns-5 : tie.Need-returns-5
+returns-5 : tie.Need-returns
 returns-5 c =
-    let same = c.before.before in
-    let told = same.before.before in
-    let s = start1 (else1 told) in
-    boxes_passed s.args.count (four s) s.args.i (number_ok (else1 told)) (boxes_ok told) (skip (widths_ok same) (skip (holds (limit c.before) c.if3.false) end))
+    boxes_passed c.args.count (four c.before.before.before.before.before.before.before.before.before.before.before.before) c.args.i (number_ok c.before.before.before.before.before.before) (boxes_ok c.before.before.before.before) (skip (widths_ok c.before.before) (skip (holds (limit c.before) c.if-not-in_range-2.false-raw) end))
 
 pub check_sum_spec : {M : Type 1} → statement M
 check_sum_spec =

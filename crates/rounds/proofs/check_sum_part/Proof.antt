@@ -25,60 +25,53 @@ abbrev outputs : tie.Start → ℕ
 outputs c = outputs_of (first_given c.args.count (four c))
 
 -- the lines of the plain call's checks, where they were passed
-abbrev start : tie.After-enum-told → tie.Start
-start c = c.before.before.before.before.before.before.before
+abbrev start : tie.In_default → tie.Start
+start c = c.before.before.before.before.before.before
 
-ok : (c : tie.After-enum-told) → let s = start c in first (sum_checks s.args.count (four s) s.args.i) ≡ Accepted
-ok c = sym c.before.before.check_sum.ensures ∙ c.enum_told.given.1
+ok : (c : tie.In_default) → first (sum_checks c.args.count (four c.before.before.before.before.before.before) c.args.i) ≡ Accepted
+ok c = sym c.check_sum-checked.ensures ∙ c.in_default.is
 
-widths : (c : tie.After-enum-told) → outputs (start c) ≡ (start c).args.widths.m1
+widths : (c : tie.In_default) → outputs c.before.before.before.before.before.before ≡ c.args.widths.m1
 widths c =
-    let s = start c in
-    outputs_are (box1 (lent s)) (box2 (lent s)) (box3 (lent s)) (box4 (lent s)) s.args.count (accepted_round s.args.count (four s) s.args.i (ok c)).count_low
+    outputs_are (box1 (lent c.before.before.before.before.before.before)) (box2 (lent c.before.before.before.before.before.before)) (box3 (lent c.before.before.before.before.before.before)) (box4 (lent c.before.before.before.before.before.before)) c.args.count (accepted_round c.args.count (four c.before.before.before.before.before.before) c.args.i (ok c)).count_low
 
 -- the power that was computed, and the two tests by it
-power : (c : tie.After-power-of-two) → c.power_of_two.result ≡ 2 ^ outputs (start c.before)
+power : (c : tie.After-power_of_two) → c.power_of_two.result ≡ 2 ^ outputs c.before.before.before.before.before.before.before
 power c = c.power_of_two.ensures.0 ∙ ap (λ (m : ℕ). 2 ^ m) (sym (widths c.before))
 
-low_test : (c : tie.After-in-range) → let s = start c.before.before in c.in_range.result ≡ in_range 1 (2 ^ outputs s - 1) s.args.low
-low_test c = let p = c.before in c.in_range.ensures ∙ ap (λ (k : ℕ). in_range 1 (k - 1) (start p.before).args.low) (power p)
+low_test : (c : tie.After-in_range) → c.in_range.result ≡ in_range 1 (2 ^ outputs c.before.before.before.before.before.before.before.before - 1) c.args.low
+low_test c = c.in_range.ensures ∙ ap (λ (k : ℕ). in_range 1 (k - 1) c.args.low) (power c.before)
 
-high_test : (c : tie.After-in-range2) → let s = start c.before.before.before.before in c.in_range2.result ≡ in_range s.args.low (2 ^ outputs s - 1) s.args.high
+high_test : (c : tie.After-in_range-2) → c.in_range-2.result ≡ in_range c.args.low (2 ^ outputs c.before.before.before.before.before.before.before.before.before.before - 1) c.args.high
 high_test c =
-    let p = c.before.before.before in
-    let a = (start p.before).args in
-    c.in_range2.ensures ∙ ap (λ (k : ℕ). in_range a.low (k - 1) a.high) (power p)
+    let a = c.args in
+    c.in_range-2.ensures ∙ ap (λ (k : ℕ). in_range a.low (k - 1) a.high) (power c.before.before.before)
 
-returns : tie.Need-returns
+returns : tie.Need-returns-in-Refused
 unfolding sum_part_checks
 returns c =
-    let p = c.before.before.before in
-    let s = p.before.before.before.before.before in
-    found_before (sum_checks s.args.count (four s) s.args.i) _ (sym p.check_sum.ensures ∙ c.before.checked.given.1)
+    found_before (sum_checks c.args.count (four c.before.before.before.before.before.before) c.args.i) _ (sym c.check_sum-checked.ensures ∙ c.in-Refused.is)
 
-power_of_two_requires : tie.Need-power-of-two-requires
+power_of_two_requires : tie.Need-power_of_two-requires
 power_of_two_requires c κs =
-    let s = start c in
-    first_outputs (box1 (lent s)) (box2 (lent s)) (box3 (lent s)) (box4 (lent s)) s.args.count s.args.i (ok c)
+    first_outputs (box1 (lent c.before.before.before.before.before.before)) (box2 (lent c.before.before.before.before.before.before)) (box3 (lent c.before.before.before.before.before.before)) (box4 (lent c.before.before.before.before.before.before)) c.args.count c.args.i (ok c)
 
-sub_masks : tie.Need-overflow-sub-masks
-sub_masks c = omega (arith, c.power_of_two.ensures.0, pow_pos (start c.before).args.widths.m1)
+sub_masks : tie.Need-overflow_sub-masks
+sub_masks c = omega (arith, c.power_of_two.ensures.0, pow_pos c.args.widths.m1)
 
-returns-2 : tie.Need-returns-2
+returns-2 : tie.Need-returns-then-not-in_range
 unfolding sum_part_checks
-returns-2 c = found_after _ (ok c.before.before.before) (stop (fails (low_test c.before) c.if1.true))
+returns-2 c = found_after _ (ok c.before.before.before) (stop (fails (low_test c.before) c.if-not-in_range.true-raw))
 
-returns-3 : tie.Need-returns-3
+returns-3 : tie.Need-returns-then-not-in_range-2
 unfolding sum_part_checks
 returns-3 c =
-    let else = c.before.before in
-    found_after _ (ok else.before.before.before) (skip (holds (low_test else.before) else.if1.false) (stop (fails (high_test c.before) c.if2.true)))
+    found_after _ (ok c.before.before.before.before.before) (skip (holds (low_test c.before.before.before) c.if-not-in_range.false-raw) (stop (fails (high_test c.before) c.if-not-in_range-2.true-raw)))
 
-returns-4 : tie.Need-returns-4
+returns-4 : tie.Need-returns
 unfolding sum_part_checks
 returns-4 c =
-    let else = c.before.before in
-    found_after _ (ok else.before.before.before) (skip (holds (low_test else.before) else.if1.false) (skip (holds (high_test c.before) c.if2.false) end))
+    found_after _ (ok c.before.before.before.before.before) (skip (holds (low_test c.before.before.before) c.if-not-in_range.false-raw) (skip (holds (high_test c.before) c.if-not-in_range-2.false-raw) end))
 
 pub check_sum_part_spec : {M : Type 1} → statement M
 check_sum_part_spec =

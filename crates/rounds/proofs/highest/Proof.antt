@@ -9,19 +9,18 @@ use Rattle.rounds.proofs.highest.Statement.{statement}
 use Rattle.rounds.proofs.highest.Tie as tie
 
 -- there are values: one has the largest magnitude
-top : (c : tie.After-largest-magnitude) → Largest c.before.args.values.now c.largest_magnitude.result
-top c = largest_of c.before.args.values.now c.largest_magnitude.ensures c.before.requires.0
+top : (c : tie.After-largest_magnitude-most) → Largest c.args.values.now c.largest_magnitude-most.result
+top c = largest_of c.args.values.now c.largest_magnitude-most.ensures c.requires.0
 
 -- so its first place is a place
-shared_slice_copy_out_sign_bit : tie.Need-shared-slice-copy-out-sign-bit
-shared_slice_copy_out_sign_bit c = let t = top c.before in place_inside c.first_place.ensures t.place t.inside t.reached
+shared_slice_copy_out_sign_bit : tie.Need-bounds-values-place
+shared_slice_copy_out_sign_bit c = let t = top c.before in place_inside c.first_place-place.ensures t.place t.inside t.reached
 
 returns : tie.Need-returns
 returns c =
-    let placed = c.before.before in
-    let values = placed.before.before.args.values.now in
-    highest_is values _ placed.first_place.result (top placed.before) placed.first_place.ensures _ refl
-    (c.sign_bit.ensures ∙ ap sign_bit (word_told (value_at values placed.first_place.result) c.before.sign_bit_arg.given))
+    let values = c.args.values.now in
+    highest_is values _ c.first_place-place.result (top c.before.before.before) c.first_place-place.ensures _ refl
+    (c.sign_bit-sign.ensures ∙ ap sign_bit (word_told (value_at values c.first_place-place.result) c.sign_bit-arg-1.given))
 
 pub highest_spec : {M : Type 1} → statement M
 highest_spec =

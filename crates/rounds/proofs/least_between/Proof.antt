@@ -25,93 +25,85 @@ abbrev summed : tie.Start → List Summand
 summed c = first_given c.args.count (four c)
 
 -- what is asked: the boxes are a round of box 1's outputs, and the part has its first mask
-abbrev start : tie.After-shared-slice-known4 → tie.Start
+abbrev start : tie.After-shared_slice_known-4-1 → tie.Start
 start c = c.before.before.before.before
 
-first_box : (c : tie.After-shared-slice-known4) → IsBox (box1 (lent (start c)))
-first_box c = let s = start c in box_1 (box1 (lent s)) (box2 (lent s)) (box3 (lent s)) (box4 (lent s)) s.pre.0
+first_box : (c : tie.After-shared_slice_known-4-1) → IsBox (box1 (lent c.before.before.before.before))
+first_box c = box_1 (box1 (lent c.before.before.before.before)) (box2 (lent c.before.before.before.before)) (box3 (lent c.before.before.before.before)) (box4 (lent c.before.before.before.before)) c.requires.0
 
-inputs : (c : tie.After-shared-slice-known4) → 1 ≤ inputs_of (summed (start c))
-inputs c = let s = start c in round_inputs (box1 (lent s)) (box2 (lent s)) (box3 (lent s)) (box4 (lent s)) s.pre.0
+inputs : (c : tie.After-shared_slice_known-4-1) → 1 ≤ inputs_of (summed c.before.before.before.before)
+inputs c = round_inputs (box1 (lent c.before.before.before.before)) (box2 (lent c.before.before.before.before)) (box3 (lent c.before.before.before.before)) (box4 (lent c.before.before.before.before)) c.requires.0
 
 -- the components of the part
 abbrev swept : tie.Start → List ℕ
 swept c = let a = c.args in components_between a.widths.m1 a.i a.first a.last
 
 -- the component that the sweep found
-found : (c : tie.After-largest-product) → let s = start c.before in Chosen (summed s) (swept s) c.largest_product_lem.result
+found : (c : tie.After-largest_product-found) → Chosen (summed c.before.before.before.before.before) (swept c.before.before.before.before.before) c.largest_product-found.result
 found c =
-    let s = start c.before in
-    chosen (summed s) (inputs c.before) (swept s) s.args.first (first_between s.pre.2) c.largest_product_lem.result c.largest_product_lem.ensures
+    chosen (summed c.before.before.before.before.before) (inputs c.before) (swept c.before.before.before.before.before) c.args.first (first_between c.requires.2) c.largest_product-found.result c.largest_product-found.ensures
 
-mask : (c : tie.After-largest-product) → let s = start c.before in MaskWithin s.args.i (2 ^ s.args.widths.m1) c.largest_product_lem.result.c
+mask : (c : tie.After-largest_product-found) → MaskWithin c.args.i (2 ^ c.args.widths.m1) c.largest_product-found.result.c
 mask c =
-    let s = start c.before in
-    (mem_between s.args.widths.m1 s.args.i s.args.first s.args.last c.largest_product_lem.result.c (found c).member).0
+    (mem_between c.args.widths.m1 c.args.i c.args.first c.args.last c.largest_product-found.result.c (found c).member).0
 
 -- the number of all inputs
-abbrev told : tie.After-inputs-if3 → tie.After-shared-slice-known4
+abbrev told : tie.After-inputs_if-3 → tie.After-shared_slice_known-4-1
 told c = c.before.before.before.before.before
 
-abbrev total : tie.After-inputs-if3 → ℕ
-total c = (start (told c)).args.widths.n1 + (c.inputs_if3.result + (c.before.before.inputs_if.result + c.before.inputs_if2.result))
+abbrev total : tie.After-inputs_if-3 → ℕ
+total c = c.args.widths.n1 + (c.inputs_if-3.result + (c.inputs_if.result + c.inputs_if-2.result))
 
-total_is : (c : tie.After-inputs-if3) → total c ≡ inputs_of (summed (start (told c)))
+total_is : (c : tie.After-inputs_if-3) → total c ≡ inputs_of (summed c.before.before.before.before.before.before.before.before.before)
 total_is c =
-    let s = start (told c) in
-    let r = (start (told c)).requires.0 in
-    ap₂ (λ (i j : ℕ). s.args.widths.n1 + (i + j)) c.inputs_if3.ensures.0 (ap₂ (λ (i j : ℕ). i + j) c.before.before.inputs_if.ensures.0 c.before.inputs_if2.ensures.0)
-    ∙ inputs_are (box1 (lent s)) (box2 (lent s)) (box3 (lent s)) (box4 (lent s)) s.args.count r.count_low r.count_high
+    let r = c.requires.0 in
+    ap₂ (λ (i j : ℕ). c.args.widths.n1 + (i + j)) c.inputs_if-3.ensures.0 (ap₂ (λ (i j : ℕ). i + j) c.inputs_if.ensures.0 c.inputs_if-2.ensures.0)
+    ∙ inputs_are (box1 (lent c.before.before.before.before.before.before.before.before.before)) (box2 (lent c.before.before.before.before.before.before.before.before.before)) (box3 (lent c.before.before.before.before.before.before.before.before.before)) (box4 (lent c.before.before.before.before.before.before.before.before.before)) c.args.count r.count_low r.count_high
 
-largest_product_requires : tie.Need-largest-product-requires
-largest_product_requires c κs = (start c).requires
+largest_product_requires : tie.Need-largest_product-found-requires
+largest_product_requires c κs = c.requires
 
-witness_at_requires : tie.Need-witness-at-requires
-witness_at_requires c κs = let m = mask c in ((start c.before).requires.0, omega arith, omega arith)
+witness_at_requires : tie.Need-witness_at-witness-requires
+witness_at_requires c κs = let m = mask c in (c.requires.0, omega arith, omega arith)
 
-inputs_if_requires : tie.Need-inputs-if-requires
-inputs_if_requires c κs e = let t = c.before.before in let s = start t in (box_3 (box1 (lent s)) (box2 (lent s)) (box3 (lent s)) (box4 (lent s)) s.pre.0 e).n_high
+inputs_if_requires : tie.Need-inputs_if-requires
+inputs_if_requires c κs e = (box_3 (box1 (lent c.before.before.before.before.before.before)) (box2 (lent c.before.before.before.before.before.before)) (box3 (lent c.before.before.before.before.before.before)) (box4 (lent c.before.before.before.before.before.before)) c.requires.0 e).n_high
 
-inputs_if_requires_2 : tie.Need-inputs-if-requires-2
-inputs_if_requires_2 c κs e = let t = c.before.before.before in let s = start t in (box_4 (box1 (lent s)) (box2 (lent s)) (box3 (lent s)) (box4 (lent s)) s.pre.0 e).n_high
+inputs_if_requires_2 : tie.Need-inputs_if-requires-2
+inputs_if_requires_2 c κs e = (box_4 (box1 (lent c.before.before.before.before.before.before.before)) (box2 (lent c.before.before.before.before.before.before.before)) (box3 (lent c.before.before.before.before.before.before.before)) (box4 (lent c.before.before.before.before.before.before.before)) c.requires.0 e).n_high
 
-add_behind : tie.Need-overflow-add-behind
-add_behind c = omega (arith, c.before.inputs_if.ensures.1, c.inputs_if2.ensures.1)
+add_behind : tie.Need-overflow_add-behind
+add_behind c = omega (arith, c.inputs_if.ensures.1, c.inputs_if-2.ensures.1)
 
-inputs_if_requires_3 : tie.Need-inputs-if-requires-3
-inputs_if_requires_3 c κs e = let t = c.before.before.before.before in let s = start t in (box_2 (box1 (lent s)) (box2 (lent s)) (box3 (lent s)) (box4 (lent s)) s.pre.0 e).n_high
+inputs_if_requires_3 : tie.Need-inputs_if-requires-3
+inputs_if_requires_3 c κs e = (box_2 (box1 (lent c.before.before.before.before.before.before.before.before)) (box2 (lent c.before.before.before.before.before.before.before.before)) (box3 (lent c.before.before.before.before.before.before.before.before)) (box4 (lent c.before.before.before.before.before.before.before.before)) c.requires.0 e).n_high
 
 -- each has at most 8
-small : (c : tie.After-inputs-if3) → c.inputs_if3.result + (c.before.before.inputs_if.result + c.before.inputs_if2.result) ≤ 24
-small c = omega (arith, c.inputs_if3.ensures.1, c.before.before.inputs_if.ensures.1, c.before.inputs_if2.ensures.1)
+small : (c : tie.After-inputs_if-3) → c.inputs_if-3.result + (c.inputs_if.result + c.inputs_if-2.result) ≤ 24
+small c = omega (arith, c.inputs_if-3.ensures.1, c.inputs_if.ensures.1, c.inputs_if-2.ensures.1)
 
-add_others : tie.Need-overflow-add-others
+add_others : tie.Need-overflow_add-others
 add_others c = omega (arith, small c)
 
-add_figure_of : tie.Need-overflow-add-figure-of
-add_figure_of c = omega (arith, small c.before, (first_box (told c.before)).n_high)
+add_figure_of : tie.Need-overflow_add-widths
+add_figure_of c = omega (arith, small c.before, (first_box c.before.before.before.before.before.before).n_high)
 
-figure_of_requires : tie.Need-figure-of-requires
+figure_of_requires : tie.Need-figure_of-requires
 figure_of_requires c κs =
-    let sized = c.before in
-    let n_low = (first_box (told sized)).n_low in
-    let n_high = (first_box (told sized)).n_high in
-    let swept = sized.before.before.before.before in (
+    let n_low = (first_box c.before.before.before.before.before.before).n_low in
+    let n_high = (first_box c.before.before.before.before.before.before).n_high in (
       omega arith,
-      omega (arith, small sized),
-      subst (λ (k : ℕ). swept.largest_product_lem.result.size ≤ 2 ^ k) (sym (total_is sized)) (size_within (found swept) (inputs (told sized))),
+      omega (arith, small c.before),
+      subst (λ (k : ℕ). c.largest_product-found.result.size ≤ 2 ^ k) (sym (total_is c.before)) (size_within (found c.before.before.before.before.before) (inputs c.before.before.before.before.before.before)),
     )
 
 returns : tie.Need-returns
 returns c =
-    let sized = c.before.before in
-    let witnessed = sized.before.before.before in
-    let swept = witnessed.before in
     record {
       is =
-          answer_is (found swept) (inputs swept.before)
-          (c.figure_of.ensures ∙ ap (λ (k : ℕ). 2 ^ (k - 1) - swept.largest_product_lem.result.size / 2) (total_is sized)) witnessed.witness_at.ensures;
-      past = witnessed.witness_at.ensures.past;
+          answer_is (found c.before.before.before.before.before.before) (inputs c.before.before.before.before.before.before.before)
+          (c.figure_of.ensures ∙ ap (λ (k : ℕ). 2 ^ (k - 1) - c.largest_product-found.result.size / 2) (total_is c.before.before)) c.witness_at-witness.ensures;
+      past = c.witness_at-witness.ensures.past;
     }
 
 pub least_between_spec : {M : Type 1} → statement M

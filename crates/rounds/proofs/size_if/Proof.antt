@@ -15,72 +15,69 @@ use Rattle.rounds.proofs.Steps.{table_begins, stepping}
 use Rattle.rounds.proofs.size_if.Statement.{statement}
 use Rattle.rounds.proofs.size_if.Tie as tie
 
-abbrev start : tie.Then1 → tie.Start
+abbrev start : tie.Then-used → tie.Start
 start c = c.before.before.before.before
 
 -- the box is one that the sum has
-boxed : (c : tie.Then1) → let a = (start c).args in Box a.n a.m a.rows.now
-boxed c = ((start c).requires.0 c.if1.true).0
+boxed : (c : tie.Then-used) → let a = c.args in Box a.n a.m a.rows.now
+boxed c = (c.requires.0 c.if-used.true).0
 
-mul_total : tie.Need-overflow-mul-total
+mul_total : tie.Need-overflow_mul-total
 mul_total c = omega (arith, steps_few (boxed c))
 
 -- the arrays have room
-steps_room : (c : tie.Then1) → let a = (start c).args in a.m * length a.rows.now ≤ length a.steps.now
-steps_room c = omega (arith, steps_few (boxed c), (start c).requires.4)
+steps_room : (c : tie.Then-used) → let a = c.args in a.m * length a.rows.now ≤ length a.steps.now
+steps_room c = omega (arith, steps_few (boxed c), c.requires.4)
 
-table_room : (c : tie.Then1) → let a = (start c).args in length a.rows.now ≤ length a.table.now
-table_room c = omega (arith, (boxed c).small, (start c).requires.5)
+table_room : (c : tie.Then-used) → let a = c.args in length a.rows.now ≤ length a.table.now
+table_room c = omega (arith, (boxed c).small, c.requires.5)
 
-work_room : (c : tie.Then1) → let a = (start c).args in length a.rows.now ≤ length a.work.now
-work_room c = omega (arith, (boxed c).small, (start c).requires.6)
+work_room : (c : tie.Then-used) → let a = c.args in length a.rows.now ≤ length a.work.now
+work_room c = omega (arith, (boxed c).small, c.requires.6)
 
-slice_aggregate_size_in : tie.Need-slice-aggregate-size-in
-slice_aggregate_size_in c = sym (length-take-le _ _ (steps_room c.before))
+slice_aggregate_size_in : tie.Need-slice_bounds-size_in-end
+slice_aggregate_size_in c = sym (length-take-le _ _ (steps_room c))
 
-slice_relend_prefix_size_in : tie.Need-slice-relend-prefix-size-in
-slice_relend_prefix_size_in c = table_room c.before
+slice_relend_prefix_size_in : tie.Need-slice_bounds-size_in-end-then-used
+slice_relend_prefix_size_in c = table_room c
 
-slice_aggregate_size_in_2 : tie.Need-slice-aggregate-size-in-2
-slice_aggregate_size_in_2 c = sym (length-take-le _ _ (table_room c.before.before))
+slice_aggregate_size_in_2 : tie.Need-slice_bounds-size_in-end-then-used-2
+slice_aggregate_size_in_2 c = sym (length-take-le _ _ (table_room c.before))
 
-slice_relend_prefix_size_in_2 : tie.Need-slice-relend-prefix-size-in-2
-slice_relend_prefix_size_in_2 c = work_room c.before.before
+slice_relend_prefix_size_in_2 : tie.Need-slice_bounds-size_in-end-then-used-3
+slice_relend_prefix_size_in_2 c = work_room c.before
 
-slice_aggregate_size_in_3 : tie.Need-slice-aggregate-size-in-3
-slice_aggregate_size_in_3 c = sym (length-take-le _ _ (work_room c.before.before.before))
+slice_aggregate_size_in_3 : tie.Need-slice_bounds-size_in-end-then-used-4
+slice_aggregate_size_in_3 c = sym (length-take-le _ _ (work_room c.before.before))
 
-size_in_requires : tie.Need-size-in-requires
+size_in_requires : tie.Need-size_in-requires
 size_in_requires c κs =
-    let t = c.before.before.before in
-    let b = boxed t in
-    let p = (start t).requires in (
-      record { box = b; table_size = length-take-le _ _ (table_room t) ∙ b.size; out_size = length-take-le _ _ (work_room t) ∙ b.size },
+    let b = boxed c.before.before in
+    let p = c.requires in (
+      record { box = b; table_size = length-take-le _ _ (table_room c.before.before) ∙ b.size; out_size = length-take-le _ _ (work_room c.before.before) ∙ b.size },
       p.3,
-      stepping b (p.1 t.if1.true) p.2 (p.0 t.if1.true).1,
+      stepping b (p.1 c.if-used.true) p.2 (p.0 c.if-used.true).1,
     )
 
-returns : tie.Need-returns
+returns : tie.Need-returns-then-used
 returns c =
-    let sized = c.before.before.before in
-    let t = sized.before.before.before.before in
-    let a = (start t).args in (
-      subst (λ (u : Bool). sized.size_in.result ≡ size_if u (summand_of a.n a.m a.rows.now) a.c) (sym t.if1.true) sized.size_in.ensures.0,
-      sized.size_in.ensures.1,
+    let a = c.args in (
+      subst (λ (u : Bool). c.size_in.result ≡ size_if u (summand_of a.n a.m a.rows.now) a.c) (sym c.if-used.true) c.size_in.ensures.0,
+      c.size_in.ensures.1,
       λ e. record {
-        steps_are = ((start t).requires.1 e).steps_are;
-        table_is = table_begins a.m a.rows.now a.c _ _ sized.size_in.ensures.2;
+        steps_are = (c.requires.1 e).steps_are;
+        table_is = table_begins a.m a.rows.now a.c _ _ c.size_in.ensures.2;
       },
       search rules,
       search rules,
     )
 
-returns-2 : tie.Need-returns-2
+returns-2 : tie.Need-returns-else-used
 returns-2 c =
-    let a = c.before.before.before.before.args in (
-      subst (λ (u : Bool). 1 ≡ size_if u (summand_of a.n a.m a.rows.now) a.c) (sym c.if1.false) refl,
+    let a = c.args in (
+      subst (λ (u : Bool). 1 ≡ size_if u (summand_of a.n a.m a.rows.now) a.c) (sym c.if-used.false) refl,
       omega arith,
-      λ e. absurd (true≢false (sym e ∙ c.if1.false)),
+      λ e. absurd (true≢false (sym e ∙ c.if-used.false)),
       search rules,
       search rules,
     )

@@ -11,30 +11,29 @@ use Rattle.rounds.proofs.Tops.{twice_largest}
 use Rattle.rounds.proofs.size_in.Statement.{statement}
 use Rattle.rounds.proofs.size_in.Tie as tie
 
-abbrev start : tie.After-work → tie.Start
+abbrev start : tie.After-work-1 → tie.Start
 start c = c.before.before.before.before.before.before.before.before.before
 
-twice : (c : tie.After-work) →
-    let a = (start c).args in
-    (2 * c.before.before.before.next_peak.result ≡ (peak (summand_of a.n a.m a.rows.now) a.c).figure)
-    × (2 * c.before.before.before.next_peak.result ≤ 2 ^ a.n)
+twice : (c : tie.After-work-1) →
+    let a = c.args in
+    (2 * c.next_peak-largest.result ≡ (peak (summand_of a.n a.m a.rows.now) a.c).figure)
+    × (2 * c.next_peak-largest.result ≤ 2 ^ a.n)
 twice c =
-    let a = (start c).args in
-    twice_largest a.n a.m a.rows.now a.c (start c).requires.0.box.n_low c.before.before.before.next_peak.ensures.0
+    let a = c.args in
+    twice_largest a.n a.m a.rows.now a.c c.requires.0.box.n_low c.next_peak-largest.ensures.0
 
-small : (c : tie.After-work) → 2 * c.before.before.before.next_peak.result ≤ 256
-small c = let b = (start c).requires.0.box in omega (arith, (twice c).1, b.size, b.small)
+small : (c : tie.After-work-1) → 2 * c.next_peak-largest.result ≤ 256
+small c = let b = c.requires.0.box in omega (arith, (twice c).1, b.size, b.small)
 
-mul_result : tie.Need-overflow-mul-result
+mul_result : tie.Need-overflow_mul-result
 mul_result c = omega (arith, small c)
 
 returns : tie.Need-returns
 returns c =
-    let s = start c in
-    let a = s.args in (
+    let a = c.args in (
       (twice c).0,
       small c,
-      c.before.before.before.next_peak.ensures.1 ∙ ap (λ (k : ℕ). list_below k (λ x. component a.rows.now a.c x)) (sym s.pre.0.box.size),
+      c.next_peak-largest.ensures.1 ∙ ap (λ (k : ℕ). list_below k (λ x. component a.rows.now a.c x)) (sym c.requires.0.box.size),
       search rules,
     )
 

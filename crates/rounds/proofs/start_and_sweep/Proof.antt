@@ -10,46 +10,37 @@ use Rattle.rounds.proofs.start_and_sweep.Tie as tie
 abbrev lent : tie.Start → Handed
 lent c = let a = c.args in record { widths = a.widths; rows1 = a.rows1.now; rows2 = a.rows2.now; rows3 = a.rows3.now; rows4 = a.rows4.now }
 
-sub_prior : tie.Need-overflow-sub-prior
-sub_prior c = c.before.before.before.before.before.requires.2.low
+sub_prior : tie.Need-overflow_sub-prior
+sub_prior c = c.requires.2.low
 
-start_if_requires : tie.Need-start-if-requires
+start_if_requires : tie.Need-start_if-requires
 start_if_requires c κs =
-    let start = c.before.before.before.before.before.before.before in
-    (λ e. box_1 (box1 (lent start)) (box2 (lent start)) (box3 (lent start)) (box4 (lent start)) start.requires.0, search rules, search rules)
+    (λ e. box_1 (box1 (lent c.before.before.before.before.before.before.before)) (box2 (lent c.before.before.before.before.before.before.before)) (box3 (lent c.before.before.before.before.before.before.before)) (box4 (lent c.before.before.before.before.before.before.before)) c.requires.0, search rules, search rules)
 
-start_if_requires_2 : tie.Need-start-if-requires-2
+start_if_requires_2 : tie.Need-start_if-requires-2
 start_if_requires_2 c κs =
-    let start = c.before.before.before.before.before.before.before.before.before.before in
-    (box_2 (box1 (lent start)) (box2 (lent start)) (box3 (lent start)) (box4 (lent start)) start.requires.0, search rules, search rules)
+    (box_2 (box1 (lent c.before.before.before.before.before.before.before.before.before.before)) (box2 (lent c.before.before.before.before.before.before.before.before.before.before)) (box3 (lent c.before.before.before.before.before.before.before.before.before.before)) (box4 (lent c.before.before.before.before.before.before.before.before.before.before)) c.requires.0, search rules, search rules)
 
-start_if_requires_3 : tie.Need-start-if-requires-3
+start_if_requires_3 : tie.Need-start_if-requires-3
 start_if_requires_3 c κs =
-    let start = c.before.before.before.before.before.before.before.before.before.before.before.before.before in
-    (box_3 (box1 (lent start)) (box2 (lent start)) (box3 (lent start)) (box4 (lent start)) start.requires.0, search rules, search rules)
+    (box_3 (box1 (lent c.before.before.before.before.before.before.before.before.before.before.before.before.before)) (box2 (lent c.before.before.before.before.before.before.before.before.before.before.before.before.before)) (box3 (lent c.before.before.before.before.before.before.before.before.before.before.before.before.before)) (box4 (lent c.before.before.before.before.before.before.before.before.before.before.before.before.before)) c.requires.0, search rules, search rules)
 
-start_if_requires_4 : tie.Need-start-if-requires-4
+start_if_requires_4 : tie.Need-start_if-requires-4
 start_if_requires_4 c κs =
-    let start = c.before.before.before.before.before.before.before.before.before.before.before.before.before.before.before.before in
-    (box_4 (box1 (lent start)) (box2 (lent start)) (box3 (lent start)) (box4 (lent start)) start.requires.0, search rules, search rules)
+    (box_4 (box1 (lent c.before.before.before.before.before.before.before.before.before.before.before.before.before.before.before.before)) (box2 (lent c.before.before.before.before.before.before.before.before.before.before.before.before.before.before.before.before)) (box3 (lent c.before.before.before.before.before.before.before.before.before.before.before.before.before.before.before.before)) (box4 (lent c.before.before.before.before.before.before.before.before.before.before.before.before.before.before.before.before)) c.requires.0, search rules, search rules)
 
 sweep_requires : tie.Need-sweep-requires
 sweep_requires c κs =
-    let fourth = c.before.before.before.before.before.before.before.before.before.before in
-    let third = fourth.before.before.before in
-    let second = third.before.before.before in
-    let first = second.before.before.before in
-    let made = first.before.before.before in
-    let p = made.before.before.before.before.before.requires in (
+    let p = c.requires in (
       p.0,
       p.1,
       p.2,
-      made.spectra.ensures,
+      c.spectra-fixed.ensures,
       record {
-        one = first.start_if.ensures.0 refl;
-        two = second.start_if2.ensures.0;
-        three = third.start_if3.ensures.0;
-        four = fourth.start_if4.ensures.0;
+        one = c.start_if.ensures.0 refl;
+        two = c.start_if-2.ensures.0;
+        three = c.start_if-3.ensures.0;
+        four = c.start_if-4.ensures.0;
       },
     )
 

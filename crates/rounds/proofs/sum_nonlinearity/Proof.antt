@@ -30,53 +30,47 @@ abbrev summed : tie.Start → List Summand
 summed c = first_given c.args.count (four c)
 
 -- accepted: the boxes are a round of box 1's outputs
-abbrev start : tie.After-enum-told → tie.Start
-start c = c.before.before.before.before.before.before.before
+abbrev start : tie.In_default → tie.Start
+start c = c.before.before.before.before.before.before
 
-accepted : (c : tie.After-enum-told) → let s = start c in first (sum_checks s.args.count (four s) s.args.i) ≡ Accepted
-accepted c = sym c.before.before.check_sum.ensures ∙ c.enum_told.given.1
+accepted : (c : tie.In_default) → first (sum_checks c.args.count (four c.before.before.before.before.before.before) c.args.i) ≡ Accepted
+accepted c = sym c.check_sum-checked.ensures ∙ c.in_default.is
 
-widths : (c : tie.After-enum-told) → outputs_of (summed (start c)) ≡ (start c).args.widths.m1
+widths : (c : tie.In_default) → outputs_of (summed c.before.before.before.before.before.before) ≡ c.args.widths.m1
 widths c =
-    let s = start c in
-    outputs_are (box1 (lent s)) (box2 (lent s)) (box3 (lent s)) (box4 (lent s)) s.args.count (accepted_round s.args.count (four s) s.args.i (accepted c)).count_low
+    outputs_are (box1 (lent c.before.before.before.before.before.before)) (box2 (lent c.before.before.before.before.before.before)) (box3 (lent c.before.before.before.before.before.before)) (box4 (lent c.before.before.before.before.before.before)) c.args.count (accepted_round c.args.count (four c.before.before.before.before.before.before) c.args.i (accepted c)).count_low
 
-round : (c : tie.After-enum-told) → let s = start c in Round s.args.count s.args.widths.m1 (summed s)
+round : (c : tie.In_default) → Round c.args.count c.args.widths.m1 (summed c.before.before.before.before.before.before)
 round c =
-    let s = start c in
-    subst (λ (m : ℕ). Round s.args.count m (summed s)) (widths c) (accepted_round s.args.count (four s) s.args.i (accepted c))
+    subst (λ (m : ℕ). Round c.args.count m (summed c.before.before.before.before.before.before)) (widths c) (accepted_round c.args.count (four c.before.before.before.before.before.before) c.args.i (accepted c))
 
-limit : (c : tie.After-enum-told) → 1 ≤ (start c).args.i
-limit c = let s = start c in limit_low s.args.count (four s) s.args.i (accepted c)
+limit : (c : tie.In_default) → 1 ≤ c.args.i
+limit c = limit_low c.args.count (four c.before.before.before.before.before.before) c.args.i (accepted c)
 
-first_box : (c : tie.After-enum-told) → IsBox (box1 (lent (start c)))
-first_box c = let s = start c in box_1 (box1 (lent s)) (box2 (lent s)) (box3 (lent s)) (box4 (lent s)) (round c)
+first_box : (c : tie.In_default) → IsBox (box1 (lent c.before.before.before.before.before.before))
+first_box c = box_1 (box1 (lent c.before.before.before.before.before.before)) (box2 (lent c.before.before.before.before.before.before)) (box3 (lent c.before.before.before.before.before.before)) (box4 (lent c.before.before.before.before.before.before)) (round c)
 
-returns : tie.Need-returns
-returns c = record { says = reply_refused (sym c.before.before.before.check_sum.ensures ∙ c.before.checked.given.1) _; past = tt }
+returns : tie.Need-returns-in-Refused
+returns c = record { says = reply_refused (sym c.check_sum-checked.ensures ∙ c.in-Refused.is) _; past = tt }
 
-power_of_two_requires : tie.Need-power-of-two-requires
+power_of_two_requires : tie.Need-power_of_two-requires
 power_of_two_requires c κs = (first_box c).m_high
 
-sub_masks : tie.Need-overflow-sub-masks
-sub_masks c = omega (arith, c.power_of_two.ensures.0, pow_pos (start c.before).args.widths.m1)
+sub_masks : tie.Need-overflow_sub-masks
+sub_masks c = omega (arith, c.power_of_two.ensures.0, pow_pos c.args.widths.m1)
 
-least_between_requires : tie.Need-least-between-requires
+least_between_requires : tie.Need-least_between-nearest-requires
 least_between_requires c κs =
-    let t = c.before in
-    (round t, limit t, whole_part (first_box t).m_low (limit t) c.power_of_two.ensures.0)
+    (round c.before, limit c.before, whole_part (first_box c.before).m_low (limit c.before) c.power_of_two.ensures.0)
 
-returns-2 : tie.Need-returns-2
+returns-2 : tie.Need-returns
 returns-2 c =
-    let p = c.before in
-    let t = p.before in
-    let s = start t in
     record {
       says =
-          ap (λ (p : Candidate). figures (shown p)) (c.least_between.ensures.is ∙ whole_sum (summed s) s.args.widths.m1 s.args.i p.power_of_two.ensures.0)
-          ∙ ap (λ (m : ℕ). figures (shown (sum_nonlinearity (summed s) (components m s.args.i)))) (sym (widths t))
-          ∙ reply_accepted (accepted t) _;
-      past = c.least_between.ensures.past;
+          ap (λ (p : Candidate). figures (shown p)) (c.least_between-nearest.ensures.is ∙ whole_sum (summed c.before.before.before.before.before.before.before.before) c.args.widths.m1 c.args.i c.power_of_two.ensures.0)
+          ∙ ap (λ (m : ℕ). figures (shown (sum_nonlinearity (summed c.before.before.before.before.before.before.before.before) (components m c.args.i)))) (sym (widths c.before.before))
+          ∙ reply_accepted (accepted c.before.before) _;
+      past = c.least_between-nearest.ensures.past;
     }
 
 pub sum_nonlinearity_spec : {M : Type 1} → statement M

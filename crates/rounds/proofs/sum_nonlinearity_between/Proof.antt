@@ -29,67 +29,56 @@ abbrev summed : tie.Start → List Summand
 summed c = first_given c.args.count (four c)
 
 -- accepted: the boxes are a round of box 1's outputs, and the part lies within its masks
-abbrev start : tie.After-enum-told → tie.Start
-start c = c.before.before.before.before.before.before.before
+abbrev start : tie.In_default → tie.Start
+start c = c.before.before.before.before.before.before
 
-accepted : (c : tie.After-enum-told) → let a = (start c).args in first (sum_part_checks a.count (four (start c)) a.i a.first a.last) ≡ Accepted
-accepted c = sym c.before.before.check_sum_part.ensures ∙ c.enum_told.given.1
+accepted : (c : tie.In_default) → let a = c.args in first (sum_part_checks a.count (four c.before.before.before.before.before.before) a.i a.first a.last) ≡ Accepted
+accepted c = sym c.check_sum_part-checked.ensures ∙ c.in_default.is
 
-lies : (c : tie.After-enum-told) →
-    let s = start c in
-    (first (sum_checks s.args.count (four s) s.args.i) ≡ Accepted)
-    × (1 ≤ s.args.first) × (s.args.first ≤ s.args.last) × (s.args.last < 2 ^ outputs_of (summed s))
+lies : (c : tie.In_default) →
+    (first (sum_checks c.args.count (four c.before.before.before.before.before.before) c.args.i) ≡ Accepted)
+    × (1 ≤ c.args.first) × (c.args.first ≤ c.args.last) × (c.args.last < 2 ^ outputs_of (summed c.before.before.before.before.before.before))
 unfolding sum_part_checks
-lies c = let s = start c in part_lies (sum_checks s.args.count (four s) s.args.i) (outputs_of (summed s)) s.args.first s.args.last (accepted c)
+lies c = part_lies (sum_checks c.args.count (four c.before.before.before.before.before.before) c.args.i) (outputs_of (summed c.before.before.before.before.before.before)) c.args.first c.args.last (accepted c)
 
-widths : (c : tie.After-enum-told) → outputs_of (summed (start c)) ≡ (start c).args.widths.m1
+widths : (c : tie.In_default) → outputs_of (summed c.before.before.before.before.before.before) ≡ c.args.widths.m1
 widths c =
-    let s = start c in
-    outputs_are (box1 (lent s)) (box2 (lent s)) (box3 (lent s)) (box4 (lent s)) s.args.count (accepted_round s.args.count (four s) s.args.i (lies c).0).count_low
+    outputs_are (box1 (lent c.before.before.before.before.before.before)) (box2 (lent c.before.before.before.before.before.before)) (box3 (lent c.before.before.before.before.before.before)) (box4 (lent c.before.before.before.before.before.before)) c.args.count (accepted_round c.args.count (four c.before.before.before.before.before.before) c.args.i (lies c).0).count_low
 
-round : (c : tie.After-enum-told) → let s = start c in Round s.args.count s.args.widths.m1 (summed s)
+round : (c : tie.In_default) → Round c.args.count c.args.widths.m1 (summed c.before.before.before.before.before.before)
 round c =
-    let s = start c in
-    subst (λ (m : ℕ). Round s.args.count m (summed s)) (widths c) (accepted_round s.args.count (four s) s.args.i (lies c).0)
+    subst (λ (m : ℕ). Round c.args.count m (summed c.before.before.before.before.before.before)) (widths c) (accepted_round c.args.count (four c.before.before.before.before.before.before) c.args.i (lies c).0)
 
-limit : (c : tie.After-enum-told) → 1 ≤ (start c).args.i
-limit c = let s = start c in limit_low s.args.count (four s) s.args.i (lies c).0
+limit : (c : tie.In_default) → 1 ≤ c.args.i
+limit c = limit_low c.args.count (four c.before.before.before.before.before.before) c.args.i (lies c).0
 
-returns : tie.Need-returns
-returns c = record { says = reply_refused (sym c.before.before.before.check_sum_part.ensures ∙ c.before.checked.given.1) _; past = tt }
+returns : tie.Need-returns-in-Refused
+returns c = record { says = reply_refused (sym c.check_sum_part-checked.ensures ∙ c.in-Refused.is) _; past = tt }
 
-first_mask_requires : tie.Need-first-mask-requires
-first_mask_requires c κs = (limit c, omega (arith, (start c).ranges.first))
+first_mask_requires : tie.Need-first_mask-start-requires
+first_mask_requires c κs = (limit c, omega (arith, c.ranges.first))
 
-returns-2 : tie.Need-returns-2
+returns-2 : tie.Need-returns-then-last-start
 returns-2 c =
-    let p = c.before in
-    let s = start p.before in
     record {
-      says = ap figures (part_nothing (summed s) s.args.last p.first_mask.ensures c.if1.true) ∙ reply_accepted (accepted p.before) _;
+      says = ap figures (part_nothing (summed c.before.before.before.before.before.before.before.before) c.args.last c.first_mask-start.ensures c.if-last-start.true) ∙ reply_accepted (accepted c.before.before) _;
       past = tt;
     }
 
-least_between_requires : tie.Need-least-between-requires
+least_between_requires : tie.Need-least_between-nearest-requires
 least_between_requires c κs =
-    let p = c.before in
-    let t = p.before in
-    let s = start t in
-    let high = subst (λ (m : ℕ). s.args.last < 2 ^ m) (widths t) (lies t).3 in
-    (round t, limit t, part_from (summed s) s.args.last p.first_mask.ensures (lies t).1 high c.if1.false)
+    let high = subst (λ (m : ℕ). c.args.last < 2 ^ m) (widths c.before.before) (lies c.before.before).3 in
+    (round c.before.before, limit c.before.before, part_from (summed c.before.before.before.before.before.before.before.before) c.args.last c.first_mask-start.ensures (lies c.before.before).1 high c.if-last-start.false)
 
-returns-3 : tie.Need-returns-3
+returns-3 : tie.Need-returns
 returns-3 c =
-    let p = c.before.before in
-    let t = p.before in
-    let s = start t in
     record {
       says =
-          ap (λ (k : Candidate). figures (shown k)) c.least_between.ensures.is
-          ∙ ap (λ (m : ℕ). figures (shown (sum_nonlinearity (summed s) (components_between m s.args.i p.first_mask.result s.args.last)))) (sym (widths t))
-          ∙ ap figures (part_found (summed s) s.args.last p.first_mask.ensures (lies t).1 (lies t).3 c.before.if1.false)
-          ∙ reply_accepted (accepted t) _;
-      past = c.least_between.ensures.past;
+          ap (λ (k : Candidate). figures (shown k)) c.least_between-nearest.ensures.is
+          ∙ ap (λ (m : ℕ). figures (shown (sum_nonlinearity (summed c.before.before.before.before.before.before.before.before.before) (components_between m c.args.i c.first_mask-start.result c.args.last)))) (sym (widths c.before.before.before))
+          ∙ ap figures (part_found (summed c.before.before.before.before.before.before.before.before.before) c.args.last c.first_mask-start.ensures (lies c.before.before.before).1 (lies c.before.before.before).3 c.if-last-start.false)
+          ∙ reply_accepted (accepted c.before.before.before) _;
+      past = c.least_between-nearest.ensures.past;
     }
 
 pub sum_nonlinearity_between_spec : {M : Type 1} → statement M

@@ -10,30 +10,28 @@ use Rattle.rounds.proofs.top_if.Statement.{statement}
 use Rattle.rounds.proofs.top_if.Tie as tie
 
 -- the box is one that the sum has
-boxed : (c : tie.Then1) → let a = c.before.before.args in Box a.n a.m a.rows.now
-boxed c = (c.before.before.requires.0 c.if1.true).0
+boxed : (c : tie.Then-used) → let a = c.args in Box a.n a.m a.rows.now
+boxed c = (c.requires.0 c.if-used.true).0
 
-array_borrow_prefix_values : tie.Need-array-borrow-prefix-values
+array_borrow_prefix_values : tie.Need-slice_bounds-values-end
 array_borrow_prefix_values c = (boxed c).small
 
-slice_aggregate_top_in : tie.Need-slice-aggregate-top-in
+slice_aggregate_top_in : tie.Need-slice_bounds-top_in-end
 slice_aggregate_top_in c = sym (length-take-le _ _ (boxed c.before).small)
 
-top_in_requires : tie.Need-top-in-requires
+top_in_requires : tie.Need-top_in-requires
 top_in_requires c κs =
     let b = boxed c.before in
-    let start = c.before.before.before in
-    let high = (start.requires.0 c.before.if1.true).1 in
+    let high = (c.requires.0 c.if-used.true).1 in
     (b, omega arith, omega arith, length-take-le _ _ b.small ∙ b.size)
 
-returns : tie.Need-returns
+returns : tie.Need-returns-then-used
 returns c =
-    let then = c.before.before.before in
-    let a = then.before.before.args in
-    subst (λ (u : Bool). TopIf u (summand_of a.n a.m a.rows.now) a.c c.before.top_in.result) (sym then.if1.true) c.before.top_in.ensures.0
+    let a = c.args in
+    subst (λ (u : Bool). TopIf u (summand_of a.n a.m a.rows.now) a.c c.top_in.result) (sym c.if-used.true) c.top_in.ensures.0
 
-returns-2 : tie.Need-returns-2
-returns-2 c = rw c.if1.false (refl, refl)
+returns-2 : tie.Need-returns-else-used
+returns-2 c = rw c.if-used.false (refl, refl)
 
 pub top_if_spec : {M : Type 1} → statement M
 top_if_spec =

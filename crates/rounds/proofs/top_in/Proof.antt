@@ -10,26 +10,24 @@ use Rattle.rounds.proofs.top_in.Statement.{statement}
 use Rattle.rounds.proofs.top_in.Tie as tie
 
 -- what the call leaves
-written : (c : tie.After-spectrum-of-component) → let a = c.before.before.before.args in c.spectrum_of_component.new.1.1.1.1.0 ≡ spectrum a.n (component a.rows.now a.c)
+written : (c : tie.After-spectrum_of_component) → let a = c.args in c.spectrum_of_component.new.out ≡ spectrum a.n (component a.rows.now a.c)
 written c =
-    let start = c.before.before.before in
-    let a = start.args in
-    spectrum_written a.n a.m a.rows.now a.c start.requires.0 start.requires.1 start.requires.2 a.array.now start.requires.3 c.spectrum_of_component.ensures.content
+    let a = c.args in
+    spectrum_written a.n a.m a.rows.now a.c c.requires.0 c.requires.1 c.requires.2 a.array.now c.requires.3 c.spectrum_of_component.ensures.content
 
 highest_requires : tie.Need-highest-requires
 highest_requires c κs =
-    let a = c.before.before.before.before.before.args in
-    let b = c.before.before.before.before.before.requires.0 in
+    let a = c.args in
+    let b = c.requires.0 in
     let few : 2 ^ a.n ≤ 256 = pow_mono b.n_high in
-    let size = values_length a.n a.m a.rows.now a.c b.n_low (written c.before.before) in
+    let size = values_length a.n a.m a.rows.now a.c b.n_low (written c.before) in
     (omega (arith, size, pow_pos a.n), omega (arith, size))
 
 returns : tie.Need-returns
 returns c =
-    let start = c.before.before.before.before.before.before in
-    let a = start.args in
-    let spectrum_left = written c.before.before.before in
-    (top_of a.n a.m a.rows.now a.c start.requires.0.n_low spectrum_left c.highest.ensures, spectrum_left)
+    let a = c.args in
+    let spectrum_left = written c.before.before in
+    (top_of a.n a.m a.rows.now a.c c.requires.0.n_low spectrum_left c.highest.ensures, spectrum_left)
 
 pub top_in_spec : {M : Type 1} → statement M
 top_in_spec =

@@ -15,36 +15,32 @@ use Rattle.server.proofs.Places.{unfinished_taken}
 use Rattle.server.proofs.examine.Statement.{statement}
 use Rattle.server.proofs.examine.Tie as tie
 
-slice_aggregate_all : tie.Need-slice-aggregate-all
+slice_aggregate_all : tie.Need-slice_bounds-all-end
 slice_aggregate_all c = search rules
 
-power_of_two_requires : tie.Need-power-of-two-requires
+power_of_two_requires : tie.Need-power_of_two-size-requires
 power_of_two_requires c κs =
-    let start = c.before.before.before in
-    omega (arith, range_high 1 8 start.args.p.n (box_left start.args.p start.requires.1).inputs)
+    omega (arith, range_high 1 8 c.args.p.n (box_left c.args.p c.requires.1).inputs)
 
-add_next : tie.Need-overflow-add-next
-add_next c = let start = c.before.before.before.before.before in omega (arith, left_few start.args.p start.requires.1)
+add_next : tie.Need-overflow_add-next
+add_next c = omega (arith, left_few c.args.p c.requires.1)
 
-slice_aggregate_with_component : tie.Need-slice-aggregate-with-component
+slice_aggregate_with_component : tie.Need-slice_bounds-with_component-end
 slice_aggregate_with_component c =
-    let start = c.before.before.before.before.before.before in
-    let p = start.args.p in
-    let room : 256 ≡ length p.rows = slice_aggregate_all c.before.before.before in
-    sym (length-take-le _ _ (omega (arith, rows_room p start.requires.1, c.before.before.power_of_two.ensures.0)))
+    let p = c.args.p in
+    let room : 256 ≡ length p.rows = slice_aggregate_all c.before.before in
+    sym (length-take-le _ _ (omega (arith, rows_room p c.requires.1, c.power_of_two-size.ensures.0)))
 
-with_component_requires : tie.Need-with-component-requires
-with_component_requires c κs = c.before.before.before.before.before.before.requires.0
+with_component_requires : tie.Need-with_component-found-requires
+with_component_requires c κs = c.requires.0
 
 returns : tie.Need-returns
 unfolding one_more_place
 returns c =
-    let power = c.before.before.before in
-    let start = power.before.before.before.before in
-    let p = start.args.p in
+    let p = c.args.p in
     ap₂ (λ (t : ℕ) (f : Found). record { taken = t; n = p.n; m = p.m; rows = p.rows; examined = p.examined + 1; found = f })
-    (sym (unfinished_taken p start.requires.1))
-    (c.with_component.ensures ∙ ap (λ (k : ℕ). found_of (better p.n p.m (take k p.rows) (pair_candidate p.found) (p.examined + 1))) power.power_of_two.ensures.0)
+    (sym (unfinished_taken p c.requires.1))
+    (c.with_component-found.ensures ∙ ap (λ (k : ℕ). found_of (better p.n p.m (take k p.rows) (pair_candidate p.found) (p.examined + 1))) c.power_of_two-size.ensures.0)
 
 pub examine_spec : {M : Type 1} → statement M
 examine_spec =

@@ -6,20 +6,19 @@ use Rattle.server.proofs.Boxes.{fresh_place}
 use Rattle.server.proofs.fresh.Statement.{statement}
 use Rattle.server.proofs.fresh.Tie as tie
 
-array_borrow_prefix_kept : tie.Need-array-borrow-prefix-kept
-array_borrow_prefix_kept c = c.before.requires.small
+array_borrow_prefix_kept : tie.Need-slice_bounds-kept-end
+array_borrow_prefix_kept c = c.requires.small
 
-slice_aggregate_copy : tie.Need-slice-aggregate-copy
-slice_aggregate_copy c = sym (length-take-le _ _ c.before.before.requires.small)
+slice_aggregate_copy : tie.Need-slice_bounds-copy-end
+slice_aggregate_copy c = sym (length-take-le _ _ c.requires.small)
 
 copy_requires : tie.Need-copy-requires
-copy_requires c κs = length-take-le _ _ c.before.before.requires.small
+copy_requires c κs = length-take-le _ _ c.requires.small
 
 returns : tie.Need-returns
 returns c =
-    let start = c.before.before.before.before in
-    let a = start.args in
-    fresh_place a.n a.m a.rows.now _ start.requires.size c.before.copy.ensures
+    let a = c.args in
+    fresh_place a.n a.m a.rows.now _ c.requires.size c.copy.ensures
 
 pub fresh_spec : {M : Type 1} → statement M
 fresh_spec =

@@ -15,46 +15,41 @@ use Rattle.server.proofs.Places.{spot_empty, spot_box, no_inputs, no_outputs, mo
 use Rattle.server.proofs.unfinished.Statement.{statement}
 use Rattle.server.proofs.unfinished.Tie as tie
 
-returns : tie.Need-returns
-returns c = let p = c.before.before.args.p in sym (ap model.unfinished (spot_empty p c.if1.true))
+returns : tie.Need-returns-then-p-ne1
+returns c = let p = c.args.p in sym (ap model.unfinished (spot_empty p c.if-p-ne1.true))
 
-returns-2 : tie.Need-returns-2
+returns-2 : tie.Need-returns-then-not-in_range
 returns-2 c =
-    let left = c.before.before in
-    let p = left.before.before.args.p in
-    sym (ap model.unfinished (spot_box p left.if1.false) ∙ no_inputs (analysis_in p) (fails c.before.in_range.ensures c.if2.true))
+    let p = c.args.p in
+    sym (ap model.unfinished (spot_box p c.if-p-ne1.false) ∙ no_inputs (analysis_in p) (fails c.in_range.ensures c.if-not-in_range.true-raw))
 
-returns-3 : tie.Need-returns-3
+returns-3 : tie.Need-returns-then-not-in_range-2
 returns-3 c =
-    let left = c.before.before.before.before in
-    let p = left.before.before.args.p in
-    sym (ap model.unfinished (spot_box p left.if1.false) ∙ no_outputs (analysis_in p) (fails c.before.in_range2.ensures c.if3.true))
+    let p = c.args.p in
+    sym (ap model.unfinished (spot_box p c.if-p-ne1.false) ∙ no_outputs (analysis_in p) (fails c.in_range-2.ensures c.if-not-in_range-2.true-raw))
 
-outputs : (c : tie.Else3) → in_range 1 16 c.before.before.before.before.before.before.args.p.m ≡ true
-outputs c = holds c.before.in_range2.ensures c.if3.false
+outputs : (c : tie.Else-not-in_range-2) → in_range 1 16 c.args.p.m ≡ true
+outputs c = holds c.in_range-2.ensures c.if-not-in_range-2.false-raw
 
-power_of_two_requires : tie.Need-power-of-two-requires
-power_of_two_requires c κs = omega (arith, range_high 1 16 c.before.before.before.before.before.before.args.p.m (outputs c))
+power_of_two_requires : tie.Need-power_of_two-masks-requires
+power_of_two_requires c κs = omega (arith, range_high 1 16 c.args.p.m (outputs c))
 
-cast_masks : tie.Need-overflow-cast-masks
+cast_masks : tie.Need-overflow_cast-masks
 cast_masks c =
-    let p = c.before.before.before.before.before.before.before.args.p in
+    let p = c.args.p in
     let few : 2 ^ p.m ≤ 2 ^ 16 = pow_mono (range_high 1 16 p.m (outputs c.before)) in
-    omega (arith, c.power_of_two.ensures.0)
+    omega (arith, c.power_of_two-masks.ensures.0)
 
-sub_result : tie.Need-overflow-sub-result
+sub_result : tie.Need-overflow_sub-result
 sub_result c =
-    omega (arith, c.power_of_two.ensures.0, pow_pos c.before.before.before.before.before.before.before.args.p.m)
+    omega (arith, c.power_of_two-masks.ensures.0, pow_pos c.args.p.m)
 
-returns-4 : tie.Need-returns-4
+returns-4 : tie.Need-returns
 returns-4 c =
-    let else = c.before.before in
-    let inputs = else.before.before in
-    let left = inputs.before.before in
-    let p = left.before.before.args.p in
-    ap (λ (k : ℕ). ltb p.examined (k - 1)) c.before.power_of_two.ensures.0
-    ∙ sym (ap model.unfinished (spot_box p left.if1.false)
-    ∙ more_is (analysis_in p) (holds inputs.before.in_range.ensures inputs.if2.false) (outputs else))
+    let p = c.args.p in
+    ap (λ (k : ℕ). ltb p.examined (k - 1)) c.power_of_two-masks.ensures.0
+    ∙ sym (ap model.unfinished (spot_box p c.if-p-ne1.false)
+    ∙ more_is (analysis_in p) (holds c.in_range.ensures c.if-not-in_range.false-raw) (outputs c.before.before))
 
 pub unfinished_spec : {M : Type 1} → statement M
 unfinished_spec =

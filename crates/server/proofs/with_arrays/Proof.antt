@@ -6,19 +6,17 @@ use Rattle.linear.proofs.Components.{table_length}
 use Rattle.server.proofs.with_arrays.Statement.{statement}
 use Rattle.server.proofs.with_arrays.Tie as tie
 
-with_peak_requires : tie.Need-with-peak-requires
+with_peak_requires : tie.Need-with_peak-requires
 with_peak_requires c κs =
-    let made = c.before.before.before.before.before in
-    let start = made.before.before.before.before.before in
-    let a = start.args in (
+    let a = c.args in (
       record {
-        box = start.requires.0.box;
-        table_size = ap length made.component_peak.ensures.1 ∙ table_length a.n a.rows.now a.c;
-        out_size = start.requires.2;
+        box = c.requires.0.box;
+        table_size = ap length c.component_peak-largest.ensures.1 ∙ table_length a.n a.rows.now a.c;
+        out_size = c.requires.2;
       },
-      start.requires.1,
-      made.component_peak.ensures.0,
-      made.component_peak.ensures.1,
+      c.requires.1,
+      c.component_peak-largest.ensures.0,
+      c.component_peak-largest.ensures.1,
     )
 
 pub with_arrays_spec : {M : Type 1} → statement M

@@ -12,52 +12,48 @@ use Rattle.server.proofs.Boxes.{better_none, better_some}
 use Rattle.server.proofs.with_component.Statement.{statement}
 use Rattle.server.proofs.with_component.Tie as tie
 
-returns : tie.Need-returns
+returns : tie.Need-returns-in-Refused
 returns c =
-    let p = c.before.before in
-    let a = p.before.before.args in
-    sym (ap found_of (better_none a.n a.m a.rows.now (pair_candidate a.found) a.c (sym p.check_box.ensures ∙ c.enum_told.given.1)))
+    let a = c.args in
+    sym (ap found_of (better_none a.n a.m a.rows.now (pair_candidate a.found) a.c (sym c.check_box.ensures ∙ c.in-Refused.is)))
 
-accepted : (c : tie.After-enum-told2) → let a = c.before.before.before.before.args in first (box_checks a.n a.m a.rows.now) ≡ Accepted
-accepted c = sym c.before.before.check_box.ensures ∙ c.enum_told2.given.1
+accepted : (c : tie.In_default) → let a = c.args in first (box_checks a.n a.m a.rows.now) ≡ Accepted
+accepted c = sym c.check_box.ensures ∙ c.in_default.is
 
-boxed : (c : tie.After-enum-told2) → let a = c.before.before.before.before.args in Box a.n a.m a.rows.now
-boxed c = let a = c.before.before.before.before.args in box a.n a.m a.rows.now [] (accepted c)
+boxed : (c : tie.In_default) → let a = c.args in Box a.n a.m a.rows.now
+boxed c = let a = c.args in box a.n a.m a.rows.now [] (accepted c)
 
-array_borrow_prefix_table : tie.Need-array-borrow-prefix-table
+array_borrow_prefix_table : tie.Need-slice_bounds-table-end
 array_borrow_prefix_table c = (boxed c).small
 
-slice_aggregate_with_arrays : tie.Need-slice-aggregate-with-arrays
+slice_aggregate_with_arrays : tie.Need-slice_bounds-with_arrays-end
 slice_aggregate_with_arrays c = sym (length-take-le _ _ (boxed c.before).small)
 
-array_borrow_prefix_work : tie.Need-array-borrow-prefix-work
+array_borrow_prefix_work : tie.Need-slice_bounds-work-end
 array_borrow_prefix_work c = (boxed c.before).small
 
-slice_aggregate_with_arrays_2 : tie.Need-slice-aggregate-with-arrays-2
+slice_aggregate_with_arrays_2 : tie.Need-slice_bounds-with_arrays-end-2
 slice_aggregate_with_arrays_2 c = sym (length-take-le _ _ (boxed c.before.before).small)
 
-array_borrow_prefix_values : tie.Need-array-borrow-prefix-values
+array_borrow_prefix_values : tie.Need-slice_bounds-values-end
 array_borrow_prefix_values c = (boxed c.before.before).small
 
-slice_aggregate_with_arrays_3 : tie.Need-slice-aggregate-with-arrays-3
+slice_aggregate_with_arrays_3 : tie.Need-slice_bounds-with_arrays-end-3
 slice_aggregate_with_arrays_3 c = sym (length-take-le _ _ (boxed c.before.before.before).small)
 
-with_arrays_requires : tie.Need-with-arrays-requires
+with_arrays_requires : tie.Need-with_arrays-requires
 with_arrays_requires c κs =
-    let told = c.before.before.before in
-    let b = boxed told in (
+    let b = boxed c.before.before.before in (
       record { box = b; table_size = length-take-le _ _ b.small ∙ b.size; out_size = length-take-le _ _ b.small ∙ b.size },
-      told.before.before.before.before.requires,
+      c.requires,
       length-take-le _ _ b.small ∙ b.size,
     )
 
-returns-2 : tie.Need-returns-2
+returns-2 : tie.Need-returns
 returns-2 c =
-    let called = c.before.before.before in
-    let told = called.before.before.before.before in
-    let a = told.before.before.before.before.args in
+    let a = c.args in
     ap found_of
-    (called.with_arrays.ensures.0 ∙ sym (better_some a.n a.m a.rows.now (pair_candidate a.found) a.c (accepted told)))
+    (c.with_arrays.ensures.0 ∙ sym (better_some a.n a.m a.rows.now (pair_candidate a.found) a.c (accepted c.before.before.before.before.before.before.before)))
 
 pub with_component_spec : {M : Type 1} → statement M
 with_component_spec =

@@ -11,34 +11,34 @@ use Rattle.swaps.specs.Work.{apart_in}
 use Rattle.swaps.proofs.all_apart.Statement.{statement}
 use Rattle.swaps.proofs.all_apart.Tie as tie
 
-abbrev invariant-loop : tie.invariant-loop
-invariant-loop tables count low high k₀ k = Rest (apart_in tables low high) 0 (list_below count (λ j. j)) k
+abbrev invariant-loop-k : tie.invariant-loop-k
+invariant-loop-k tables count low high k₀ k = Rest (apart_in tables low high) 0 (list_below count (λ j. j)) k
 
-abbrev decreases-loop : tie.decreases-loop
-decreases-loop tables count low high k₀ k = count - k
+abbrev decreases-loop-k : tie.decreases-loop-k
+decreases-loop-k tables count low high k₀ k = count - k
 
-loop-holds : tie.Need-loop-init invariant-loop decreases-loop
+loop-holds : tie.Need-loop-k-init invariant-loop-k decreases-loop-k
 loop-holds c = rest_all _ _ _
 
-returns : tie.Need-returns invariant-loop decreases-loop
+returns : tie.Need-returns-then-tables-k-ne3 invariant-loop-k decreases-loop-k
 returns c =
-    let l = c.before.before.before.before.loop in
-    let a = c.before.before.before.before.before.args in
-    rest_fails _ _ l.invariant (omega (arith, length_list_below a.count (λ (j : ℕ). j), c.before.before.before.loop-test.true))
-    (ap (apart_in a.tables.now a.low a.high) (get_or_list_below a.count (λ j. j) l.k 0 c.before.before.before.loop-test.true) ∙ ne_eqb _ _ c.if1.true)
+    let l = c.loop-k in
+    let a = c.args in
+    rest_fails _ _ l.invariant (omega (arith, length_list_below a.count (λ (j : ℕ). j), c.loop-k-test.true))
+    (ap (apart_in a.tables.now a.low a.high) (get_or_list_below a.count (λ j. j) l.k 0 c.loop-k-test.true) ∙ ne_eqb _ _ c.if-tables-k-ne3.true)
 
-loop-again : tie.Need-loop-preserved invariant-loop decreases-loop
+loop-again : tie.Need-loop-k-preserved invariant-loop-k decreases-loop-k
 loop-again c =
-    let l = c.before.before.before.before.loop in
-    let a = c.before.before.before.before.before.args in
-    rest_next _ _ l.invariant (omega (arith, length_list_below a.count (λ (j : ℕ). j), c.before.before.before.loop-test.true))
-    (ap (apart_in a.tables.now a.low a.high) (get_or_list_below a.count (λ j. j) l.k 0 c.before.before.before.loop-test.true) ∙ eq-eqb _ _ c.if1.false)
+    let l = c.loop-k in
+    let a = c.args in
+    rest_next _ _ l.invariant (omega (arith, length_list_below a.count (λ (j : ℕ). j), c.loop-k-test.true))
+    (ap (apart_in a.tables.now a.low a.high) (get_or_list_below a.count (λ j. j) l.k 0 c.loop-k-test.true) ∙ eq-eqb _ _ c.if-tables-k-ne3.false)
 
-returns-2 : tie.Need-returns-2 invariant-loop decreases-loop
-returns-2 c = rest_none _ _ c.before.loop.invariant (omega (arith, length_list_below c.before.before.args.count (λ (j : ℕ). j), c.loop-test.false))
+returns-2 : tie.Need-returns invariant-loop-k decreases-loop-k
+returns-2 c = rest_none _ _ c.loop-k.invariant (omega (arith, length_list_below c.args.count (λ (j : ℕ). j), c.loop-k-test.false))
 
 pub all_apart_spec : {M : Type 1} → statement M
 all_apart_spec =
     tie.close
-    (tie.spec invariant-loop decreases-loop loop-holds (λ c. search rules) (λ c. search rules) (λ c. search rules) (λ c. search rules)
+    (tie.spec invariant-loop-k decreases-loop-k loop-holds (λ c. search rules) (λ c. search rules) (λ c. search rules) (λ c. search rules)
     (λ c. search rules) (λ c. search rules) returns (λ c. search rules) (λ c. search rules) loop-again returns-2)

@@ -10,91 +10,87 @@ use Rattle.swaps.proofs.Trying.{Reaching, again, reaching_starts, reaching_lower
 use Rattle.swaps.proofs.reaching.Statement.{statement}
 use Rattle.swaps.proofs.reaching.Tie as tie
 
-abbrev invariant-loop : tie.invariant-loop
-invariant-loop fixed n m rows count hint bits₀ out₀ masks least₀ c₀ bits out least c = Reaching n m rows count bits out least c
+abbrev invariant-loop-c : tie.invariant-loop-c
+invariant-loop-c fixed n m rows count hint bits₀ out₀ masks least₀ c₀ bits out least c = Reaching n m rows count bits out least c
 
-abbrev decreases-loop : tie.decreases-loop
-decreases-loop fixed n m rows count hint bits₀ out₀ masks least₀ c₀ bits out least c = masks - c
+abbrev decreases-loop-c : tie.decreases-loop-c
+decreases-loop-c fixed n m rows count hint bits₀ out₀ masks least₀ c₀ bits out least c = masks - c
 
-component_count_requires : tie.Need-component-count-requires invariant-loop decreases-loop
-component_count_requires c κs = (c.before.before.before.before.requires.0, c.before.before.before.before.requires.1)
+component_count_requires : tie.Need-component_count-requires invariant-loop-c decreases-loop-c
+component_count_requires c κs = (c.requires.0, c.requires.1)
 
-same_length : tie.Need-same-length invariant-loop decreases-loop
-same_length c = c.before.before.before.before.bits.given
+same_length : tie.Need-shape_of-bits-then-component_count-count invariant-loop-c decreases-loop-c
+same_length c = c.bits-1.given
 
-same_length_2 : tie.Need-same-length-2 invariant-loop decreases-loop
-same_length_2 c = c.before.before.out.given
+same_length_2 : tie.Need-shape_of-out-then-component_count-count invariant-loop-c decreases-loop-c
+same_length_2 c = c.out-1.given
 
-returns : tie.Need-returns invariant-loop decreases-loop
+returns : tie.Need-returns-then-component_count-count invariant-loop-c decreases-loop-c
 returns c =
-    let a = c.before.before.before.before.before.before.before.before.before.before in
-    (reaches a.args.hint c.Turned-down.ensures.0 a.requires.2.low a.requires.2.high c.before.before.before.before.before.component_count.ensures.0 c.before.if1.true, search rules, search rules)
+    (reaches c.args.hint c.turned_down.ensures.0 c.requires.2.low c.requires.2.high c.component_count.ensures.0 c.if-component_count-count.true, search rules, search rules)
 
-power_of_two_requires : tie.Need-power-of-two-requires invariant-loop decreases-loop
-power_of_two_requires c κs = c.before.before.before.before.before.before.before.before.before.requires.0.box.m_high
+power_of_two_requires : tie.Need-power_of_two-masks-requires invariant-loop-c decreases-loop-c
+power_of_two_requires c κs = c.requires.0.box.m_high
 
-cast_masks : tie.Need-overflow-cast-masks invariant-loop decreases-loop
+cast_masks : tie.Need-overflow_cast-masks invariant-loop-c decreases-loop-c
 cast_masks c =
-    let most = pow_mono {j = 8} c.before.before.before.before.before.before.before.before.before.before.requires.3 in
-    omega (arith, c.power_of_two.ensures.0)
+    let most = pow_mono {j = 8} c.requires.3 in
+    omega (arith, c.power_of_two-masks.ensures.0)
 
-cast_least : tie.Need-overflow-cast-least invariant-loop decreases-loop
-cast_least c = omega (arith, c.before.before.before.before.before.before.before.before.before.before.requires.0.box.small)
+cast_least : tie.Need-overflow_cast-least invariant-loop-c decreases-loop-c
+cast_least c = omega (arith, c.requires.0.box.small)
 
-loop-holds : tie.Need-loop-init invariant-loop decreases-loop
-loop-holds c = reaching_starts (again c.before.before.before.before.before.before.before.before.before.before.requires.0 c.before.before.before.before.bits.given c.before.before.out.given)
+loop-holds : tie.Need-loop-c-init invariant-loop-c decreases-loop-c
+loop-holds c = reaching_starts (again c.requires.0 c.bits-1.given c.out-1.given)
 
 -- the component is one of the box
-inside : (c : tie.In-loop invariant-loop decreases-loop) → c.before.loop.c < 2 ^ c.before.before.before.before.before.before.before.before.before.before.before.before.args.m
-inside c = omega (arith, c.loop-test.true, c.before.before.power_of_two.ensures.0)
+inside : (c : tie.In-loop-c invariant-loop-c decreases-loop-c) → c.loop-c.c < 2 ^ c.args.m
+inside c = omega (arith, c.loop-c-test.true, c.power_of_two-masks.ensures.0)
 
-component_count_requires_2 : tie.Need-component-count-requires-2 invariant-loop decreases-loop
-component_count_requires_2 c κs = (c.before.before.before.loop.invariant.arrays, c.before.before.before.before.before.before.before.before.before.before.before.before.before.before.requires.1)
+component_count_requires_2 : tie.Need-component_count-near-requires invariant-loop-c decreases-loop-c
+component_count_requires_2 c κs = (c.loop-c.invariant.arrays, c.requires.1)
 
-same_length_3 : tie.Need-same-length-3 invariant-loop decreases-loop
+same_length_3 : tie.Need-shape_of-bits-then-near-count invariant-loop-c decreases-loop-c
 same_length_3 c =
-    let at_loop = c.before.before.before.before.before.before.before.before.before in
-    c.before.before.before.before.bits2.given ∙ at_loop.loop.invariant.arrays.table_size ∙ sym at_loop.before.before.before.before.before.before.before.before.before.before.before.requires.0.table_size
+    c.bits-in-loop-c-1.given ∙ c.loop-c.invariant.arrays.table_size ∙ sym c.requires.0.table_size
 
-same_length_4 : tie.Need-same-length-4 invariant-loop decreases-loop
+same_length_4 : tie.Need-shape_of-out-then-near-count invariant-loop-c decreases-loop-c
 same_length_4 c =
-    let at_loop = c.before.before.before.before.before.before.before.before.before in
-    c.before.before.out2.given ∙ at_loop.loop.invariant.arrays.out_size ∙ sym at_loop.before.before.before.before.before.before.before.before.before.before.before.requires.0.out_size
+    c.out-in-loop-c-1.given ∙ c.loop-c.invariant.arrays.out_size ∙ sym c.requires.0.out_size
 
-returns-2 : tie.Need-returns-2 invariant-loop decreases-loop
-returns-2 c =
-    let at_loop = c.before.before.before.before.before.before.before.before.before in (
-      reaches at_loop.loop.c c.turned_down2.ensures.0 at_loop.loop.invariant.c_low (inside c.before.before.before.before.before.before.before.before) c.before.before.before.before.before.component_count2.ensures.0 c.before.if2.true,
-      search rules,
-      search rules,
-    )
+returns-2 : tie.Need-returns-then-near-count invariant-loop-c decreases-loop-c
+returns-2 c = (
+  reaches c.loop-c.c c.turned_down-then-near-count.ensures.0 c.loop-c.invariant.c_low (inside c.before.before.before.before.before.before.before.before) c.component_count-near.ensures.0 c.if-near-count.true,
+  search rules,
+  search rules,
+)
 
-add_c : tie.Need-overflow-add-c invariant-loop decreases-loop
+add_c : tie.Need-overflow_add-c invariant-loop-c decreases-loop-c
 add_c c =
-    let most = pow_mono {j = 8} c.before.before.before.before.before.before.before.before.before.before.before.before.before.before.before.before.before.before.before.before.requires.3 in
+    let most = pow_mono {j = 8} c.requires.3 in
     omega (arith, inside c.before.before.before.before.before.before.before.before)
 
-loop-again : tie.Need-loop-preserved invariant-loop decreases-loop
+loop-again : tie.Need-loop-c-preserved invariant-loop-c decreases-loop-c
 loop-again c =
-    let i = c.before.before.before.before.before.before.before.before.before.loop.invariant in
-    let arrays = again i.arrays c.before.before.before.before.bits2.given c.before.before.out2.given in
-    let counted = c.before.before.before.before.before.component_count2.ensures.0 in
+    let i = c.loop-c.invariant in
+    let arrays = again i.arrays c.bits-in-loop-c-1.given c.out-in-loop-c-1.given in
+    let counted = c.component_count-near.ensures.0 in
     ⊎_elim
-    (λ t. rw t.1 (reaching_lower i arrays (inside c.before.before.before.before.before.before.before.before) counted c.before.if2.false t.0.taken))
-    (λ t. rw t.1 (reaching_same i arrays (inside c.before.before.before.before.before.before.before.before) counted c.before.if2.false t.0.left)) c.if3.branch
+    (λ t. rw t.least-is (reaching_lower i arrays (inside c.before.before.before.before.before.before.before.before) counted c.if-near-count.false t.if-near-least.true))
+    (λ t. rw t.least-is (reaching_same i arrays (inside c.before.before.before.before.before.before.before.before) counted c.if-near-count.false t.if-near-least.false)) c.if-near-least.branch-raw
 
-same_length_5 : tie.Need-same-length-5 invariant-loop decreases-loop
-same_length_5 c = c.before.loop.invariant.arrays.table_size ∙ sym c.before.before.before.before.before.before.before.before.before.before.before.before.requires.0.table_size
+same_length_5 : tie.Need-shape_of-bits invariant-loop-c decreases-loop-c
+same_length_5 c = c.loop-c.invariant.arrays.table_size ∙ sym c.requires.0.table_size
 
-same_length_6 : tie.Need-same-length-6 invariant-loop decreases-loop
-same_length_6 c = c.before.loop.invariant.arrays.out_size ∙ sym c.before.before.before.before.before.before.before.before.before.before.before.before.requires.0.out_size
+same_length_6 : tie.Need-shape_of-out invariant-loop-c decreases-loop-c
+same_length_6 c = c.loop-c.invariant.arrays.out_size ∙ sym c.requires.0.out_size
 
-returns-3 : tie.Need-returns-3 invariant-loop decreases-loop
-returns-3 c = (reaching_ends c.before.loop.invariant (omega (arith, c.loop-test.false, c.before.before.power_of_two.ensures.0)), search rules, search rules)
+returns-3 : tie.Need-returns invariant-loop-c decreases-loop-c
+returns-3 c = (reaching_ends c.loop-c.invariant (omega (arith, c.loop-c-test.false, c.power_of_two-masks.ensures.0)), search rules, search rules)
 
 pub reaching_spec : {M : Type 1} → statement M
 reaching_spec =
     tie.close
-    (tie.spec invariant-loop decreases-loop component_count_requires (λ c κs. search rules) same_length same_length_2 returns power_of_two_requires
+    (tie.spec invariant-loop-c decreases-loop-c component_count_requires (λ c κs. search rules) same_length same_length_2 returns power_of_two_requires
     cast_masks cast_least loop-holds component_count_requires_2 (λ c κs. search rules) same_length_3 same_length_4 returns-2 add_c
     (λ c. search rules) loop-again same_length_5 same_length_6 returns-3)

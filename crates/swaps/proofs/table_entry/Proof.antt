@@ -9,15 +9,15 @@ use Rattle.swaps.proofs.table_entry.Statement.{statement}
 use Rattle.swaps.proofs.table_entry.Tie as tie
 
 -- the affine function's value
-near_is : (c : tie.After-dot2) → let a = c.before.before.args in bit_xor c.dot2.result a.pair.b ≡ affine a.pair.w a.pair.b a.x
+near_is : (c : tie.After-dot) → let a = c.args in bit_xor c.dot.result a.pair.b ≡ affine a.pair.w a.pair.b a.x
 unfolding affine
-near_is c = ap (λ (z : ℕ). bit_xor z c.before.before.args.pair.b) c.dot2.ensures.0
+near_is c = ap (λ (z : ℕ). bit_xor z c.args.pair.b) c.dot.ensures.0
 
-returns : tie.Need-returns
-returns c = let bits = c.before.before in entry_differs bits.before.dot.ensures.0 (near_is bits) c.if1.true
+returns : tie.Need-returns-then-value-near
+returns c = entry_differs c.dot-value.ensures.0 (near_is c.before.before) c.if-value-near.true
 
-returns-2 : tie.Need-returns-2
-returns-2 c = let bits = c.before.before in entry_agrees bits.before.dot.ensures.0 (near_is bits) c.if1.false
+returns-2 : tie.Need-returns
+returns-2 c = entry_agrees c.dot-value.ensures.0 (near_is c.before.before) c.if-value-near.false
 
 pub table_entry_spec : {M : Type 1} → statement M
 table_entry_spec =

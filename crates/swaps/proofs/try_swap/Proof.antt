@@ -11,23 +11,21 @@ use borrow.Author.Rules.{rules}
 use Rattle.swaps.proofs.try_swap.Statement.{statement}
 use Rattle.swaps.proofs.try_swap.Tie as tie
 
-returns : tie.Need-returns
+returns : tie.Need-returns-then-not-all_apart
 returns c =
-    let start = c.before.before.before.before.before.before.before in
-    let a = start.args in (
-      not_apart start.requires.0.box start.requires.0.figure_is a.d a.low a.high start.requires.3 start.requires.4 c.Turned-down.ensures.0 start.requires.2 start.requires.0.gathered
-          (sym c.before.before.All-apart.ensures ∙ not-true _ c.before.if1.true),
+    let a = c.args in (
+      not_apart c.requires.0.box c.requires.0.figure_is a.d a.low a.high c.requires.3 c.requires.4 c.turned_down.ensures.0 c.requires.2 c.requires.0.gathered
+          (sym c.all_apart.ensures ∙ not-true _ c.if-not-all_apart.true-raw),
       search rules,
       search rules,
       search rules,
     )
 
-returns-2 : tie.Need-returns-2
+returns-2 : tie.Need-returns-then-differing-d
 returns-2 c =
-    let start = c.before.before.before.before.before.before.before.before.before.before.before in
-    let a = start.args in (
-      other_distance start.requires.0.box start.requires.0.figure_is a.d a.low a.high c.turned_down2.ensures.0 start.requires.2
-          (λ e. c.before.if2.true (c.before.before.differing.ensures ∙ e)),
+    let a = c.args in (
+      other_distance c.requires.0.box c.requires.0.figure_is a.d a.low a.high c.turned_down-then-differing-d.ensures.0 c.requires.2
+          (λ e. c.if-differing-d.true (c.differing.ensures ∙ e)),
       search rules,
       search rules,
       search rules,
@@ -35,28 +33,22 @@ returns-2 c =
 
 reaching_requires : tie.Need-reaching-requires
 reaching_requires c κs =
-    let swapped = c.before.before.before.before.before in
-    let start = swapped.before.before.before.before.before.before.before.before.before.before.before.before in
-    (swap_ready start.requires.0 start.args.low start.args.high swapped.write_swapped.ensures, start.requires.1, start.requires.2, start.requires.0.few)
+    (swap_ready c.requires.0 c.args.low c.args.high c.write_swapped.ensures, c.requires.1, c.requires.2, c.requires.0.few)
 
-same_length : tie.Need-same-length
+same_length : tie.Need-shape_of-work
 same_length c = search rules
 
-same_length_2 : tie.Need-same-length-2
+same_length_2 : tie.Need-shape_of-bits
 same_length_2 c = search rules
 
-same_length_3 : tie.Need-same-length-3
+same_length_3 : tie.Need-shape_of-out
 same_length_3 c = search rules
 
-returns-3 : tie.Need-returns-3
+returns-3 : tie.Need-returns
 returns-3 c =
-    let done = c.before.before.before in
-    let swapped = done.before.before.before.before.before.before in
-    let apart = swapped.before.before in
-    let start = swapped.before.before.before.before.before.before.before.before.before.before.before.before in
-    let a = start.args in (
-      this_distance start.requires.0.box start.requires.0.figure_is a.d a.low a.high (sym apart.before.differing.ensures ∙ apart.if2.false)
-          (subst (λ (l : List ℕ). Tried a.job.n a.job.m l a.job.figure done.reaching.result) swapped.write_swapped.ensures done.reaching.ensures.0),
+    let a = c.args in (
+      this_distance c.requires.0.box c.requires.0.figure_is a.d a.low a.high (sym c.differing.ensures ∙ c.if-differing-d.false)
+          (subst (λ (l : List ℕ). Tried a.job.n a.job.m l a.job.figure c.reaching.result) c.write_swapped.ensures c.reaching.ensures.0),
       same_length c,
       same_length_2 c,
       same_length_3 c,

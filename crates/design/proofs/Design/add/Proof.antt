@@ -17,68 +17,60 @@ use borrow.Author.Rules.{rules}
 use Rattle.design.proofs.Design.add.Statement.{statement}
 use Rattle.design.proofs.Design.add.Tie as tie
 
-slice_aggregate_all : tie.Need-slice-aggregate-all
+slice_aggregate_all : tie.Need-slice_bounds-all-end
 slice_aggregate_all c = search rules
 
-returns : tie.Need-returns
+returns : tie.Need-returns-then-not-in_range
 unfolding design_add_checks state_of_design
 returns c =
-    let then = c.before in
-    let a = then.before.before.before.before.args in
-    add_refused a.self a.j a.w a.b (sym (found (stop (fails then.before.in_range.ensures then.if1.true)))) c.declined.ensures
+    let a = c.args in
+    add_refused a.self a.j a.w a.b (sym (found (stop (fails c.in_range.ensures c.if-not-in_range.true-raw)))) c.declined.ensures
 
 -- there is a box in it, where that was passed
-boxed : (c : tie.Else1) → in_range 1 8 c.before.before.before.before.args.self.n ≡ true
-boxed c = holds c.before.in_range.ensures c.if1.false
+boxed : (c : tie.Else-not-in_range) → in_range 1 8 c.args.self.n ≡ true
+boxed c = holds c.in_range.ensures c.if-not-in_range.false-raw
 
-power_of_two_requires : tie.Need-power-of-two-requires
-power_of_two_requires c κs = omega (arith, range_high 1 8 c.before.before.before.before.args.self.n (boxed c))
+power_of_two_requires : tie.Need-power_of_two-size-requires
+power_of_two_requires c κs = omega (arith, range_high 1 8 c.args.self.n (boxed c))
 
 -- so its rows are no more than an array has
-fits : (c : tie.After-power-of-two) → c.power_of_two.result ≤ 256
-fits c = few c.before.before.before.before.before.args.self.n (boxed c.before) c.power_of_two.ensures.0
+fits : (c : tie.After-power_of_two-size) → c.power_of_two-size.result ≤ 256
+fits c = few c.args.self.n (boxed c.before) c.power_of_two-size.ensures.0
 
-slice_aggregate_add_to_column : tie.Need-slice-aggregate-add-to-column
+slice_aggregate_add_to_column : tie.Need-slice_bounds-add_to_column-end
 slice_aggregate_add_to_column c =
-    let p = c.before in
-    let old = p.before.before.before in
-    let all : 256 ≡ length old.before.before.args.self.rows = slice_aggregate_all old in
-    sym (length-take-le p.power_of_two.result old.before.before.args.self.rows (omega (arith, fits p, all)))
+    let all : 256 ≡ length c.args.self.rows = slice_aggregate_all c.before.before.before in
+    sym (length-take-le c.power_of_two-size.result c.args.self.rows (omega (arith, fits c, all)))
 
-array_borrow_prefix_rows : tie.Need-array-borrow-prefix-rows
-array_borrow_prefix_rows c = fits c.before
+array_borrow_prefix_rows : tie.Need-slice_bounds-rows-end
+array_borrow_prefix_rows c = fits c
 
-slice_aggregate_add_to_column_2 : tie.Need-slice-aggregate-add-to-column-2
-slice_aggregate_add_to_column_2 c = sym (length-take-le _ _ (fits c.before.before))
+slice_aggregate_add_to_column_2 : tie.Need-slice_bounds-add_to_column-end-2
+slice_aggregate_add_to_column_2 c = sym (length-take-le _ _ (fits c.before))
 
 -- what column addition answered, with an array as long as the rows
-answered : (q : tie.After-add-to-column) →
-    let p = q.before.before.before in
-    let a = p.before.before.before.before.before.args in
-    let size = p.power_of_two.result in
+answered : (q : tie.After-add_to_column-added) →
+    let a = q.args in
+    let size = q.power_of_two-size.result in
     (room : ℕ) × (room ≡ size)
-    × (said_written q.add_to_column.result
+    × (said_written q.add_to_column-added.result
     ≡ reply_after (first (addition_checks a.self.n a.self.m (take size a.self.rows) a.j a.w a.b room)) [])
-answered q = (_, length-take-le _ _ (fits q.before.before.before), q.add_to_column.ensures.reply)
+answered q = (_, length-take-le _ _ (fits q.before.before), q.add_to_column-added.ensures.reply)
 
-returns-2 : tie.Need-returns-2
+returns-2 : tie.Need-returns-in-Declined
 returns-2 c =
-    let q = c.before.before.before.before.before in
-    let p = q.before.before.before in
-    let a = p.before.before.before.before.before.args in
-    let t = answered q in
-    let h = sym (ap said_written c.before.before.added.given.1) ∙ t.2 in
-    add_declined a.self a.j a.w a.b _ t.0 (boxed p.before) p.power_of_two.ensures.0 t.1 h c.declined2.ensures
+    let a = c.args in
+    let t = answered c.before.before.before in
+    let h = sym (ap said_written c.in-Declined.is) ∙ t.2 in
+    add_declined a.self a.j a.w a.b _ t.0 (boxed c.before.before.before.before.before.before) c.power_of_two-size.ensures.0 t.1 h c.declined-in-Declined.ensures
 
-returns-3 : tie.Need-returns-3
+returns-3 : tie.Need-returns
 unfolding answered
 returns-3 c =
-    let q = c.before.before.before in
-    let p = q.before.before.before in
-    let a = p.before.before.before.before.before.args in
-    let t = answered q in
-    let h = sym (ap said_written c.enum_told.given.1) ∙ t.2 in
-    add_done a.self a.j a.w a.b _ t.0 (boxed p.before) p.power_of_two.ensures.0 t.1 h _ _ q.add_to_column.ensures.content
+    let a = c.args in
+    let t = answered c.before.before in
+    let h = sym (ap said_written c.in_default.is) ∙ t.2 in
+    add_done a.self a.j a.w a.b _ t.0 (boxed c.before.before.before.before.before) c.power_of_two-size.ensures.0 t.1 h _ _ c.add_to_column-added.ensures.content
 
 pub add_spec : {M : Type 1} → statement M
 add_spec =

@@ -12,45 +12,40 @@ use borrow.Author.Rules.{rules}
 use Rattle.design.proofs.Design.mark.Statement.{statement}
 use Rattle.design.proofs.Design.mark.Tie as tie
 
-returns : tie.Need-returns
+returns : tie.Need-returns-then-not-in_range
 unfolding mark_checks state_of_design
 returns c =
-    let then = c.before in
-    let a = then.before.before.args in
-    mark_refused a.self a.k (sym (found (stop (fails then.before.in_range.ensures then.if1.true)))) c.declined.ensures
+    let a = c.args in
+    mark_refused a.self a.k (sym (found (stop (fails c.in_range.ensures c.if-not-in_range.true-raw)))) c.declined.ensures
 
 -- there is a box in it, where that was passed
-boxed : (c : tie.Else1) → in_range 1 8 c.before.before.args.self.n ≡ true
-boxed c = holds c.before.in_range.ensures c.if1.false
+boxed : (c : tie.Else-not-in_range) → in_range 1 8 c.args.self.n ≡ true
+boxed c = holds c.in_range.ensures c.if-not-in_range.false-raw
 
-returns-2 : tie.Need-returns-2
+returns-2 : tie.Need-returns-then-not-in_range-2
 unfolding mark_checks state_of_design
 returns-2 c =
-    let then = c.before in
-    let else = then.before.before in
-    let a = else.before.before.args in
-    let out = fails then.before.in_range2.ensures then.if2.true in
-    mark_refused a.self a.k (sym (found (skip (boxed else) (stop out)))) c.declined2.ensures
+    let a = c.args in
+    let out = fails c.in_range-2.ensures c.if-not-in_range-2.true-raw in
+    mark_refused a.self a.k (sym (found (skip (boxed c.before.before.before) (stop out)))) c.declined-then-not-in_range-2.ensures
 
 -- the mark's number, where it was passed
-numbered : (c : tie.Else2) → in_range 1 16 c.before.before.before.before.args.k ≡ true
-numbered c = holds c.before.in_range2.ensures c.if2.false
+numbered : (c : tie.Else-not-in_range-2) → in_range 1 16 c.args.k ≡ true
+numbered c = holds c.in_range-2.ensures c.if-not-in_range-2.false-raw
 
-sub_i : tie.Need-overflow-sub-i
-sub_i c = let k = c.before.before.before.before.args.k in omega (arith, range_low 1 16 k (numbered c))
+sub_i : tie.Need-overflow_sub-i
+sub_i c = let k = c.args.k in omega (arith, range_low 1 16 k (numbered c))
 
-element_set_from_design : tie.Need-element-set-from-design
+element_set_from_design : tie.Need-bounds-design-i
 element_set_from_design c =
-    let else = c.before in
-    let k = else.before.before.before.before.args.k in
-    omega (arith, range_low 1 16 k (numbered else), range_high 1 16 k (numbered else))
+    let k = c.args.k in
+    omega (arith, range_low 1 16 k (numbered c.before), range_high 1 16 k (numbered c.before))
 
-returns-3 : tie.Need-returns-3
+returns-3 : tie.Need-returns
 unfolding mark_checks state_of_design
 returns-3 c =
-    let else = c.before in
-    let a = else.before.before.before.before.args in
-    mark_done a.self a.k (sym (found (skip (boxed else.before.before) (skip (numbered else) end))))
+    let a = c.args in
+    mark_done a.self a.k (sym (found (skip (boxed c.before.before.before) (skip (numbered c.before) end))))
 
 pub mark_spec : {M : Type 1} → statement M
 mark_spec =

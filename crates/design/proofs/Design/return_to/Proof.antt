@@ -13,56 +13,51 @@ use borrow.Author.Rules.{rules}
 use Rattle.design.proofs.Design.return_to.Statement.{statement}
 use Rattle.design.proofs.Design.return_to.Tie as tie
 
-returns : tie.Need-returns
+returns : tie.Need-returns-then-not-in_range
 unfolding return_checks state_of_design
 returns c =
-    let then = c.before in
-    let a = then.before.before.args in
-    return_refused a.t1 a.k (sym (found (stop (fails then.before.in_range.ensures then.if1.true)))) c.declined.ensures
+    let a = c.args in
+    return_refused a.self a.k (sym (found (stop (fails c.in_range.ensures c.if-not-in_range.true-raw)))) c.declined.ensures
 
 -- there is a box in it, where that was passed
-boxed : (c : tie.Else1) → in_range 1 8 c.before.before.args.t1.n ≡ true
-boxed c = holds c.before.in_range.ensures c.if1.false
+boxed : (c : tie.Else-not-in_range) → in_range 1 8 c.args.self.n ≡ true
+boxed c = holds c.in_range.ensures c.if-not-in_range.false-raw
 
-returns-2 : tie.Need-returns-2
+returns-2 : tie.Need-returns-then-not-in_range-2
 unfolding return_checks state_of_design
 returns-2 c =
-    let then = c.before in
-    let else = then.before.before in
-    let a = else.before.before.args in
-    let out = fails then.before.in_range2.ensures then.if2.true in
-    return_refused a.t1 a.k (sym (found (skip (boxed else) (stop out)))) c.declined2.ensures
+    let a = c.args in
+    let out = fails c.in_range-2.ensures c.if-not-in_range-2.true-raw in
+    return_refused a.self a.k (sym (found (skip (boxed c.before.before.before) (stop out)))) c.declined-then-not-in_range-2.ensures
 
 -- the mark's number, where it was passed
-numbered : (c : tie.Else2) → in_range 1 16 c.before.before.before.before.args.k ≡ true
-numbered c = holds c.before.in_range2.ensures c.if2.false
+numbered : (c : tie.Else-not-in_range-2) → in_range 1 16 c.args.k ≡ true
+numbered c = holds c.in_range-2.ensures c.if-not-in_range-2.false-raw
 
-sub_place : tie.Need-overflow-sub-place
-sub_place c = let k = c.before.before.before.before.args.k in omega (arith, range_low 1 16 k (numbered c))
+sub_place : tie.Need-overflow_sub-place
+sub_place c = let k = c.args.k in omega (arith, range_low 1 16 k (numbered c))
 
-element_copy_out_here : tie.Need-element-copy-out-here
+element_copy_out_here : tie.Need-bounds-self-place
 element_copy_out_here c =
-    let k = c.before.before.before.before.args.k in
+    let k = c.args.k in
     omega (arith, range_low 1 16 k (numbered c), range_high 1 16 k (numbered c))
 
-returns-3 : tie.Need-returns-3
+returns-3 : tie.Need-returns-then-here-ne1
 unfolding return_checks state_of_design
 returns-3 c =
-    let else = c.before.before.before.before in
-    let a = else.before.before.before.before.args in
-    let out = sym (set_at a.t1 a.k) ∙ ne_eqb _ 1 c.before.if3.true in
-    return_refused a.t1 a.k (sym (found (skip (boxed else.before.before) (skip (numbered else) (stop out))))) c.declined3.ensures
+    let a = c.args in
+    let out = sym (set_at a.self a.k) ∙ ne_eqb _ 1 c.if-here-ne1.true in
+    return_refused a.self a.k (sym (found (skip (boxed c.before.before.before.before.before.before) (skip (numbered c.before.before.before.before) (stop out))))) c.declined-then-here-ne1.ensures
 
-returns-4 : tie.Need-returns-4
+returns-4 : tie.Need-returns
 unfolding return_checks state_of_design
 returns-4 c =
-    let else = c.before.before.before.before in
-    let a = else.before.before.before.before.args in
-    let b = boxed else.before.before in
-    let q = numbered else in
-    let t = eq-eqb _ 1 c.before.if3.false in
-    let h = sym (found (skip b (skip q (skip (sym (set_at a.t1 a.k) ∙ t) end)))) in
-    return_done a.t1 a.k b (range_low 1 16 a.k q) (range_high 1 16 a.k q) t h
+    let a = c.args in
+    let b = boxed c.before.before.before.before.before.before in
+    let q = numbered c.before.before.before.before in
+    let t = eq-eqb _ 1 c.if-here-ne1.false in
+    let h = sym (found (skip b (skip q (skip (sym (set_at a.self a.k) ∙ t) end)))) in
+    return_done a.self a.k b (range_low 1 16 a.k q) (range_high 1 16 a.k q) t h
 
 pub return_to_spec : {M : Type 1} → statement M
 return_to_spec =

@@ -10,34 +10,30 @@ use Rattle.server.proofs.Checks.{held_low, held_high, ask_refused, ask_unfinishe
 use Rattle.server.proofs.Server.ask.Statement.{statement}
 use Rattle.server.proofs.Server.ask.Tie as tie
 
-returns : tie.Need-returns
+returns : tie.Need-returns-in-Refused
 returns c =
-    let p = c.before.before.before in
-    ask_refused p.before.args.t1 p.before.args.place (sym p.check_held.ensures ∙ c.before.e.given.1)
+    ask_refused c.args.self c.args.place (sym c.check_held.ensures ∙ c.in-Refused.is)
 
-accepted : (c : tie.After-enum-told) →
-    let a = c.before.before.before.args in
-    first (held_checks (state_of_server a.t1) a.place) ≡ Accepted
-accepted c = sym c.before.before.check_held.ensures ∙ c.enum_told.given.1
+accepted : (c : tie.In_default) →
+    let a = c.args in
+    first (held_checks (state_of_server a.self) a.place) ≡ Accepted
+accepted c = sym c.check_held.ensures ∙ c.in_default.is
 
-sub_i : tie.Need-overflow-sub-i
+sub_i : tie.Need-overflow_sub-i
 sub_i c = held_low _ _ (accepted c)
 
-element_copy_out_asked : tie.Need-element-copy-out-asked
-element_copy_out_asked c = let a = c.before.before.before.args in omega (arith, held_low (state_of_server a.t1) a.place (accepted c), held_high (state_of_server a.t1) a.place (accepted c))
+element_copy_out_asked : tie.Need-bounds-self-i
+element_copy_out_asked c = let a = c.args in omega (arith, held_low (state_of_server a.self) a.place (accepted c), held_high (state_of_server a.self) a.place (accepted c))
 
-returns-2 : tie.Need-returns-2
+returns-2 : tie.Need-returns-then-unfinished
 returns-2 c =
-    let told = c.before.before.before in
-    let a = told.before.before.before.args in
-    ask_unfinished a.t1 a.place (accepted told) (sym c.before.unfinished.ensures ∙ c.if1.true)
+    let a = c.args in
+    ask_unfinished a.self a.place (accepted c.before.before.before) (sym c.unfinished.ensures ∙ c.if-unfinished.true)
 
-returns-3 : tie.Need-returns-3
+returns-3 : tie.Need-returns
 returns-3 c =
-    let test = c.before.before in
-    let told = test.before.before in
-    let a = told.before.before.before.args in
-    ask_finished a.t1 a.place (accepted told) (sym test.unfinished.ensures ∙ c.before.if1.false)
+    let a = c.args in
+    ask_finished a.self a.place (accepted c.before.before.before.before) (sym c.unfinished.ensures ∙ c.if-unfinished.false)
 
 pub ask_spec : {M : Type 1} → statement M
 ask_spec =

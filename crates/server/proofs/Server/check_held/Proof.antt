@@ -12,33 +12,31 @@ use Rattle.server.proofs.Places.{taken_at}
 use Rattle.server.proofs.Server.check_held.Statement.{statement}
 use Rattle.server.proofs.Server.check_held.Tie as tie
 
-returns : tie.Need-returns
+returns : tie.Need-returns-then-not-in_range
 unfolding held_checks
-returns c = found (stop (fails c.before.in_range.ensures c.if1.true))
+returns c = found (stop (fails c.in_range.ensures c.if-not-in_range.true-raw))
 
 -- the place's number, where it was passed
-numbered : (c : tie.Else1) → in_range 1 8 c.before.before.args.place ≡ true
-numbered c = holds c.before.in_range.ensures c.if1.false
+numbered : (c : tie.Else-not-in_range) → in_range 1 8 c.args.place ≡ true
+numbered c = holds c.in_range.ensures c.if-not-in_range.false-raw
 
-sub_i : tie.Need-overflow-sub-i
+sub_i : tie.Need-overflow_sub-i
 sub_i c = range_low 1 8 _ (numbered c)
 
-element_copy_out_here : tie.Need-element-copy-out-here
-element_copy_out_here c = omega (arith, range_low 1 8 c.before.before.args.place (numbered c), range_high 1 8 c.before.before.args.place (numbered c))
+element_copy_out_here : tie.Need-bounds-self-i
+element_copy_out_here c = omega (arith, range_low 1 8 c.args.place (numbered c), range_high 1 8 c.args.place (numbered c))
 
-returns-2 : tie.Need-returns-2
+returns-2 : tie.Need-returns-then-here-ne1
 unfolding held_checks
 returns-2 c =
-    let else = c.before.before.before in
-    let a = else.before.before.args in
-    found (skip (numbered else) (stop (sym (taken_at a.t1 a.place) ∙ ne_eqb _ 1 c.if2.true)))
+    let a = c.args in
+    found (skip (numbered c.before.before.before) (stop (sym (taken_at a.self a.place) ∙ ne_eqb _ 1 c.if-here-ne1.true)))
 
-returns-3 : tie.Need-returns-3
+returns-3 : tie.Need-returns
 unfolding held_checks
 returns-3 c =
-    let else = c.before.before.before in
-    let a = else.before.before.args in
-    found (skip (numbered else) (skip (sym (taken_at a.t1 a.place) ∙ eq-eqb _ 1 c.if2.false) end))
+    let a = c.args in
+    found (skip (numbered c.before.before.before) (skip (sym (taken_at a.self a.place) ∙ eq-eqb _ 1 c.if-here-ne1.false) end))
 
 pub check_held_spec : {M : Type 1} → statement M
 check_held_spec =

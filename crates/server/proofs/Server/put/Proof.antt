@@ -11,36 +11,34 @@ use Rattle.server.proofs.Checks.{put_low, put_high, put_box, refused_put, accept
 use Rattle.server.proofs.Server.put.Statement.{statement}
 use Rattle.server.proofs.Server.put.Tie as tie
 
-returns : tie.Need-returns
+returns : tie.Need-returns-in-Refused
 returns c =
-    let p = c.before.before.before.before in
-    let a = p.before.before.args in
-    refused_put a.self a.place a.n a.m a.rows.now (sym p.check_put.ensures ∙ c.before.before.e.given.1) c.declined.ensures
+    let a = c.args in
+    refused_put a.self a.place a.n a.m a.rows.now (sym c.check_put.ensures ∙ c.in-Refused.is) c.declined.ensures
 
-accepted : (c : tie.After-enum-told) →
-    let a = c.before.before.before.before.args in
+accepted : (c : tie.In_default) →
+    let a = c.args in
     first (put_checks (state_of_server a.self) a.place a.n a.m a.rows.now) ≡ Accepted
-accepted c = sym c.before.before.check_put.ensures ∙ c.enum_told.given.1
+accepted c = sym c.check_put.ensures ∙ c.in_default.is
 
-sub_i : tie.Need-overflow-sub-i
+sub_i : tie.Need-overflow_sub-i
 sub_i c = put_low _ _ _ _ _ (accepted c)
 
-fresh_requires : tie.Need-fresh-requires
+fresh_requires : tie.Need-fresh-with_box-requires
 fresh_requires c κs = put_box _ _ _ _ _ (accepted c)
 
-with_place_requires : tie.Need-with-place-requires
+with_place_requires : tie.Need-with_place-filled-requires
 with_place_requires c κs =
-    let a = c.before.before.before.before.before.args in
+    let a = c.args in
     let h = accepted c.before in
     let s = state_of_server a.self in
     omega (arith, put_low s a.place a.n a.m a.rows.now h, put_high s a.place a.n a.m a.rows.now h)
 
-returns-2 : tie.Need-returns-2
+returns-2 : tie.Need-returns
 returns-2 c =
-    let put = c.before in
-    let a = put.before.before.before.before.before.args in
-    accepted_put a.self a.place a.n a.m a.rows.now (accepted put.before)
-    (c.with_place_lem.ensures ∙ ap (replaced a.self (a.place - 1)) put.fresh.ensures)
+    let a = c.args in
+    accepted_put a.self a.place a.n a.m a.rows.now (accepted c.before.before)
+    (c.with_place-filled.ensures ∙ ap (replaced a.self (a.place - 1)) c.fresh-with_box.ensures)
 
 pub put_spec : {M : Type 1} → statement M
 put_spec =

@@ -11,31 +11,29 @@ use Rattle.server.proofs.Checks.{held_low, held_high, refused_withdrawal, accept
 use Rattle.server.proofs.Server.withdraw.Statement.{statement}
 use Rattle.server.proofs.Server.withdraw.Tie as tie
 
-returns : tie.Need-returns
+returns : tie.Need-returns-in-Refused
 returns c =
-    let p = c.before.before.before.before in
-    refused_withdrawal p.before.args.self p.before.args.place (sym p.check_held.ensures ∙ c.before.before.reason.given.1)
+    refused_withdrawal c.args.self c.args.place (sym c.check_held.ensures ∙ c.in-Refused.is)
     c.declined.ensures
 
-accepted : (c : tie.After-enum-told) →
-    let a = c.before.before.before.args in
+accepted : (c : tie.In_default) →
+    let a = c.args in
     first (held_checks (state_of_server a.self) a.place) ≡ Accepted
-accepted c = sym c.before.before.check_held.ensures ∙ c.enum_told.given.1
+accepted c = sym c.check_held.ensures ∙ c.in_default.is
 
-sub_i : tie.Need-overflow-sub-i
+sub_i : tie.Need-overflow_sub-i
 sub_i c = held_low _ _ (accepted c)
 
-with_place_requires : tie.Need-with-place-requires
+with_place_requires : tie.Need-with_place-cleared-requires
 with_place_requires c κs =
-    let a = c.before.before.before.before.args in
+    let a = c.args in
     omega (arith, held_low (state_of_server a.self) a.place (accepted c.before), held_high (state_of_server a.self) a.place (accepted c.before))
 
-returns-2 : tie.Need-returns-2
+returns-2 : tie.Need-returns
 returns-2 c =
-    let emptied = c.before in
-    let a = emptied.before.before.before.before.args in
-    accepted_withdrawal a.self a.place (accepted emptied.before)
-    (c.with_place_lem.ensures ∙ ap (replaced a.self (a.place - 1)) emptied.vacant.ensures)
+    let a = c.args in
+    accepted_withdrawal a.self a.place (accepted c.before.before)
+    (c.with_place-cleared.ensures ∙ ap (replaced a.self (a.place - 1)) c.vacant-none.ensures)
 
 pub withdraw_spec : {M : Type 1} → statement M
 withdraw_spec =
