@@ -48,7 +48,7 @@ module _ (word : String) (ask : ℕ → Reply) {i limit : ℕ} (same : i ≡ lim
 
   pub limited_shown : {given : List ℕ} → ask i ≡ figures given → outcome_of (limited word (ask limit) limit) ≡ prints (line (bytes word) (given ++ (i ∷ [])))
   unfolding outcome_of
-  limited_shown h = rw (← same, h, ← same)
+  limited_shown h = rw (← same, h)
 
 -- the limit on combinations, up to 16 outputs and above
 pub limit_all : (m : ℕ) → m ≤ 16 → m ≡ sheet_limit m

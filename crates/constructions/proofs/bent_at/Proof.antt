@@ -8,35 +8,33 @@ use Rattle.constructions.proofs.bent_at.Statement.{statement}
 use Rattle.constructions.proofs.bent_at.Tie as tie
 
 -- the two halves of the input
-parts : (c : tie.After-power-of-two) → let a = c.before.before.before.args in Halves a.z c.power_of_two.result
+parts : (c : tie.After-power_of_two-size) → let a = c.args in Halves a.z c.power_of_two-size.result
 parts c =
-    let start = c.before.before.before in
-    let a = start.args in
-    halves a.h a.z c.power_of_two.result c.power_of_two.ensures.0 start.requires.0.h_high start.requires.1
+    let a = c.args in
+    halves a.h a.z c.power_of_two-size.result c.power_of_two-size.ensures.0 c.requires.0.h_high c.requires.1
 
-div_x : tie.Need-nonzero-div-x
+div_x : tie.Need-nonzero_div-x
 div_x c = omega (arith, parts c)
 
-rem_y : tie.Need-nonzero-rem-y
+rem_y : tie.Need-nonzero_rem-y
 rem_y c = omega (arith, parts c)
 
-shared_slice_read_dot : tie.Need-shared-slice-read-dot
+shared_slice_read_dot : tie.Need-bounds-permutation-x
 shared_slice_read_dot c = omega (arith, parts c.before)
 
-cast_dot : tie.Need-overflow-cast-dot
-cast_dot c = record { fits = lt_of_lt_of_le (c.shared_slice_known3.given _).fits (lit≤ tt) }
+cast_dot : tie.Need-overflow_cast-permutation
+cast_dot c = record { fits = lt_of_lt_of_le (c.shared_slice_known-3-1.given _).fits (lit≤ tt) }
 
-cast_dot_2 : tie.Need-overflow-cast-dot-2
+cast_dot_2 : tie.Need-overflow_cast-y
 cast_dot_2 c = omega (arith, parts c.before)
 
-shared_slice_read_result : tie.Need-shared-slice-read-result
+shared_slice_read_result : tie.Need-bounds-table-x
 shared_slice_read_result c = omega (arith, parts c.before.before.before)
 
 returns : tie.Need-returns
 returns c =
-    let sized = c.before.before.before in
-    let a = sized.before.before.before.args in
-    bent_is a.h a.z sized.power_of_two.result sized.power_of_two.ensures.0 a.permutation.now a.table.now _ c.before.dot.ensures.0
+    let a = c.args in
+    bent_is a.h a.z c.power_of_two-size.result c.power_of_two-size.ensures.0 a.permutation.now a.table.now _ c.dot-product.ensures.0
 
 pub bent_at_spec : {M : Type 1} → statement M
 bent_at_spec =

@@ -10,22 +10,22 @@ use Rattle.constructions.proofs.Accepted.{bent_accepts}
 use Rattle.constructions.proofs.bent_function.Statement.{statement}
 use Rattle.constructions.proofs.bent_function.Tie as tie
 
-returns : tie.Need-returns
-returns c = wrote_refused (sym c.before.before.before.check_bent.ensures ∙ c.before.e.given.1)
+returns : tie.Need-returns-in-Refused
+returns c = wrote_refused (sym c.check_bent.ensures ∙ c.in-Refused.is)
 
 -- past the `if` the checks found nothing
-accepted : (c : tie.After-enum-told) →
-    let a = c.before.before.before.before.before.before.args in
+accepted : (c : tie.In_default) →
+    let a = c.args in
     first (bent_checks a.n a.permutation.now a.table.now (length a.out.now)) ≡ Accepted
-accepted c = sym c.before.before.check_bent.ensures ∙ c.enum_told.given.1
+accepted c = sym c.check_bent.ensures ∙ c.in_default.is
 
-write_bent_requires : tie.Need-write-bent-requires
+write_bent_requires : tie.Need-write_bent-requires
 write_bent_requires c κs =
-    let a = c.before.before.before.before.before.before.before.args in
+    let a = c.args in
     bent_accepts a.n a.permutation.now a.table.now (length a.out.now) (accepted c.before)
 
-returns-2 : tie.Need-returns-2
-returns-2 c = wrote_accepted (accepted c.before.before.before.before) c.before.before.write_bent.ensures
+returns-2 : tie.Need-returns
+returns-2 c = wrote_accepted (accepted c.before.before.before.before) c.write_bent.ensures
 
 pub bent_function_spec : {M : Type 1} → statement M
 bent_function_spec =

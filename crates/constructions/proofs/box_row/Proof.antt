@@ -10,28 +10,24 @@ use Rattle.constructions.proofs.box_row.Statement.{statement}
 use Rattle.constructions.proofs.box_row.Tie as tie
 
 -- the two parts of the row are as small as those that they are made of
-row_small : (c : tie.After-column-at) → c.before.row_at.result < 2 ^ c.before.before.before.before.args.n
+row_small : (c : tie.After-column_at-top) → c.row_at-row.result < 2 ^ c.args.n
 row_small c =
-    let start = c.before.before.before.before in
-    let a = start.args in
-    subst (λ (r : ℕ). r < 2 ^ a.n) (sym c.before.row_at.ensures) (enlarged_lt a.n a.k a.x (at a.rows.now) 0 a.n start.requires.0.rows_below (pow_pos a.n))
+    let a = c.args in
+    subst (λ (r : ℕ). r < 2 ^ a.n) (sym c.row_at-row.ensures) (enlarged_lt a.n a.k a.x (at a.rows.now) 0 a.n c.requires.0.rows_below (pow_pos a.n))
 
-top_bit : (c : tie.After-column-at) → c.column_at.result < 2
+top_bit : (c : tie.After-column_at-top) → c.column_at-top.result < 2
 top_bit c =
-    let start = c.before.before.before.before in
-    let a = start.args in
-    subst (λ (r : ℕ). r < 2) (sym c.column_at.ensures) (enlarged_lt a.n a.k a.x (at a.table.now) _ 1 start.requires.0.bits (lit< tt))
+    let a = c.args in
+    subst (λ (r : ℕ). r < 2) (sym c.column_at-top.ensures) (enlarged_lt a.n a.k a.x (at a.table.now) _ 1 c.requires.0.bits (lit< tt))
 
-add_result : tie.Need-overflow-add-result
+add_result : tie.Need-overflow_add-result
 add_result c =
-    let start = c.before.before.before.before in
-    record { fits = row_fits start.args.n c.before.row_at.result c.column_at.result start.requires.0.widths.n_high (top_bit c) (row_small c) }
+    record { fits = row_fits c.args.n c.row_at-row.result c.column_at-top.result c.requires.0.widths.n_high (top_bit c) (row_small c) }
 
 returns : tie.Need-returns
 returns c =
-    let start = c.before.before.before.before in
-    ap (λ (t : ℕ). c.before.row_at.result + t) (shifted start.args.n c.before.row_at.result c.column_at.result start.requires.0.widths.n_high (top_bit c))
-    ∙ ap₂ (λ (r t : ℕ). r + t * 2 ^ start.args.n) c.before.row_at.ensures c.column_at.ensures
+    ap (λ (t : ℕ). c.row_at-row.result + t) (shifted c.args.n c.row_at-row.result c.column_at-top.result c.requires.0.widths.n_high (top_bit c))
+    ∙ ap₂ (λ (r t : ℕ). r + t * 2 ^ c.args.n) c.row_at-row.ensures c.column_at-top.ensures
 
 pub box_row_spec : {M : Type 1} → statement M
 box_row_spec =

@@ -9,17 +9,15 @@ use Rattle.constructions.proofs.Enlarging.{enlarged_lower, enlarged_upper}
 use Rattle.constructions.proofs.column_at.Statement.{statement}
 use Rattle.constructions.proofs.column_at.Tie as tie
 
-returns : tie.Need-returns
+returns : tie.Need-returns-then-x-power_of_two
 returns c =
-    let p = c.before.before.before in
-    let a = p.before.before.args in
-    ap (at a.table.now) p.source.ensures.0 ∙ enlarged_lower a.n a.k a.x (at a.table.now) a.a (omega arith)
+    let a = c.args in
+    ap (at a.table.now) c.source.ensures.0 ∙ enlarged_lower a.n a.k a.x (at a.table.now) a.a (omega arith)
 
-returns-2 : tie.Need-returns-2
+returns-2 : tie.Need-returns
 returns-2 c =
-    let p = c.before.before.before in
-    let a = p.before.before.args in
-    ap (λ (s : ℕ). bit_xor (at a.table.now s) a.a) p.source.ensures.0 ∙ enlarged_upper a.n a.k a.x (at a.table.now) a.a (omega arith)
+    let a = c.args in
+    ap (λ (s : ℕ). bit_xor (at a.table.now s) a.a) c.source.ensures.0 ∙ enlarged_upper a.n a.k a.x (at a.table.now) a.a (omega arith)
 
 pub column_at_spec : {M : Type 1} → statement M
 column_at_spec =

@@ -10,22 +10,22 @@ use Rattle.constructions.proofs.Accepted.{box_accepts}
 use Rattle.constructions.proofs.enlarge_box.Statement.{statement}
 use Rattle.constructions.proofs.enlarge_box.Tie as tie
 
-returns : tie.Need-returns
-returns c = wrote_refused (sym c.before.before.before.check_enlarge.ensures ∙ c.before.e.given.1)
+returns : tie.Need-returns-in-Refused
+returns c = wrote_refused (sym c.check_enlarge.ensures ∙ c.in-Refused.is)
 
 -- past the `if` the checks found nothing
-accepted : (c : tie.After-enum-told) →
-    let a = c.before.before.before.before.before.before.args in
+accepted : (c : tie.In_default) →
+    let a = c.args in
     first (enlarge_checks a.n a.rows.now a.table.now a.k (length a.out.now)) ≡ Accepted
-accepted c = sym c.before.before.check_enlarge.ensures ∙ c.enum_told.given.1
+accepted c = sym c.check_enlarge.ensures ∙ c.in_default.is
 
-write_box_requires : tie.Need-write-box-requires
+write_box_requires : tie.Need-write_box-requires
 write_box_requires c κs =
-    let a = c.before.before.before.before.before.before.before.args in
+    let a = c.args in
     box_accepts a.n a.rows.now a.table.now a.k (length a.out.now) (accepted c.before)
 
-returns-2 : tie.Need-returns-2
-returns-2 c = wrote_accepted (accepted c.before.before.before.before) c.before.before.write_box.ensures
+returns-2 : tie.Need-returns
+returns-2 c = wrote_accepted (accepted c.before.before.before.before) c.write_box.ensures
 
 pub enlarge_box_spec : {M : Type 1} → statement M
 enlarge_box_spec =

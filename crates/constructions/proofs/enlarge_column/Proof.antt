@@ -10,22 +10,22 @@ use Rattle.constructions.proofs.Accepted.{column_accepts}
 use Rattle.constructions.proofs.enlarge_column.Statement.{statement}
 use Rattle.constructions.proofs.enlarge_column.Tie as tie
 
-returns : tie.Need-returns
-returns c = wrote_refused (sym c.before.before.before.check_column.ensures ∙ c.before.e.given.1)
+returns : tie.Need-returns-in-Refused
+returns c = wrote_refused (sym c.check_column.ensures ∙ c.in-Refused.is)
 
 -- past the `if` the checks found nothing
-accepted : (c : tie.After-enum-told) →
-    let a = c.before.before.before.before.before.args in
+accepted : (c : tie.In_default) →
+    let a = c.args in
     first (column_checks a.n a.table.now a.k a.a (length a.out.now)) ≡ Accepted
-accepted c = sym c.before.before.check_column.ensures ∙ c.enum_told.given.1
+accepted c = sym c.check_column.ensures ∙ c.in_default.is
 
-write_column_requires : tie.Need-write-column-requires
+write_column_requires : tie.Need-write_column-requires
 write_column_requires c κs =
-    let a = c.before.before.before.before.before.before.args in
+    let a = c.args in
     column_accepts a.n a.table.now a.k a.a (length a.out.now) (accepted c.before)
 
-returns-2 : tie.Need-returns-2
-returns-2 c = wrote_accepted (accepted c.before.before.before.before) c.before.before.write_column.ensures
+returns-2 : tie.Need-returns
+returns-2 c = wrote_accepted (accepted c.before.before.before.before) c.write_column.ensures
 
 pub enlarge_column_spec : {M : Type 1} → statement M
 enlarge_column_spec =

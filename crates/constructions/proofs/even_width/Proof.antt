@@ -7,11 +7,11 @@ use Rattle.constructions.proofs.BentValues.{and_fails, and_holds}
 use Rattle.constructions.proofs.even_width.Statement.{statement}
 use Rattle.constructions.proofs.even_width.Tie as tie
 
-returns : tie.Need-returns
-returns c = and_fails (eqb (c.before.before.args.n % 2) 0) (fails c.before.in_range.ensures c.if1.true)
+returns : tie.Need-returns-then-not-in_range
+returns c = and_fails (eqb (c.args.n % 2) 0) (fails c.in_range.ensures c.if-not-in_range.true-raw)
 
-returns-2 : tie.Need-returns-2
-returns-2 c = and_holds (eqb (c.before.before.args.n % 2) 0) (holds c.before.in_range.ensures c.if1.false)
+returns-2 : tie.Need-returns
+returns-2 c = and_holds (eqb (c.args.n % 2) 0) (holds c.in_range.ensures c.if-not-in_range.false-raw)
 
 pub even_width_spec : {M : Type 1} → statement M
 even_width_spec =

@@ -6,7 +6,7 @@ use Rattle.constructions.proofs.has_inputs.Statement.{statement}
 use Rattle.constructions.proofs.has_inputs.Tie as tie
 
 returns : tie.Need-returns
-returns c = ap (eqb c.before.args.count) c.power_of_two.ensures.0
+returns c = ap (eqb c.args.count) c.power_of_two.ensures.0
 
 pub has_inputs_spec : {M : Type 1} → statement M
 has_inputs_spec =

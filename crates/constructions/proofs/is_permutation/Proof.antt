@@ -8,15 +8,14 @@ use Rattle.constructions.proofs.BentValues.{and_fails, and_holds}
 use Rattle.constructions.proofs.is_permutation.Statement.{statement}
 use Rattle.constructions.proofs.is_permutation.Tie as tie
 
-returns : tie.Need-returns
+returns : tie.Need-returns-then-not-values_below
 unfolding is_permutation
-returns c = and_fails (distinct c.before.before.before.args.entries.now) (fails c.before.values_below.ensures c.if1.true)
+returns c = and_fails (distinct c.args.entries.now) (fails c.values_below.ensures c.if-not-values_below.true-raw)
 
-returns-2 : tie.Need-returns-2
+returns-2 : tie.Need-returns
 unfolding is_permutation
 returns-2 c =
-    let asked = c.before.before in
-    c.bytes_distinct.ensures ∙ and_holds (distinct asked.before.before.args.entries.now) (holds asked.values_below.ensures c.before.if1.false)
+    c.bytes_distinct.ensures ∙ and_holds (distinct c.args.entries.now) (holds c.values_below.ensures c.if-not-values_below.false-raw)
 
 pub is_permutation_spec : {M : Type 1} → statement M
 is_permutation_spec =

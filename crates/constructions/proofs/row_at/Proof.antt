@@ -8,8 +8,8 @@ use Rattle.constructions.proofs.row_at.Tie as tie
 
 returns : tie.Need-returns
 returns c =
-    let a = c.before.before.before.args in
-    ap (at a.rows.now) c.before.source.ensures.0 ∙ enlarged_zero a.n a.k a.x (at a.rows.now)
+    let a = c.args in
+    ap (at a.rows.now) c.source.ensures.0 ∙ enlarged_zero a.n a.k a.x (at a.rows.now)
 
 pub row_at_spec : {M : Type 1} → statement M
 row_at_spec =

@@ -8,23 +8,23 @@ use Rattle.constructions.proofs.Enlarging.{source_lower, source_upper, flipped_l
 use Rattle.constructions.proofs.source.Statement.{statement}
 use Rattle.constructions.proofs.source.Tie as tie
 
-returns : tie.Need-returns
+returns : tie.Need-returns-then-x-size
 returns c =
-    let a = c.before.before.args in
+    let a = c.args in
     (source_lower a.n a.k a.x (omega arith), omega arith)
 
 -- what is returned in the upper half, with both powers as the definitions have them
-flipped : (c : tie.After-power-of-two2) →
-    let a = c.before.before.before.args in
-    bit_xor (a.x - c.before.before.power_of_two.result) c.power_of_two2.result ≡ bit_xor (a.x - 2 ^ a.n) (2 ^ (a.k - 1))
+flipped : (c : tie.After-power_of_two) →
+    let a = c.args in
+    bit_xor (a.x - c.power_of_two-size.result) c.power_of_two.result ≡ bit_xor (a.x - 2 ^ a.n) (2 ^ (a.k - 1))
 flipped c =
-    let a = c.before.before.before.args in
-    ap₂ (λ (s t : ℕ). bit_xor (a.x - s) t) c.before.before.power_of_two.ensures.0 c.power_of_two2.ensures.0
+    let a = c.args in
+    ap₂ (λ (s t : ℕ). bit_xor (a.x - s) t) c.power_of_two-size.ensures.0 c.power_of_two.ensures.0
 
-returns-2 : tie.Need-returns-2
+returns-2 : tie.Need-returns
 returns-2 c =
-    let a = c.before.before.before.args in
-    let p = c.before.before.before.requires in
+    let a = c.args in
+    let p = c.requires in
     let upper : 2 ^ a.n ≤ a.x = omega arith in
     (flipped c ∙ source_upper a.n a.k a.x upper, subst (λ (r : ℕ). r < 2 ^ a.n) (sym (flipped c)) (flipped_lt a.n a.k a.x p.0 upper p.1))
 

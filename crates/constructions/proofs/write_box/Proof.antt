@@ -8,36 +8,36 @@ use Rattle.boolean.proofs.Filled.{Filled, filled_none, filled_more, filled_whole
 use Rattle.constructions.proofs.write_box.Statement.{statement}
 use Rattle.constructions.proofs.write_box.Tie as tie
 
-abbrev invariant-loop : tie.invariant-loop
-invariant-loop n rows table k out₀ x₀ out x = Filled 0 (λ y. enlarged n (at rows) k 0 y + enlarged n (at table) k 1 y * 2 ^ n) (2 ^ suc n) x out
+abbrev invariant-loop-x : tie.invariant-loop-x
+invariant-loop-x n rows table k out₀ x₀ out x = Filled 0 (λ y. enlarged n (at rows) k 0 y + enlarged n (at table) k 1 y * 2 ^ n) (2 ^ suc n) x out
 
-abbrev decreases-loop : tie.decreases-loop
-decreases-loop n rows table k out₀ x₀ out x = 2 ^ suc n - x
+abbrev decreases-loop-x : tie.decreases-loop-x
+decreases-loop-x n rows table k out₀ x₀ out x = 2 ^ suc n - x
 
-loop-holds : tie.Need-loop-init invariant-loop decreases-loop
+loop-holds : tie.Need-loop-x-init invariant-loop-x decreases-loop-x
 loop-holds c = filled_none _ _ _ _ (omega arith)
 
-box_row_requires : tie.Need-box-row-requires invariant-loop decreases-loop
-box_row_requires c κs = (c.before.before.before.before.before.requires.0, omega (arith, c.before.loop.invariant.long))
+box_row_requires : tie.Need-box_row-requires invariant-loop-x decreases-loop-x
+box_row_requires c κs = (c.requires.0, omega (arith, c.loop-x.invariant.long))
 
-slice_write_out : tie.Need-slice-write-out invariant-loop decreases-loop
-slice_write_out c = omega (arith, c.before.before.loop.invariant.long)
+slice_write_out : tie.Need-bounds-out-x invariant-loop-x decreases-loop-x
+slice_write_out c = omega (arith, c.loop-x.invariant.long)
 
-loop_less : tie.Need-loop-smaller invariant-loop decreases-loop
-loop_less c = omega (arith, c.before.before.loop.invariant.long)
+loop_less : tie.Need-loop-x-smaller invariant-loop-x decreases-loop-x
+loop_less c = omega (arith, c.loop-x.invariant.long)
 
-loop-again : tie.Need-loop-preserved invariant-loop decreases-loop
-loop-again c = filled_more _ _ _ _ _ c.before.before.loop.invariant (omega (arith, c.before.before.loop.invariant.long)) _ c.box-row.ensures
+loop-again : tie.Need-loop-x-preserved invariant-loop-x decreases-loop-x
+loop-again c = filled_more _ _ _ _ _ c.loop-x.invariant (omega (arith, c.loop-x.invariant.long)) _ c.box_row.ensures
 
-same_length : tie.Need-same-length invariant-loop decreases-loop
-same_length c = omega (arith, c.before.loop.invariant.long)
+same_length : tie.Need-shape_of-out invariant-loop-x decreases-loop-x
+same_length c = omega (arith, c.loop-x.invariant.long)
 
-returns : tie.Need-returns invariant-loop decreases-loop
+returns : tie.Need-returns invariant-loop-x decreases-loop-x
 unfolding enlarged_rows
-returns c = filled_whole _ _ _ _ _ c.before.loop.invariant (omega (arith, c.before.loop.invariant.long))
+returns c = filled_whole _ _ _ _ _ c.loop-x.invariant (omega (arith, c.loop-x.invariant.long))
 
 pub write_box_spec : {M : Type 1} → statement M
 write_box_spec =
     tie.close
-    (tie.spec invariant-loop decreases-loop loop-holds box_row_requires (λ c. search rules) slice_write_out (λ c. search rules) loop_less loop-again
+    (tie.spec invariant-loop-x decreases-loop-x loop-holds box_row_requires (λ c. search rules) slice_write_out (λ c. search rules) loop_less loop-again
     same_length returns)

@@ -5,7 +5,7 @@ use Rattle.satmegwo.proofs.satmegwo_add_to_column.Statement.{statement}
 use Rattle.satmegwo.proofs.satmegwo_add_to_column.Tie as tie
 
 returns : tie.Need-returns
-returns c = wrote_out c.before.before.before.add_to_column.ensures c.status_of.ensures
+returns c = wrote_out c.add_to_column.ensures c.status_of.ensures
 
 pub satmegwo_add_to_column_spec : {M : Type 1} → statement M
 satmegwo_add_to_column_spec =

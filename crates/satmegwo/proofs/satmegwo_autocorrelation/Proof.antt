@@ -11,19 +11,16 @@ use borrow.Author.Rules.{rules}
 use Rattle.satmegwo.proofs.satmegwo_autocorrelation.Statement.{statement}
 use Rattle.satmegwo.proofs.satmegwo_autocorrelation.Tie as tie
 
-returns : tie.Need-returns
+returns : tie.Need-returns-then-figures-ne3
 returns c =
-    let else = c.before.before in
-    let a = else.before.before.before.args in
+    let a = c.args in
     let found = first (limit_checks a.n a.m a.rows.now a.i) in
-    room_first found (shown (box_autocorrelation a.n a.m a.rows.now a.i)) (c.number_for_room.ensures ∙ ap room_number c.before.check_limited.ensures)
-    (λ ok e. else.if1.true (e ∙ change_size a.n a.m a.rows.now a.i ok))
+    room_first found (shown (box_autocorrelation a.n a.m a.rows.now a.i)) (c.number_for_room.ensures ∙ ap room_number c.check_limited.ensures)
+    (λ ok e. c.if-figures-ne3.true (e ∙ change_size a.n a.m a.rows.now a.i ok))
 
-returns-2 : tie.Need-returns-2
+returns-2 : tie.Need-returns
 returns-2 c =
-    let given = c.before.before in
-    let called = given.before.before in
-    gives_same called.autocorrelation.ensures given.give_change.ensures
+    gives_same c.autocorrelation.ensures c.give_change.ensures
 
 pub satmegwo_autocorrelation_spec : {M : Type 1} → statement M
 satmegwo_autocorrelation_spec =

@@ -5,7 +5,7 @@ use Rattle.satmegwo.proofs.satmegwo_bent_function.Statement.{statement}
 use Rattle.satmegwo.proofs.satmegwo_bent_function.Tie as tie
 
 returns : tie.Need-returns
-returns c = wrote_out c.before.before.before.bent_function.ensures c.status_of.ensures
+returns c = wrote_out c.bent_function.ensures c.status_of.ensures
 
 pub satmegwo_bent_function_spec : {M : Type 1} → statement M
 satmegwo_bent_function_spec =

@@ -6,9 +6,7 @@ use Rattle.satmegwo.proofs.satmegwo_bijective.Tie as tie
 
 returns : tie.Need-returns
 returns c =
-    let given = c.before.before in
-    let called = given.before.before in
-    gives_same called.is_bijective.ensures given.give_verdict.ensures
+    gives_same c.is_bijective.ensures c.give_verdict.ensures
 
 pub satmegwo_bijective_spec : {M : Type 1} → statement M
 satmegwo_bijective_spec =

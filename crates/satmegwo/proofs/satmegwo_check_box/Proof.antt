@@ -8,15 +8,14 @@ use borrow.Author.Rules.{rules}
 use Rattle.satmegwo.proofs.satmegwo_check_box.Statement.{statement}
 use Rattle.satmegwo.proofs.satmegwo_check_box.Tie as tie
 
-returns : tie.Need-returns
+returns : tie.Need-returns-in-Accepted
 unfolding status
-returns c = sym (ap (λ (k : Checked). status (reply_after k [])) (sym c.before.before.check_box.ensures ∙ c.enum_told.given.1))
+returns c = sym (ap (λ (k : Checked). status (reply_after k [])) (sym c.check_box.ensures ∙ c.in-Accepted.is))
 
-returns-2 : tie.Need-returns-2
+returns-2 : tie.Need-returns-in-Refused
 unfolding status
 returns-2 c =
-    let is = c.before.before in
-    c.number_of_lem.ensures ∙ sym (ap (λ (k : Checked). status (reply_after k [])) (sym is.before.before.check_box.ensures ∙ is.e.given.1))
+    c.number_of.ensures ∙ sym (ap (λ (k : Checked). status (reply_after k [])) (sym c.check_box.ensures ∙ c.in-Refused.is))
 
 pub satmegwo_check_box_spec : {M : Type 1} → statement M
 satmegwo_check_box_spec =

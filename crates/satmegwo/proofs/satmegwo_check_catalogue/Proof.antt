@@ -6,18 +6,13 @@ use borrow.Author.Rules.{rules}
 use Rattle.satmegwo.proofs.satmegwo_check_catalogue.Statement.{statement}
 use Rattle.satmegwo.proofs.satmegwo_check_catalogue.Tie as tie
 
-returns : tie.Need-returns
+returns : tie.Need-returns-in-Number
 returns c =
-    let given = c.before.before in
-    let is = given.before.before.before.before in
-    let called = is.before.before in
-    gives_same (sym (ap said_told is.records.given.1) ∙ called.check.ensures) given.give.ensures
+    gives_same (sym (ap said_told c.in-Number.is) ∙ c.check.ensures) c.give.ensures
 
-returns-2 : tie.Need-returns-2
+returns-2 : tie.Need-returns-in-Declined
 returns-2 c =
-    let is = c.before.before in
-    let called = is.before.before in
-    gives_same (sym (ap said_told is.e.given.1) ∙ called.check.ensures) (gives_refused c.number_of_lem.ensures)
+    gives_same (sym (ap said_told c.in-Declined.is) ∙ c.check.ensures) (gives_refused c.number_of.ensures)
 
 pub satmegwo_check_catalogue_spec : {M : Type 1} → statement M
 satmegwo_check_catalogue_spec =

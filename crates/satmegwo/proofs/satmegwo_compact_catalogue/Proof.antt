@@ -6,7 +6,7 @@ use Rattle.satmegwo.proofs.satmegwo_compact_catalogue.Tie as tie
 
 returns : tie.Need-returns
 returns c =
-    let called = c.before.before.before.compact.ensures in
+    let called = c.compact.ensures in
     wrote_out called c.status_of.ensures
 
 pub satmegwo_compact_catalogue_spec : {M : Type 1} → statement M

@@ -5,7 +5,7 @@ use Rattle.satmegwo.proofs.satmegwo_component_spectrum.Statement.{statement}
 use Rattle.satmegwo.proofs.satmegwo_component_spectrum.Tie as tie
 
 returns : tie.Need-returns
-returns c = wrote_out c.before.before.spectrum_of_component.ensures c.status_of.ensures
+returns c = wrote_out c.spectrum_of_component.ensures c.status_of.ensures
 
 pub satmegwo_component_spectrum_spec : {M : Type 1} → statement M
 satmegwo_component_spectrum_spec =

@@ -12,26 +12,20 @@ use borrow.Author.Rules.{rules}
 use Rattle.satmegwo.proofs.satmegwo_degree.Statement.{statement}
 use Rattle.satmegwo.proofs.satmegwo_degree.Tie as tie
 
-returns : tie.Need-returns
+returns : tie.Need-returns-then-figures-ne2
 returns c =
-    let else = c.before.before in
-    let a = else.before.before.before.args in
+    let a = c.args in
     let found = first (limit_checks a.n a.m a.rows.now a.i) in
-    room_first found (shown (box_degree a.n a.m a.rows.now a.i)) (c.number_for_room.ensures ∙ ap room_number c.before.check_limited.ensures)
-    (λ ok e. else.if1.true (e ∙ degree_size a.n a.m a.rows.now a.i ok))
+    room_first found (shown (box_degree a.n a.m a.rows.now a.i)) (c.number_for_room.ensures ∙ ap room_number c.check_limited.ensures)
+    (λ ok e. c.if-figures-ne2.true (e ∙ degree_size a.n a.m a.rows.now a.i ok))
 
-returns-2 : tie.Need-returns-2
+returns-2 : tie.Need-returns-in-Reached
 returns-2 c =
-    let given = c.before.before in
-    let is = given.before.before.before.before in
-    let called = is.before.before in
-    gives_same (sym (ap said_degree_found is.degree2.given.1) ∙ called.degree.ensures) given.give.ensures
+    gives_same (sym (ap said_degree_found c.in-Reached.is) ∙ c.degree.ensures) c.give.ensures
 
-returns-3 : tie.Need-returns-3
+returns-3 : tie.Need-returns-in-Declined
 returns-3 c =
-    let is = c.before.before in
-    let called = is.before.before in
-    gives_same (sym (ap said_degree_found is.e.given.1) ∙ called.degree.ensures) (gives_refused c.number_of_lem.ensures)
+    gives_same (sym (ap said_degree_found c.in-Declined.is) ∙ c.degree.ensures) (gives_refused c.number_of.ensures)
 
 pub satmegwo_degree_spec : {M : Type 1} → statement M
 satmegwo_degree_spec =

@@ -12,19 +12,16 @@ use borrow.Author.Rules.{rules}
 use Rattle.satmegwo.proofs.satmegwo_dynamic_distance.Statement.{statement}
 use Rattle.satmegwo.proofs.satmegwo_dynamic_distance.Tie as tie
 
-returns : tie.Need-returns
+returns : tie.Need-returns-then-figures-ne3
 returns c =
-    let else = c.before.before in
-    let a = else.before.before.before.args in
+    let a = c.args in
     let found = first (distance_checks a.n a.m a.rows.now a.i a.j) in
-    room_first found (shown (dynamic_distance a.n a.m a.rows.now a.i a.j)) (c.number_for_room.ensures ∙ ap room_number c.before.check_distance.ensures)
-    (λ ok e. else.if1.true (e ∙ distance_size a.n a.m a.rows.now a.i a.j ok))
+    room_first found (shown (dynamic_distance a.n a.m a.rows.now a.i a.j)) (c.number_for_room.ensures ∙ ap room_number c.check_distance.ensures)
+    (λ ok e. c.if-figures-ne3.true (e ∙ distance_size a.n a.m a.rows.now a.i a.j ok))
 
-returns-2 : tie.Need-returns-2
+returns-2 : tie.Need-returns
 returns-2 c =
-    let given = c.before.before in
-    let called = given.before.before in
-    gives_same called.dynamic_distance.ensures given.give_change.ensures
+    gives_same c.dynamic_distance.ensures c.give_change.ensures
 
 pub satmegwo_dynamic_distance_spec : {M : Type 1} → statement M
 satmegwo_dynamic_distance_spec =

@@ -5,7 +5,7 @@ use Rattle.satmegwo.proofs.satmegwo_enlarge_column.Statement.{statement}
 use Rattle.satmegwo.proofs.satmegwo_enlarge_column.Tie as tie
 
 returns : tie.Need-returns
-returns c = wrote_out c.before.before.before.enlarge_column.ensures c.status_of.ensures
+returns c = wrote_out c.enlarge_column.ensures c.status_of.ensures
 
 pub satmegwo_enlarge_column_spec : {M : Type 1} → statement M
 satmegwo_enlarge_column_spec =

@@ -6,18 +6,13 @@ use borrow.Author.Rules.{rules}
 use Rattle.satmegwo.proofs.satmegwo_fetch_record.Statement.{statement}
 use Rattle.satmegwo.proofs.satmegwo_fetch_record.Tie as tie
 
-returns : tie.Need-returns
+returns : tie.Need-returns-in-Lies
 returns c =
-    let given = c.before.before in
-    let is = given.before.before.before.before in
-    let called = is.before.before in
-    gives_same (sym (ap said_fetched is.offset.given.1) ∙ called.fetch_status.ensures) given.give.ensures
+    gives_same (sym (ap said_fetched c.in-Lies.is) ∙ c.fetch_status.ensures) c.give.ensures
 
-returns-2 : tie.Need-returns-2
+returns-2 : tie.Need-returns-in-Unfetched
 returns-2 c =
-    let is = c.before.before in
-    let called = is.before.before in
-    gives_same (sym (ap said_fetched is.e.given.1) ∙ called.fetch_status.ensures) (gives_refused c.number_of_lem.ensures)
+    gives_same (sym (ap said_fetched c.in-Unfetched.is) ∙ c.fetch_status.ensures) (gives_refused c.number_of.ensures)
 
 pub satmegwo_fetch_record_spec : {M : Type 1} → statement M
 satmegwo_fetch_record_spec =

@@ -5,7 +5,7 @@ use Rattle.satmegwo.proofs.satmegwo_inverse_spectrum.Statement.{statement}
 use Rattle.satmegwo.proofs.satmegwo_inverse_spectrum.Tie as tie
 
 returns : tie.Need-returns
-returns c = wrote_out c.before.before.before.inverse_spectrum.ensures c.status_of.ensures
+returns c = wrote_out c.inverse_spectrum.ensures c.status_of.ensures
 
 pub satmegwo_inverse_spectrum_spec : {M : Type 1} → statement M
 satmegwo_inverse_spectrum_spec =

@@ -6,18 +6,13 @@ use borrow.Author.Rules.{rules}
 use Rattle.satmegwo.proofs.satmegwo_largest_cell.Statement.{statement}
 use Rattle.satmegwo.proofs.satmegwo_largest_cell.Tie as tie
 
-returns : tie.Need-returns
+returns : tie.Need-returns-in-Reached
 returns c =
-    let given = c.before.before in
-    let is = given.before.before.before.before in
-    let called = is.before.before in
-    gives_same (sym (ap said_largest_cell is.count.given.1) ∙ called.largest_cell.ensures) given.give.ensures
+    gives_same (sym (ap said_largest_cell c.in-Reached.is) ∙ c.largest_cell.ensures) c.give.ensures
 
-returns-2 : tie.Need-returns-2
+returns-2 : tie.Need-returns-in-Declined
 returns-2 c =
-    let is = c.before.before in
-    let called = is.before.before in
-    gives_same (sym (ap said_largest_cell is.e.given.1) ∙ called.largest_cell.ensures) (gives_refused c.number_of_lem.ensures)
+    gives_same (sym (ap said_largest_cell c.in-Declined.is) ∙ c.largest_cell.ensures) (gives_refused c.number_of.ensures)
 
 pub satmegwo_largest_cell_spec : {M : Type 1} → statement M
 satmegwo_largest_cell_spec =

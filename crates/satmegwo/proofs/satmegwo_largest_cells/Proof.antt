@@ -15,42 +15,34 @@ use Rattle.satmegwo.proofs.satmegwo_largest_cells.Statement.{statement}
 use Rattle.satmegwo.proofs.satmegwo_largest_cells.Tie as tie
 
 -- with one element lent for the figure, the checks are those of the call
-as_called : (c : tie.Else1) →
-    let a = c.before.before.before.before.args in
+as_called : (c : tie.Else-figures-ne1) →
+    let a = c.args in
     first (cells_checks a.n a.m a.rows.now (length a.figures.now) (length a.list.now)) ≡ first (list_checks a.n a.m a.rows.now (length a.list.now))
 unfolding cells_checks list_checks
-as_called c = let a = c.before.before.before.before.args in room_passed (box_checks a.n a.m a.rows.now) _ (eq-eqb _ 1 c.if1.false)
+as_called c = let a = c.args in room_passed (box_checks a.n a.m a.rows.now) _ (eq-eqb _ 1 c.if-figures-ne1.false)
 
-returns : tie.Need-returns
+returns : tie.Need-returns-then-figures-ne1
 unfolding cells_checks
 returns c =
-    let else = c.before.before in
-    let a = else.before.before.before.before.args in
-    let t = room_refused (box_checks a.n a.m a.rows.now) _ (ne_eqb _ 1 else.if1.true) in
-    let n = c.number_for_room.ensures ∙ ap room_number c.before.check_box.ensures ∙ t.number_is in
+    let a = c.args in
+    let t = room_refused (box_checks a.n a.m a.rows.now) _ (ne_eqb _ 1 c.if-figures-ne1.true) in
+    let n = c.number_for_room.ensures ∙ ap room_number c.check_box.ensures ∙ t.number_is in
     (out_refused t.is n, out_refused t.is n)
 
-returns-2 : tie.Need-returns-2
+returns-2 : tie.Need-returns-in-Listed
 returns-2 c =
-    let given = c.before.before in
-    let is = given.before.before.before.before in
-    let called = is.before.before.before.before in
-    let else = called.before.before in
-    let a = else.before.before.before.before.args in
+    let a = c.args in
     let cells = largest_cells a.n a.m a.rows.now in
-    let wrote = wrote_by (sym (as_called else)) called.largest_cells.ensures in
-    let count = out_figures (length cells ∷ []) else.if1.false (sym (ap said_cell_list is.count.given.1) ∙ wrote.reply) given.give.ensures in
+    let wrote = wrote_by (sym (as_called c.before.before.before.before.before.before.before.before.before.before)) c.largest_cells.ensures in
+    let count = out_figures (length cells ∷ []) c.if-figures-ne1.false (sym (ap said_cell_list c.in-Listed.is) ∙ wrote.reply) c.give.ensures in
     (count, out_beside count wrote)
 
-returns-3 : tie.Need-returns-3
+returns-3 : tie.Need-returns-in-Unlisted
 returns-3 c =
-    let is = c.before.before in
-    let called = is.before.before.before.before in
-    let else = called.before.before in
-    let a = else.before.before.before.before.args in
+    let a = c.args in
     let cells = largest_cells a.n a.m a.rows.now in
-    let wrote = wrote_by (sym (as_called else)) called.largest_cells.ensures in
-    let count = out_refusal (length cells ∷ []) (sym (ap said_cell_list is.e.given.1) ∙ wrote.reply) c.number_of_lem.ensures in
+    let wrote = wrote_by (sym (as_called c.before.before.before.before.before.before)) c.largest_cells.ensures in
+    let count = out_refusal (length cells ∷ []) (sym (ap said_cell_list c.in-Unlisted.is) ∙ wrote.reply) c.number_of.ensures in
     (count, out_beside count wrote)
 
 pub satmegwo_largest_cells_spec : {M : Type 1} → statement M

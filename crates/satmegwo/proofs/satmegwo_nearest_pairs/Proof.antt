@@ -17,12 +17,12 @@ use Rattle.satmegwo.proofs.satmegwo_nearest_pairs.Statement.{statement}
 use Rattle.satmegwo.proofs.satmegwo_nearest_pairs.Tie as tie
 
 -- with one element lent for the number, the checks are those of the call
-as_called : (c : tie.Else1) →
-    let a = c.before.before.before.before.args in
+as_called : (c : tie.Else-counts-ne1) →
+    let a = c.args in
     first (nearest_checks a.n a.m a.rows.now a.i (length a.figures.now) (length a.list.now))
     ≡ first (pairs_checks a.n a.m a.rows.now a.i (length a.list.now))
 unfolding nearest_checks pairs_checks
-as_called c = let a = c.before.before.before.before.args in room_passed (limit_checks a.n a.m a.rows.now a.i) _ (eq-eqb _ 1 c.if1.false)
+as_called c = let a = c.args in room_passed (limit_checks a.n a.m a.rows.now a.i) _ (eq-eqb _ 1 c.if-counts-ne1.false)
 
 -- the one element is written
 one_written : (l : List ℕ) (v : ℕ) → length l ≡ 1 → set l 0 v ≡ v ∷ []
@@ -30,37 +30,32 @@ one_written [] v e = absurd (omega arith)
 one_written (x ∷ []) v e = refl
 one_written (x ∷ y ∷ l) v e = absurd (omega arith)
 
-returns : tie.Need-returns
+returns : tie.Need-returns-then-counts-ne1
 unfolding nearest_checks
 returns c =
-    let then = c.before.before in
-    let a = then.before.before.before.before.args in
-    let t = room_refused (limit_checks a.n a.m a.rows.now a.i) _ (ne_eqb _ 1 then.if1.true) in
-    let n = c.number_for_room.ensures ∙ ap room_number c.before.check_limited.ensures ∙ t.number_is in
+    let a = c.args in
+    let t = room_refused (limit_checks a.n a.m a.rows.now a.i) _ (ne_eqb _ 1 c.if-counts-ne1.true) in
+    let n = c.number_for_room.ensures ∙ ap room_number c.check_limited.ensures ∙ t.number_is in
     (out_refused t.is n, out_refused t.is n)
 
-slice_write_figures : tie.Need-slice-write-figures
-slice_write_figures c = omega (arith, c.before.before.before.before.before.before.before.if1.false)
+slice_write_figures : tie.Need-bounds-figures-0
+slice_write_figures c = omega (arith, c.if-counts-ne1.false)
 
-returns-2 : tie.Need-returns-2
+returns-2 : tie.Need-returns-in-Listed
 returns-2 c =
-    let called = c.before.before.before.before.before in
-    let else = called.before.before in
-    let a = else.before.before.before.before.args in
+    let a = c.args in
     let pairs = nearest_pairs a.n a.m a.rows.now a.i in
-    let wrote = wrote_by (sym (as_called else)) called.nearest_pairs.ensures in
-    let count = out_figures (length pairs ∷ []) else.if1.false (sym (ap said_pair_list c.before.count.given.1) ∙ wrote.reply)
-    (gives_all else.if1.false (one_written a.figures.now c.before.count.given.0.0 else.if1.false)) in
+    let wrote = wrote_by (sym (as_called c.before.before.before.before.before)) c.nearest_pairs.ensures in
+    let count = out_figures (length pairs ∷ []) c.if-counts-ne1.false (sym (ap said_pair_list c.in-Listed.is) ∙ wrote.reply)
+    (gives_all c.if-counts-ne1.false (one_written a.figures.now c.in-Listed.count c.if-counts-ne1.false)) in
     (count, out_beside count wrote)
 
-returns-3 : tie.Need-returns-3
+returns-3 : tie.Need-returns-in-Declined
 returns-3 c =
-    let called = c.before.before.before.before.before.before in
-    let else = called.before.before in
-    let a = else.before.before.before.before.args in
+    let a = c.args in
     let pairs = nearest_pairs a.n a.m a.rows.now a.i in
-    let wrote = wrote_by (sym (as_called else)) called.nearest_pairs.ensures in
-    let count = out_refusal (length pairs ∷ []) (sym (ap said_pair_list c.before.before.e.given.1) ∙ wrote.reply) c.number_of_lem.ensures in
+    let wrote = wrote_by (sym (as_called c.before.before.before.before.before.before)) c.nearest_pairs.ensures in
+    let count = out_refusal (length pairs ∷ []) (sym (ap said_pair_list c.in-Declined.is) ∙ wrote.reply) c.number_of.ensures in
     (count, out_beside count wrote)
 
 pub satmegwo_nearest_pairs_spec : {M : Type 1} → statement M

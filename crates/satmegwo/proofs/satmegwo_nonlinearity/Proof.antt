@@ -12,26 +12,20 @@ use borrow.Author.Rules.{rules}
 use Rattle.satmegwo.proofs.satmegwo_nonlinearity.Statement.{statement}
 use Rattle.satmegwo.proofs.satmegwo_nonlinearity.Tie as tie
 
-returns : tie.Need-returns
+returns : tie.Need-returns-then-figures-ne4
 returns c =
-    let else = c.before.before in
-    let a = else.before.before.before.args in
+    let a = c.args in
     let found = first (limit_checks a.n a.m a.rows.now a.i) in
-    room_first found (shown (nonlinearity a.n a.m a.rows.now a.i)) (c.number_for_room.ensures ∙ ap room_number c.before.check_limited.ensures)
-    (λ ok e. else.if1.true (e ∙ pair_size a.n a.m a.rows.now a.i ok))
+    room_first found (shown (nonlinearity a.n a.m a.rows.now a.i)) (c.number_for_room.ensures ∙ ap room_number c.check_limited.ensures)
+    (λ ok e. c.if-figures-ne4.true (e ∙ pair_size a.n a.m a.rows.now a.i ok))
 
-returns-2 : tie.Need-returns-2
+returns-2 : tie.Need-returns-in-Reached
 returns-2 c =
-    let given = c.before.before in
-    let is = given.before.before.before.before in
-    let called = is.before.before in
-    gives_same (sym (ap said_least_pair is.count.given.1) ∙ called.nonlinearity.ensures) given.give.ensures
+    gives_same (sym (ap said_least_pair c.in-Reached.is) ∙ c.nonlinearity.ensures) c.give.ensures
 
-returns-3 : tie.Need-returns-3
+returns-3 : tie.Need-returns-in-Declined
 returns-3 c =
-    let is = c.before.before in
-    let called = is.before.before in
-    gives_same (sym (ap said_least_pair is.e.given.1) ∙ called.nonlinearity.ensures) (gives_refused c.number_of_lem.ensures)
+    gives_same (sym (ap said_least_pair c.in-Declined.is) ∙ c.nonlinearity.ensures) (gives_refused c.number_of.ensures)
 
 pub satmegwo_nonlinearity_spec : {M : Type 1} → statement M
 satmegwo_nonlinearity_spec =

@@ -5,7 +5,7 @@ use Rattle.satmegwo.proofs.satmegwo_normal_form.Statement.{statement}
 use Rattle.satmegwo.proofs.satmegwo_normal_form.Tie as tie
 
 returns : tie.Need-returns
-returns c = wrote_out c.before.before.before.normal_form.ensures c.status_of.ensures
+returns c = wrote_out c.normal_form.ensures c.status_of.ensures
 
 pub satmegwo_normal_form_spec : {M : Type 1} → statement M
 satmegwo_normal_form_spec =

@@ -5,7 +5,7 @@ use Rattle.satmegwo.proofs.satmegwo_pack_columns.Statement.{statement}
 use Rattle.satmegwo.proofs.satmegwo_pack_columns.Tie as tie
 
 returns : tie.Need-returns
-returns c = wrote_out c.before.before.before.pack.ensures c.status_of.ensures
+returns c = wrote_out c.pack.ensures c.status_of.ensures
 
 pub satmegwo_pack_columns_spec : {M : Type 1} → statement M
 satmegwo_pack_columns_spec = tie.close (tie.spec (λ c κs. search rules) (λ c κs. search rules) (λ c. search rules) returns)

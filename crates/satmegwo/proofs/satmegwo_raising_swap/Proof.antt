@@ -11,33 +11,24 @@ use borrow.Author.Rules.{rules}
 use Rattle.satmegwo.proofs.satmegwo_raising_swap.Statement.{statement}
 use Rattle.satmegwo.proofs.satmegwo_raising_swap.Tie as tie
 
-returns : tie.Need-returns
+returns : tie.Need-returns-then-figures-ne4
 returns c =
-    let else = c.before.before in
-    let a = else.before.before.before.args in
+    let a = c.args in
     let found = first (box_checks_up_to 8 a.n a.m a.rows.now) in
-    room_first found (raised a.n a.m a.rows.now) (c.number_for_room.ensures ∙ ap room_number c.before.check_box_up_to.ensures)
-    (λ ok e. else.if1.true (e ∙ swap_size a.n a.m a.rows.now))
+    room_first found (raised a.n a.m a.rows.now) (c.number_for_room.ensures ∙ ap room_number c.check_box_up_to.ensures)
+    (λ ok e. c.if-figures-ne4.true (e ∙ swap_size a.n a.m a.rows.now))
 
-returns-2 : tie.Need-returns-2
+returns-2 : tie.Need-returns-in-Raised
 returns-2 c =
-    let given = c.before.before in
-    let is = given.before.before.before.before in
-    let called = is.before.before in
-    gives_same (sym (ap said_raising_swap is.low.given.1) ∙ called.raising_swap.ensures) given.give.ensures
+    gives_same (sym (ap said_raising_swap c.in-Raised.is) ∙ c.raising_swap.ensures) c.give.ensures
 
-returns-3 : tie.Need-returns-3
+returns-3 : tie.Need-returns-in-NoSwap
 returns-3 c =
-    let given = c.before.before in
-    let is = given.before.before.before in
-    let called = is.before.before in
-    gives_same (sym (ap said_raising_swap is.enum_told.given.1) ∙ called.raising_swap.ensures) given.give2.ensures
+    gives_same (sym (ap said_raising_swap c.in-NoSwap.is) ∙ c.raising_swap.ensures) c.give-in-NoSwap.ensures
 
-returns-4 : tie.Need-returns-4
+returns-4 : tie.Need-returns-in-Declined
 returns-4 c =
-    let is = c.before.before in
-    let called = is.before.before in
-    gives_same (sym (ap said_raising_swap is.e.given.1) ∙ called.raising_swap.ensures) (gives_refused c.number_of_lem.ensures)
+    gives_same (sym (ap said_raising_swap c.in-Declined.is) ∙ c.raising_swap.ensures) (gives_refused c.number_of.ensures)
 
 pub satmegwo_raising_swap_spec : {M : Type 1} → statement M
 satmegwo_raising_swap_spec =

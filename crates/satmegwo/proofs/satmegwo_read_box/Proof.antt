@@ -15,51 +15,43 @@ use Rattle.satmegwo.proofs.satmegwo_read_box.Statement.{statement}
 use Rattle.satmegwo.proofs.satmegwo_read_box.Tie as tie
 
 -- with two elements lent for the figures, the checks are those of the call
-as_called : (c : tie.Else1) →
-    let a = c.before.before.before.before.args in
+as_called : (c : tie.Else-figures-ne2) →
+    let a = c.args in
     first (read_box_checks a.file.now (length a.rows.now) (length a.figures.now)) ≡ first (file_checks a.file.now (length a.rows.now))
 unfolding read_box_checks
 as_called c =
-    let a = c.before.before.before.before.args in
-    room_passed (file_checks a.file.now (length a.rows.now)) [] (eq-eqb _ 2 c.if1.false) ∙ ap first (append-nil _)
+    let a = c.args in
+    room_passed (file_checks a.file.now (length a.rows.now)) [] (eq-eqb _ 2 c.if-figures-ne2.false) ∙ ap first (append-nil _)
 
-returns : tie.Need-returns
+returns : tie.Need-returns-then-figures-ne2
 unfolding read_box_checks
 returns c =
-    let else = c.before.before in
-    let a = else.before.before.before.before.args in
+    let a = c.args in
     let file = a.file.now in
-    let t = room_refused (file_checks file (length a.rows.now)) [] (ne_eqb _ 2 else.if1.true) in
-    let n = c.number_for_room.ensures ∙ ap room_number c.before.check_file.ensures ∙ t.number_is in
+    let t = room_refused (file_checks file (length a.rows.now)) [] (ne_eqb _ 2 c.if-figures-ne2.true) in
+    let n = c.number_for_room.ensures ∙ ap room_number c.check_file.ensures ∙ t.number_is in
     (out_refused t.is n, out_refused t.is n)
 
-returns-2 : tie.Need-returns-2
+returns-2 : tie.Need-returns-in-Read
 returns-2 c =
-    let given = c.before.before in
-    let is = given.before.before.before.before in
-    let called = is.before.before.before.before in
-    let else = called.before.before in
-    let a = else.before.before.before.before.args in
+    let a = c.args in
     let file = a.file.now in
     let widths = at file 0 ∷ at file 1 ∷ [] in
-    let as_here = sym (as_called else) in
-    let reply = called.read_box.ensures.reply ∙ ap (λ (k : Checked). reply_after k widths) as_here in
-    let rows = called.read_box.ensures.content ∙ ap (λ (k : Checked). after k (file_rows file (at file 0)) a.rows.now) as_here in
-    let figured = out_figures widths else.if1.false (sym (ap said_box_file is.n.given.1) ∙ reply) given.give.ensures in
+    let as_here = sym (as_called c.before.before.before.before.before.before.before.before.before.before) in
+    let reply = c.read_box.ensures.reply ∙ ap (λ (k : Checked). reply_after k widths) as_here in
+    let rows = c.read_box.ensures.content ∙ ap (λ (k : Checked). after k (file_rows file (at file 0)) a.rows.now) as_here in
+    let figured = out_figures widths c.if-figures-ne2.false (sym (ap said_box_file c.in-Read.is) ∙ reply) c.give.ensures in
     (figured, record { number = figured.number; content = rows })
 
-returns-3 : tie.Need-returns-3
+returns-3 : tie.Need-returns-in-Declined
 returns-3 c =
-    let is = c.before.before in
-    let called = is.before.before.before.before in
-    let else = called.before.before in
-    let a = else.before.before.before.before.args in
+    let a = c.args in
     let file = a.file.now in
     let widths = at file 0 ∷ at file 1 ∷ [] in
-    let as_here = sym (as_called else) in
-    let reply = called.read_box.ensures.reply ∙ ap (λ (k : Checked). reply_after k widths) as_here in
-    let rows = called.read_box.ensures.content ∙ ap (λ (k : Checked). after k (file_rows file (at file 0)) a.rows.now) as_here in
-    let figured = out_refusal widths (sym (ap said_box_file is.e.given.1) ∙ reply) c.number_of_lem.ensures in
+    let as_here = sym (as_called c.before.before.before.before.before.before) in
+    let reply = c.read_box.ensures.reply ∙ ap (λ (k : Checked). reply_after k widths) as_here in
+    let rows = c.read_box.ensures.content ∙ ap (λ (k : Checked). after k (file_rows file (at file 0)) a.rows.now) as_here in
+    let figured = out_refusal widths (sym (ap said_box_file c.in-Declined.is) ∙ reply) c.number_of.ensures in
     (figured, record { number = figured.number; content = rows })
 
 pub satmegwo_read_box_spec : {M : Type 1} → statement M

@@ -6,7 +6,7 @@ use Rattle.satmegwo.proofs.satmegwo_remove_record.Tie as tie
 
 returns : tie.Need-returns
 returns c =
-    let called = c.before.before.before.remove.ensures in
+    let called = c.remove.ensures in
     wrote_out called c.status_of.ensures
 
 pub satmegwo_remove_record_spec : {M : Type 1} → statement M

@@ -27,41 +27,35 @@ module _ {file old : List ℕ} {size : ℕ} {made : List ℕ} (w : SheetWritten 
       let short : 0 + length (sheet_text file) ≤ length old = omega (arith, w.size, w.inside) in
       ap₂ (λ (k : ℕ) (l : List ℕ). take k l) w.size (w.text ∙ sets-eq (sheet_text file) old 0 short) ∙ take-append_seam (sheet_text file) _
 
-returns : tie.Need-returns
+returns : tie.Need-returns-then-text-ne332
 returns c =
-    let h = sym (found (stop (ne_eqb _ 332 c.before.if1.true))) in
-    (out_refused h c.number_of_lem.ensures, out_refused h c.number_of_lem.ensures)
+    let h = sym (found (stop (ne_eqb _ 332 c.if-text-ne332.true))) in
+    (out_refused h c.number_of.ensures, out_refused h c.number_of.ensures)
 
-returns-2 : tie.Need-returns-2
+returns-2 : tie.Need-returns-then-room-ne1
 returns-2 c =
-    let h = sym (found (skip (eq-eqb _ 332 c.before.before.if1.false) (stop (ne_eqb _ 1 c.before.if2.true)))) in
-    (out_refused h c.number_of2.ensures, out_refused h c.number_of2.ensures)
+    let h = sym (found (skip (eq-eqb _ 332 c.if-text-ne332.false) (stop (ne_eqb _ 1 c.if-room-ne1.true)))) in
+    (out_refused h c.number_of-then-room-ne1.ensures, out_refused h c.number_of-then-room-ne1.ensures)
 
-inside : (c : tie.After-write-sheet) → c.write_sheet.result ≤ length c.write_sheet.new.1.0
-inside c = made_inside c.write_sheet.ensures refl
+inside : (c : tie.After-write_sheet-size) → c.write_sheet-size.result ≤ length c.write_sheet-size.new.text
+inside c = made_inside c.write_sheet-size.ensures refl
 
-put_bytes_requires : tie.Need-put-bytes-requires
+put_bytes_requires : tie.Need-put_bytes-requires
 put_bytes_requires c κs =
-    let wrote = c.before.before in
-    let else = wrote.before.before.before in
-    let size = wrote.write_sheet.result in
-    let room : 0 + length (take size wrote.write_sheet.new.1.0) ≤ length else.before.before.before.before.args.text.now =
-    omega (arith, length-take-le size wrote.write_sheet.new.1.0 (inside wrote), wrote.write_sheet.ensures.inside, else.if1.false) in
+    let size = c.write_sheet-size.result in
+    let room : 0 + length (take size c.write_sheet-size.new.text) ≤ length c.args.text.now =
+    omega (arith, length-take-le size c.write_sheet-size.new.text (inside c.before.before), c.write_sheet-size.ensures.inside, c.if-text-ne332.false) in
     room
 
-returns-3 : tie.Need-returns-3
+returns-3 : tie.Need-returns
 returns-3 c =
-    let given = c.before.before in
-    let put = given.before.before.before.before.before in
-    let wrote = put.before.before.before in
-    let else = wrote.before.before in
-    let a = else.before.before.before.before.before.args in
-    let written = wrote.write_sheet.ensures in
+    let a = c.args in
+    let written = c.write_sheet-size.ensures in
     let h : first (sheet_checks (length a.text.now) (length a.figures.now)) ≡ Accepted =
-    sym (found (skip (eq-eqb _ 332 else.before.if1.false) (skip (eq-eqb _ 1 else.if2.false) end))) in
+    sym (found (skip (eq-eqb _ 332 c.if-text-ne332.false) (skip (eq-eqb _ 1 c.if-room-ne1.false) end))) in
     let size = length (sheet_text a.file.now) ∷ [] in
-    let figured = out_figures size else.if2.false (ap (λ (k : ℕ). figures (k ∷ [])) written.size ∙ reply_accepted h size) given.give.ensures in
-    let text = put.put_bytes.ensures.1 ∙ ap (sets a.text.now 0) (made_is written refl) ∙ after_accepted h _ _ in
+    let figured = out_figures size c.if-room-ne1.false (ap (λ (k : ℕ). figures (k ∷ [])) written.size ∙ reply_accepted h size) c.give.ensures in
+    let text = c.put_bytes.ensures.1 ∙ ap (sets a.text.now 0) (made_is written refl) ∙ after_accepted h _ _ in
     (figured, record { number = figured.number; content = text })
 
 pub satmegwo_sheet_spec : {M : Type 1} → statement M

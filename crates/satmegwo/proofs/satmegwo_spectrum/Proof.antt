@@ -5,7 +5,7 @@ use Rattle.satmegwo.proofs.satmegwo_spectrum.Statement.{statement}
 use Rattle.satmegwo.proofs.satmegwo_spectrum.Tie as tie
 
 returns : tie.Need-returns
-returns c = wrote_out c.before.before.spectrum.ensures c.status_of.ensures
+returns c = wrote_out c.spectrum.ensures c.status_of.ensures
 
 pub satmegwo_spectrum_spec : {M : Type 1} → statement M
 satmegwo_spectrum_spec =

@@ -32,21 +32,16 @@ four s = box1 s ∷ box2 s ∷ box3 s ∷ box4 s ∷ []
 abbrev summed : tie.Start → List Summand
 summed s = first_given s.args.count (four s)
 
-returns : tie.Need-returns
+returns : tie.Need-returns-then-figures-count
 returns c =
-    let checked = c.before in
-    let then = checked.before in
-    let s = then.before.before.before.before.before.before in
-    let a = s.args in
-    room_first (first (sum_checks a.count (four s) a.i)) (shown (sum_nonlinearity (summed s) (components (outputs_of (summed s)) a.i)))
-    (c.number_for_room.ensures ∙ ap room_number checked.check_sum.ensures)
-    (λ accepted e. then.if1.true (e ∙ figures_number a.count (box1 s) (box2 s) (box3 s) (box4 s) a.i accepted))
+    let a = c.args in
+    room_first (first (sum_checks a.count (four c.before.before.before.before.before.before.before.before) a.i)) (shown (sum_nonlinearity (summed c.before.before.before.before.before.before.before.before) (components (outputs_of (summed c.before.before.before.before.before.before.before.before)) a.i)))
+    (c.number_for_room.ensures ∙ ap room_number c.check_sum-found.ensures)
+    (λ accepted e. c.if-figures-count.true (e ∙ figures_number a.count (box1 c.before.before.before.before.before.before.before.before) (box2 c.before.before.before.before.before.before.before.before) (box3 c.before.before.before.before.before.before.before.before) (box4 c.before.before.before.before.before.before.before.before) a.i accepted))
 
-returns-2 : tie.Need-returns-2
+returns-2 : tie.Need-returns
 returns-2 c =
-    let first_given = c.before.before in
-    let called = first_given.before.before in
-    gives_same called.sum_nonlinearity.ensures.says first_given.give_sum.ensures
+    gives_same c.sum_nonlinearity-answer.ensures.says c.give_sum.ensures
 
 pub satmegwo_sum_nonlinearity_spec : {M : Type 1} → statement M
 satmegwo_sum_nonlinearity_spec =

@@ -5,7 +5,7 @@ use Rattle.satmegwo.proofs.satmegwo_unpack_columns.Statement.{statement}
 use Rattle.satmegwo.proofs.satmegwo_unpack_columns.Tie as tie
 
 returns : tie.Need-returns
-returns c = wrote_out c.before.before.before.unpack.ensures c.status_of.ensures
+returns c = wrote_out c.unpack.ensures c.status_of.ensures
 
 pub satmegwo_unpack_columns_spec : {M : Type 1} → statement M
 satmegwo_unpack_columns_spec = tie.close (tie.spec (λ c κs. search rules) (λ c κs. search rules) (λ c. search rules) returns)

@@ -5,7 +5,7 @@ use Rattle.satmegwo.proofs.satmegwo_write_box.Statement.{statement}
 use Rattle.satmegwo.proofs.satmegwo_write_box.Tie as tie
 
 returns : tie.Need-returns
-returns c = wrote_out c.before.before.before.write_box.ensures c.status_of.ensures
+returns c = wrote_out c.write_box.ensures c.status_of.ensures
 
 pub satmegwo_write_box_spec : {M : Type 1} → statement M
 satmegwo_write_box_spec =

@@ -5,7 +5,7 @@ use Rattle.satmegwo.proofs.satmegwo_xor_row.Statement.{statement}
 use Rattle.satmegwo.proofs.satmegwo_xor_row.Tie as tie
 
 returns : tie.Need-returns
-returns c = wrote_out c.before.before.before.xor_row.ensures c.status_of.ensures
+returns c = wrote_out c.xor_row.ensures c.status_of.ensures
 
 pub satmegwo_xor_row_spec : {M : Type 1} → statement M
 satmegwo_xor_row_spec =

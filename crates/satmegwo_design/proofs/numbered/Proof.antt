@@ -7,7 +7,7 @@ use Rattle.satmegwo_design.proofs.numbered.Statement.{statement}
 use Rattle.satmegwo_design.proofs.numbered.Tie as tie
 
 returns : tie.Need-returns
-returns c = (refl, ap number_says c.status_of.ensures ∙ says_answer c.before.before.args.tuned.answer)
+returns c = (refl, ap number_says c.status_of-status.ensures ∙ says_answer c.args.tuned.answer)
 
 pub numbered_spec : {M : Type 1} → statement M
 numbered_spec = tie.close (tie.spec (λ c κs. search rules) returns)

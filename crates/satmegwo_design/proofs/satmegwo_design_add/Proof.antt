@@ -7,8 +7,8 @@ use Rattle.satmegwo_design.proofs.satmegwo_design_add.Tie as tie
 
 returns : tie.Need-returns
 returns c =
-    let a = c.before.before.args in
-    handed_out (DesignAdded a.design a.j a.w a.b) c.numbered.ensures c.before.add.ensures
+    let a = c.args in
+    handed_out (DesignAdded a.design a.j a.w a.b) c.numbered.ensures c.add.ensures
 
 pub satmegwo_design_add_spec : {M : Type 1} → statement M
 satmegwo_design_add_spec = tie.close (tie.spec (λ c κs. search rules) (λ c κs. search rules) returns)

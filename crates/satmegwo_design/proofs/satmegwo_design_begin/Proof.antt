@@ -7,8 +7,8 @@ use Rattle.satmegwo_design.proofs.satmegwo_design_begin.Tie as tie
 
 returns : tie.Need-returns
 returns c =
-    let a = c.before.before.before.args in
-    handed_out (DesignBegun a.n a.m a.rows.now) c.numbered.ensures c.before.begin.ensures
+    let a = c.args in
+    handed_out (DesignBegun a.n a.m a.rows.now) c.numbered.ensures c.begin.ensures
 
 pub satmegwo_design_begin_spec : {M : Type 1} → statement M
 satmegwo_design_begin_spec = tie.close (tie.spec (λ c κs. search rules) (λ c κs. search rules) returns)

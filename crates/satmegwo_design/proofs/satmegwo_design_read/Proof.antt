@@ -16,64 +16,56 @@ use Rattle.satmegwo_design.proofs.satmegwo_design_read.Statement.{statement}
 use Rattle.satmegwo_design.proofs.satmegwo_design_read.Tie as tie
 
 -- with two elements lent for the figures, the checks are those of the call
-as_called : (c : tie.Else1) →
-    let a = c.before.before.before.args in
+as_called : (c : tie.Else-figures-ne2) →
+    let a = c.args in
     first (read_design_checks (state_of_design a.design) (length a.rows.now) (length a.figures.now)) ≡ first (design_read_checks (state_of_design a.design) (length a.rows.now))
 unfolding read_design_checks
 as_called c =
-    let a = c.before.before.before.args in
-    room_passed (design_read_checks (state_of_design a.design) (length a.rows.now)) [] (eq-eqb _ 2 c.if1.false) ∙ ap first (append-nil _)
+    let a = c.args in
+    room_passed (design_read_checks (state_of_design a.design) (length a.rows.now)) [] (eq-eqb _ 2 c.if-figures-ne2.false) ∙ ap first (append-nil _)
 
-returns : tie.Need-returns
+returns : tie.Need-returns-then-figures-ne2
 unfolding read_design_checks
 returns c =
-    let then = c.before in
-    let a = then.before.before.before.args in
+    let a = c.args in
     let s = state_of_design a.design in
     let widths = a.design.n ∷ a.design.m ∷ [] in
     let found = first (read_design_checks s (length a.rows.now) (length a.figures.now)) in
-    let t = room_refused (design_read_checks s (length a.rows.now)) [] (ne_eqb _ 2 then.if1.true) in
+    let t = room_refused (design_read_checks s (length a.rows.now)) [] (ne_eqb _ 2 c.if-figures-ne2.true) in
     let told = refusal_told found widths a.figures.now (reply_refused t.is widths) in
     record {
-      number = c.number_of_lem.ensures ∙ only_seven s (length a.rows.now) ∙ t.number_is ∙ told.0;
+      number = c.number_of.ensures ∙ only_seven s (length a.rows.now) ∙ t.number_is ∙ told.0;
       widths = told.1;
       box = after_refused t.is _ _;
     }
 
-returns-2 : tie.Need-returns-2
+returns-2 : tie.Need-returns-in-Given
 returns-2 c =
-    let given = c.before.before in
-    let is = given.before.before.before.before in
-    let called = is.before.before.before.before in
-    let else = called.before.before in
-    let a = else.before.before.before.args in
+    let a = c.args in
     let widths = a.design.n ∷ a.design.m ∷ [] in
     let found = first (read_design_checks (state_of_design a.design) (length a.rows.now) (length a.figures.now)) in
-    let o = called.read_box.ensures in
-    let read = is.n.given.0.0 ∷ is.n.given.0.1.0 ∷ [] in
+    let o = c.read_box.ensures in
+    let read = c.in-Given.n ∷ c.in-Given.m ∷ [] in
     let reply : figures read ≡ reply_after found widths =
-    sym (ap said_box_held is.n.given.1) ∙ o.reply ∙ ap (λ (k : Checked). reply_after k widths) (sym (as_called else))
+    sym (ap said_box_held c.in-Given.is) ∙ o.reply ∙ ap (λ (k : Checked). reply_after k widths) (sym (as_called c.before.before.before.before.before.before.before.before.before.before))
     in
-    let told = figures_told found widths read a.figures.now else.if1.false reply given.give.ensures in
-    record { number = told.0; widths = told.1; box = o.content ∙ ap (λ (k : Checked). after k (design_rows a.design) a.rows.now) (sym (as_called else)) }
+    let told = figures_told found widths read a.figures.now c.if-figures-ne2.false reply c.give.ensures in
+    record { number = told.0; widths = told.1; box = o.content ∙ ap (λ (k : Checked). after k (design_rows a.design) a.rows.now) (sym (as_called c.before.before.before.before.before.before.before.before.before.before)) }
 
-returns-3 : tie.Need-returns-3
+returns-3 : tie.Need-returns-in-Declined
 returns-3 c =
-    let is = c.before.before in
-    let called = is.before.before.before.before in
-    let else = called.before.before in
-    let a = else.before.before.before.args in
+    let a = c.args in
     let widths = a.design.n ∷ a.design.m ∷ [] in
     let found = first (read_design_checks (state_of_design a.design) (length a.rows.now) (length a.figures.now)) in
-    let o = called.read_box.ensures in
-    let reply : refusal (number is.e.given.0.0) ≡ reply_after found widths =
-    sym (ap said_box_held is.e.given.1) ∙ o.reply ∙ ap (λ (k : Checked). reply_after k widths) (sym (as_called else))
+    let o = c.read_box.ensures in
+    let reply : refusal (number c.in-Declined.e) ≡ reply_after found widths =
+    sym (ap said_box_held c.in-Declined.is) ∙ o.reply ∙ ap (λ (k : Checked). reply_after k widths) (sym (as_called c.before.before.before.before.before.before))
     in
     let told = refusal_told found widths a.figures.now reply in
     record {
-      number = c.number_of2.ensures ∙ told.0;
+      number = c.number_of-in-Declined.ensures ∙ told.0;
       widths = told.1;
-      box = o.content ∙ ap (λ (k : Checked). after k (design_rows a.design) a.rows.now) (sym (as_called else));
+      box = o.content ∙ ap (λ (k : Checked). after k (design_rows a.design) a.rows.now) (sym (as_called c.before.before.before.before.before.before));
     }
 
 pub satmegwo_design_read_spec : {M : Type 1} → statement M

@@ -7,8 +7,8 @@ use Rattle.satmegwo_design.proofs.satmegwo_design_return.Tie as tie
 
 returns : tie.Need-returns
 returns c =
-    let a = c.before.before.args in
-    handed_out (DesignReturned a.design a.k) c.numbered.ensures c.before.return_to.ensures
+    let a = c.args in
+    handed_out (DesignReturned a.design a.k) c.numbered.ensures c.return_to.ensures
 
 pub satmegwo_design_return_spec : {M : Type 1} → statement M
 satmegwo_design_return_spec = tie.close (tie.spec (λ c κs. search rules) (λ c κs. search rules) returns)

@@ -7,8 +7,8 @@ use Rattle.satmegwo_design.proofs.satmegwo_design_swap.Tie as tie
 
 returns : tie.Need-returns
 returns c =
-    let a = c.before.before.args in
-    handed_out (DesignSwapped a.design a.x a.y) c.numbered.ensures c.before.swap.ensures
+    let a = c.args in
+    handed_out (DesignSwapped a.design a.x a.y) c.numbered.ensures c.swap.ensures
 
 pub satmegwo_design_swap_spec : {M : Type 1} → statement M
 satmegwo_design_swap_spec = tie.close (tie.spec (λ c κs. search rules) (λ c κs. search rules) returns)

@@ -6,44 +6,35 @@ use Rattle.satmegwo_parts.specs.Exports.{merge_checks}
 use Rattle.satmegwo_parts.proofs.check_merging.Statement.{statement}
 use Rattle.satmegwo_parts.proofs.check_merging.Tie as tie
 
-returns : tie.Need-returns
+returns : tie.Need-returns-then-x-lt3
 unfolding merge_checks
-returns c = found (stop (lt-leb _ _ c.if1.true))
+returns c = found (stop (lt-leb _ _ c.if-x-lt3.true))
 
-returns-2 : tie.Need-returns-2
+returns-2 : tie.Need-returns-then-y-x
 unfolding merge_checks
-returns-2 c = found (skip (le-leb _ _ c.before.if1.false) (stop (ne_eqb _ _ c.if2.true)))
+returns-2 c = found (skip (le-leb _ _ c.if-x-lt3.false) (stop (ne_eqb _ _ c.if-y-x.true)))
 
-returns-3 : tie.Need-returns-3
+returns-3 : tie.Need-returns-then-x-gt1
 unfolding merge_checks
 returns-3 c =
-    let p = c.before.before in
-    found (skip (le-leb _ _ p.before.if1.false) (skip (eq-eqb _ _ p.if2.false) (stop (lt-leb _ _ c.if3.true))))
+    found (skip (le-leb _ _ c.if-x-lt3.false) (skip (eq-eqb _ _ c.if-y-x.false) (stop (lt-leb _ _ c.if-x-gt1.true))))
 
-returns-4 : tie.Need-returns-4
+returns-4 : tie.Need-returns-then-y-gt1
 unfolding merge_checks
 returns-4 c =
-    let q = c.before.before in
-    let p = q.before.before in
-    found (skip (le-leb _ _ p.before.if1.false) (skip (eq-eqb _ _ p.if2.false) (skip (le-leb _ _ q.if3.false) (stop (lt-leb _ _ c.if4.true)))))
+    found (skip (le-leb _ _ c.if-x-lt3.false) (skip (eq-eqb _ _ c.if-y-x.false) (skip (le-leb _ _ c.if-x-gt1.false) (stop (lt-leb _ _ c.if-y-gt1.true)))))
 
-returns-5 : tie.Need-returns-5
+returns-5 : tie.Need-returns-then-room-x
 unfolding merge_checks
 returns-5 c =
-    let o = c.before in
-    let q = o.before.before in
-    let p = q.before.before in
-    found (skip (le-leb _ _ p.before.if1.false) (skip (eq-eqb _ _ p.if2.false) (skip (le-leb _ _ q.if3.false) (skip (le-leb _ _ o.if4.false)
-    (stop (ne_eqb _ _ c.if5.true))))))
+    found (skip (le-leb _ _ c.if-x-lt3.false) (skip (eq-eqb _ _ c.if-y-x.false) (skip (le-leb _ _ c.if-x-gt1.false) (skip (le-leb _ _ c.if-y-gt1.false)
+    (stop (ne_eqb _ _ c.if-room-x.true))))))
 
-returns-6 : tie.Need-returns-6
+returns-6 : tie.Need-returns
 unfolding merge_checks
 returns-6 c =
-    let o = c.before in
-    let q = o.before.before in
-    let p = q.before.before in
-    found (skip (le-leb _ _ p.before.if1.false) (skip (eq-eqb _ _ p.if2.false) (skip (le-leb _ _ q.if3.false) (skip (le-leb _ _ o.if4.false)
-    (skip (eq-eqb _ _ c.if5.false) end)))))
+    found (skip (le-leb _ _ c.if-x-lt3.false) (skip (eq-eqb _ _ c.if-y-x.false) (skip (le-leb _ _ c.if-x-gt1.false) (skip (le-leb _ _ c.if-y-gt1.false)
+    (skip (eq-eqb _ _ c.if-room-x.false) end)))))
 
 pub check_merging_spec : {M : Type 1} → statement M
 check_merging_spec =

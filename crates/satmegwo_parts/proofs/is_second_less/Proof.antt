@@ -6,23 +6,20 @@ use Rattle.satmegwo_parts.proofs.Merging.{second_empty, first_empty, both_found}
 use Rattle.satmegwo_parts.proofs.is_second_less.Statement.{statement}
 use Rattle.satmegwo_parts.proofs.is_second_less.Tie as tie
 
-returns : tie.Need-returns
-returns c = let a = c.before.before.before.before.args in second_empty ltb a.x.now a.y.now c.if1.true
+returns : tie.Need-returns-then-y-eq0
+returns c = let a = c.args in second_empty ltb a.x.now a.y.now c.if-y-eq0.true
 
-returns-2 : tie.Need-returns-2
+returns-2 : tie.Need-returns-then-x-eq0
 returns-2 c =
-    let p = c.before.before in
-    let a = p.before.before.before.before.args in
-    first_empty ltb a.x.now a.y.now p.if1.false c.if2.true
+    let a = c.args in
+    first_empty ltb a.x.now a.y.now c.if-y-eq0.false c.if-x-eq0.true
 
-returns-3 : tie.Need-returns-3
+returns-3 : tie.Need-returns
 returns-3 c =
-    let q = c.before.before.before.before.before in
-    let p = q.before.before in
-    let a = p.before.before.before.before.args in
+    let a = c.args in
     let x = a.x.now in
     let y = a.y.now in
-    c.is_sooner.ensures ∙ both_found ltb x y p.if1.false q.if2.false
+    c.is_sooner.ensures ∙ both_found ltb x y c.if-y-eq0.false c.if-x-eq0.false
 
 pub is_second_less_spec : {M : Type 1} → statement M
 is_second_less_spec =

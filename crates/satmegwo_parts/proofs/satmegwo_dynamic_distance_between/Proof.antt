@@ -8,8 +8,7 @@ use Rattle.satmegwo_parts.proofs.satmegwo_dynamic_distance_between.Tie as tie
 
 returns : tie.Need-returns
 returns c =
-    let given = c.before.before in
-    gives_same (ap (flagged 4) given.before.before.dynamic_distance_between.ensures) given.give_change.ensures
+    gives_same (ap (flagged 4) c.dynamic_distance_between.ensures) c.give_change.ensures
 
 pub satmegwo_dynamic_distance_between_spec : {M : Type 1} → statement M
 satmegwo_dynamic_distance_between_spec = tie.close (tie.spec (λ c κs. search rules) (λ c κs. search rules) (λ c. search rules) returns)

@@ -15,42 +15,38 @@ use Rattle.satmegwo_parts.proofs.Merging.{Merges, merges, takes_second, takes_fi
 use Rattle.satmegwo_parts.proofs.satmegwo_merge_largest.Statement.{statement}
 use Rattle.satmegwo_parts.proofs.satmegwo_merge_largest.Tie as tie
 
-returns : tie.Need-returns
-returns c = out_refused (sym c.before.before.before.before.check_merging.ensures ∙ c.before.before.e.given.1) c.number_of_lem.ensures
+returns : tie.Need-returns-in-Refused
+returns c = out_refused (sym c.check_merging.ensures ∙ c.in-Refused.is) c.number_of.ensures
 
 -- past the `if` the checks found nothing
-accepted : (c : tie.After-enum-told) →
-    let a = c.before.before.before.before.before.before.args in
+accepted : (c : tie.In_default) →
+    let a = c.args in
     first (merge_checks a.x.now a.y.now (length a.merged.now)) ≡ Accepted
-accepted c = sym c.before.before.check_merging.ensures ∙ c.enum_told.given.1
+accepted c = sym c.check_merging.ensures ∙ c.in_default.is
 
-sizes : (c : tie.After-enum-told) → let a = c.before.before.before.before.before.before.args in Merges a.x.now a.y.now (length a.merged.now)
-sizes c = let a = c.before.before.before.before.before.before.args in merges a.x.now a.y.now (length a.merged.now) (accepted c)
+sizes : (c : tie.In_default) → let a = c.args in Merges a.x.now a.y.now (length a.merged.now)
+sizes c = let a = c.args in merges a.x.now a.y.now (length a.merged.now) (accepted c)
 
-is_second_larger_requires : tie.Need-is-second-larger-requires
+is_second_larger_requires : tie.Need-is_second_larger-requires
 is_second_larger_requires c κs = let m = sizes c in (m.enough, omega (arith, m.enough, m.same))
 
 copy_requires : tie.Need-copy-requires
 copy_requires c κs = let m = sizes c.before.before.before in m.fits ∙ sym m.same
 
-returns-2 : tie.Need-returns-2
+returns-2 : tie.Need-returns-then-is_second_larger
 unfolding status
 returns-2 c =
-    let test = c.before.before.before.before in
-    let p = test.before in
-    let a = p.before.before.before.before.before.before.before.args in
-    wrote_out {given = []} (wrote_accepted (accepted p.before) (c.before.before.copy.ensures ∙ takes_second above a.x.now a.y.now p.is_second_larger.ensures test.if1.true)) refl
+    let a = c.args in
+    wrote_out {given = []} (wrote_accepted (accepted c.before.before.before.before.before.before) (c.copy.ensures ∙ takes_second above a.x.now a.y.now c.is_second_larger.ensures c.if-is_second_larger.true)) refl
 
 copy_requires_2 : tie.Need-copy-requires-2
 copy_requires_2 c κs = (sizes c.before.before.before).fits
 
-returns-3 : tie.Need-returns-3
+returns-3 : tie.Need-returns
 unfolding status
 returns-3 c =
-    let test = c.before.before.before.before in
-    let p = test.before in
-    let a = p.before.before.before.before.before.before.before.args in
-    wrote_out {given = []} (wrote_accepted (accepted p.before) (c.before.before.copy2.ensures ∙ takes_first above a.x.now a.y.now p.is_second_larger.ensures test.if1.false)) refl
+    let a = c.args in
+    wrote_out {given = []} (wrote_accepted (accepted c.before.before.before.before.before.before) (c.copy-2.ensures ∙ takes_first above a.x.now a.y.now c.is_second_larger.ensures c.if-is_second_larger.false)) refl
 
 pub satmegwo_merge_largest_spec : {M : Type 1} → statement M
 satmegwo_merge_largest_spec =

@@ -8,8 +8,7 @@ use Rattle.satmegwo_parts.proofs.satmegwo_nonlinearity_between.Tie as tie
 
 returns : tie.Need-returns
 returns c =
-    let given = c.before.before in
-    gives_same (ap (flagged 5) given.before.before.nonlinearity_between.ensures) given.give_pair.ensures
+    gives_same (ap (flagged 5) c.nonlinearity_between.ensures) c.give_pair.ensures
 
 pub satmegwo_nonlinearity_between_spec : {M : Type 1} → statement M
 satmegwo_nonlinearity_between_spec = tie.close (tie.spec (λ c κs. search rules) (λ c κs. search rules) (λ c. search rules) returns)

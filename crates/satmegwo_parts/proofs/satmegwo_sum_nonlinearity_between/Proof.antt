@@ -8,9 +8,7 @@ use Rattle.satmegwo_parts.proofs.satmegwo_sum_nonlinearity_between.Tie as tie
 
 returns : tie.Need-returns
 returns c =
-    let given = c.before.before in
-    let called = given.before.before in
-    gives_same (ap (flagged (sum_size called.before.before.before.before.before.before.args.count)) called.sum_nonlinearity_between.ensures.says) given.give_sum.ensures
+    gives_same (ap (flagged (sum_size c.args.count)) c.sum_nonlinearity_between-answer.ensures.says) c.give_sum.ensures
 
 pub satmegwo_sum_nonlinearity_between_spec : {M : Type 1} → statement M
 satmegwo_sum_nonlinearity_between_spec = tie.close (tie.spec (λ c κs. search rules) (λ c κs. search rules) (λ c. search rules) returns)

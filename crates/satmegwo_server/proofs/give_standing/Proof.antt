@@ -8,21 +8,21 @@ use Rattle.satmegwo_server.specs.Exports.{progress_reply}
 use Rattle.satmegwo_server.proofs.give_standing.Statement.{statement}
 use Rattle.satmegwo_server.proofs.give_standing.Tie as tie
 
-returns : tie.Need-returns
+returns : tie.Need-returns-in-Unfinished
 returns c =
-    gives_same (sym (ap (λ (s : Asked). progress_reply (said_asked s)) c.before.before.before.before.before.enum_told.given.1)) c.before.before.give.ensures
+    gives_same (sym (ap (λ (s : Asked). progress_reply (said_asked s)) c.in-Unfinished.is)) c.give.ensures
 
-returns-2 : tie.Need-returns-2
+returns-2 : tie.Need-returns-in-Finished
 returns-2 c =
-    gives_same (sym (ap (λ (s : Asked). progress_reply (said_asked s)) c.before.before.before.before.before.before.answer.given.1)) c.before.before.give2.ensures
+    gives_same (sym (ap (λ (s : Asked). progress_reply (said_asked s)) c.in-Finished.is)) c.give-in-Finished.ensures
 
-returns-3 : tie.Need-returns-3
+returns-3 : tie.Need-returns-in-Declined
 returns-3 c =
-    gives_same (sym (ap (λ (s : Asked). progress_reply (said_asked s)) c.before.before.answer2.given.1)) (gives_refused c.number_of_lem.ensures)
+    gives_same (sym (ap (λ (s : Asked). progress_reply (said_asked s)) c.in-Declined.is)) (gives_refused c.number_of.ensures)
 
 pub give_standing_spec : {M : Type 1} → statement M
 give_standing_spec =
     tie.close
-    (tie.spec (λ c. search rules) (λ c. search rules) (λ c κs. search rules) (λ c. search rules) (λ c. search rules)
+    (tie.spec (λ c. search rules) (λ c κs. search rules) (λ c. search rules) (λ c. search rules)
     (λ c κs. search rules) (λ c. search rules) (λ c κs. search rules) (λ c. search rules) returns (λ c. search rules) returns-2
     returns-3)

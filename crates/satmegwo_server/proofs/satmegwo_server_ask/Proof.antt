@@ -6,9 +6,8 @@ use Rattle.satmegwo_server.proofs.satmegwo_server_ask.Tie as tie
 
 returns : tie.Need-returns
 returns c =
-    let given = c.before.before in
-    let called = given.before.before.ask in
-    record { said = said_asked called.result; outcome = called.ensures; out = given.give_standing.ensures }
+    let called = c.ask in
+    record { said = said_asked called.result; outcome = called.ensures; out = c.give_standing.ensures }
 
 pub satmegwo_server_ask_spec : {M : Type 1} → statement M
 satmegwo_server_ask_spec =

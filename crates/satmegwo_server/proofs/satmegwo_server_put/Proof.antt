@@ -6,7 +6,7 @@ use Rattle.satmegwo_server.proofs.satmegwo_server_put.Tie as tie
 
 returns : tie.Need-returns
 returns c =
-    let called = c.before.before.put in
+    let called = c.put-tried in
     record { said = said_written called.result.answer; outcome = called.ensures; number = c.status_of.ensures }
 
 pub satmegwo_server_put_spec : {M : Type 1} → statement M

@@ -4,11 +4,11 @@ use Rattle.sheet.proofs.Outcomes.{limit_all, limit_four}
 use Rattle.sheet.proofs.limit_of.Statement.{statement}
 use Rattle.sheet.proofs.limit_of.Tie as tie
 
-returns : tie.Need-returns
-returns c = limit_all c.before.args.m (omega arith)
+returns : tie.Need-returns-then-m-le16
+returns c = limit_all c.args.m (omega arith)
 
-returns-2 : tie.Need-returns-2
-returns-2 c = limit_four c.before.args.m (omega arith)
+returns-2 : tie.Need-returns-else-m-le16
+returns-2 c = limit_four c.args.m (omega arith)
 
 pub limit_of_spec : {M : Type 1} → statement M
 limit_of_spec = tie.close (tie.spec returns returns-2)

@@ -7,22 +7,17 @@ use borrow.Author.Rules.{rules}
 use Rattle.sheet.proofs.write_autocorrelation.Statement.{statement}
 use Rattle.sheet.proofs.write_autocorrelation.Tie as tie
 
-returns : tie.Need-returns
+returns : tie.Need-returns-in_default
 returns c =
-    let call = c.before.before in
-    let reply = sym call.autocorrelation.ensures ∙ ap said_largest_change c.enum_told.given.1 in
-    (limited_refused "autocorrelation" (autocorrelation_reply _ _ _) call.before.limit_of.ensures reply, refl)
+    let reply = sym c.autocorrelation-answer.ensures ∙ ap said_largest_change c.in_default.is in
+    (limited_refused "autocorrelation" (autocorrelation_reply _ _ _) c.limit_of-i.ensures reply, refl)
 
-returns-2 : tie.Need-returns-2
+returns-2 : tie.Need-returns
 returns-2 c =
-    let put = c.before.before in
-    let told = put.before.before.before.before.before in
-    let call = told.before.before in
-    let reply = sym call.autocorrelation.ensures ∙ ap said_largest_change told.answer.given.1 in
-    let shows = limited_shown "autocorrelation" (autocorrelation_reply _ _ _) call.before.limit_of.ensures reply in
-    record { bytes = _; is = shows; short = line_few _ _; stored = put.put_line.ensures }
+    let reply = sym c.autocorrelation-answer.ensures ∙ ap said_largest_change c.in-Reached.is in
+    let shows = limited_shown "autocorrelation" (autocorrelation_reply _ _ _) c.limit_of-i.ensures reply in
+    record { bytes = _; is = shows; short = line_few _ _; stored = c.put_line.ensures }
 
 pub write_autocorrelation_spec : {M : Type 1} → statement M
 write_autocorrelation_spec = tie.close
-    (tie.spec (λ c κs. search rules) (λ c κs. search rules) (λ c. search rules) (λ c. search rules) returns (λ c. search rules)
-    (λ c. search rules) (λ c κs. search rules) (λ c. search rules) returns-2)
+    (tie.spec (λ c κs. search rules) (λ c κs. search rules) (λ c. search rules) (λ c. search rules) returns (λ c. search rules) (λ c κs. search rules) (λ c. search rules) returns-2)

@@ -7,27 +7,23 @@ use borrow.Author.Rules.{rules}
 use Rattle.sheet.proofs.write_bijective.Statement.{statement}
 use Rattle.sheet.proofs.write_bijective.Tie as tie
 
-returns : tie.Need-returns
+returns : tie.Need-returns-in_default-answer
 returns c =
-    let call = c.before.before.is_bijective in
-    let told = undecided call.result c.before.match.keys2 c.match2.keys2 in
+    let call = c.is_bijective-answer in
+    let told = undecided call.result c.in_default.in_default-own.keys2 c.in_default-answer.in_default-answer-own.keys2 in
     (decided_refused "bijective" (sym call.ensures ∙ ap said_verdict told.1), refl)
 
-returns-2 : tie.Need-returns-2
+returns-2 : tie.Need-returns-in_default
 returns-2 c =
-    let put = c.before.before in
-    let told = put.before.before.before in
-    let reply = sym told.before.before.before.is_bijective.ensures ∙ ap said_verdict told.enum_told2.given.1 in
-    record { bytes = _; is = decided_no "bijective" reply; short = search rules; stored = put.put_bytes.ensures }
+    let reply = sym c.is_bijective-answer.ensures ∙ ap said_verdict c.in-No.is in
+    record { bytes = _; is = decided_no "bijective" reply; short = search rules; stored = c.put_bytes.ensures }
 
-returns-3 : tie.Need-returns-3
+returns-3 : tie.Need-returns
 returns-3 c =
-    let put = c.before.before in
-    let told = put.before.before.before in
-    let reply = sym told.before.before.is_bijective.ensures ∙ ap said_verdict told.enum_told.given.1 in
-    record { bytes = _; is = decided_yes "bijective" reply; short = search rules; stored = put.put_bytes2.ensures }
+    let reply = sym c.is_bijective-answer.ensures ∙ ap said_verdict c.in-Yes.is in
+    record { bytes = _; is = decided_yes "bijective" reply; short = search rules; stored = c.put_bytes-2.ensures }
 
 pub write_bijective_spec : {M : Type 1} → statement M
 write_bijective_spec = tie.close
-    (tie.spec (λ c κs. search rules) (λ c. search rules) (λ c. search rules) returns (λ c. search rules) (λ c κs. search rules)
-    (λ c. search rules) returns-2 (λ c. search rules) (λ c κs. search rules) (λ c. search rules) returns-3)
+    (tie.spec (λ c κs. search rules) (λ c. search rules) (λ c. search rules) returns (λ c κs. search rules)
+    (λ c. search rules) returns-2 (λ c κs. search rules) (λ c. search rules) returns-3)

@@ -9,36 +9,25 @@ use Rattle.sheet.proofs.write_read.Statement.{statement}
 use Rattle.sheet.proofs.write_read.Tie as tie
 
 -- the answer says what the file's reply is
-read : (c : tie.After-read-box) → said_box_file c.read_box.result ≡ file_reply c.before.before.before.before.before.args.file.now
+read : (c : tie.After-read_box-answer) → said_box_file c.read_box-answer.result ≡ file_reply c.args.file.now
 read c =
-    let start = c.before.before.before.before.before in
-    c.read_box.ensures.reply ∙ reply_with_room start.args.file.now start.requires.0
+    c.read_box-answer.ensures.reply ∙ reply_with_room c.args.file.now c.requires.0
 
-returns-2 : tie.Need-returns-2
+returns-2 : tie.Need-returns-in_default
 returns-2 c =
-    let put = c.before.before in
-    let number = put.before.before in
-    let told = number.before.before.before.before in
-    let told_before = told.before.before.before in
-    let reading = told_before.before.before.before.before in
-    let start = reading.before.before.before.before.before in
-    let reply = sym (read reading) ∙ ap said_box_file (told_before.answer2.given.1 ∙ told.answer3.given.1) ∙ ap refusal (sym number.number_of_lem.ensures) in
-    (wrote_refused start.args.file.now start.args.text.now reply put.put_line.ensures.0 put.put_line.ensures.1, reading.read_box.auto.1.0)
+    let reply = sym (read c.before.before.before.before.before.before.before.before.before.before.before.before) ∙ ap said_box_file (c.in_default.is ∙ c.in-Declined.is) ∙ ap refusal (sym c.number_of.ensures) in
+    (wrote_refused c.args.file.now c.args.text.now reply c.put_line.ensures.0 c.put_line.ensures.1, c.read_box-answer.auto.rows)
 
-returns-3 : tie.Need-returns-3
+returns-3 : tie.Need-returns
 returns-3 c =
-    let done = c.before.before in
-    let told = done.before.before.before.before in
-    let reading = told.before.before.before.before in
-    let start = reading.before.before.before.before.before in
-    let file = start.args.file.now in
-    let reply = sym (read reading) ∙ ap said_box_file told.answer.given.1 in
-    let rows = reading.read_box.ensures.content ∙ rows_with_room file start.requires.0 reply start.args.rows.now in
-    (wrote_sheet file (sheet_of_box file reply rows) done.write_lines.ensures, reading.read_box.auto.1.0)
+    let file = c.args.file.now in
+    let reply = sym (read c.before.before.before.before.before.before.before) ∙ ap said_box_file c.in-Read.is in
+    let rows = c.read_box-answer.ensures.content ∙ rows_with_room file c.requires.0 reply c.args.rows.now in
+    (wrote_sheet file (sheet_of_box file reply rows) c.write_lines.ensures, c.read_box-answer.auto.rows)
 
 pub write_read_spec : {M : Type 1} → statement M
 write_read_spec =
     tie.close
     (tie.spec (λ c κs. search rules) (λ c. search rules) (λ c. search rules) (λ c. search rules) (λ c. search rules)
-    (λ c. search rules) (λ c. search rules) (λ c. search rules) (λ c κs. search rules) (λ c. search rules) (λ c κs. search rules)
+    (λ c. search rules) (λ c. search rules) (λ c κs. search rules) (λ c. search rules) (λ c κs. search rules)
     (λ c. search rules) (λ c. search rules) returns-2 (λ c κs. search rules) (λ c. search rules) (λ c. search rules) returns-3)

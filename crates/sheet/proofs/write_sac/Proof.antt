@@ -7,17 +7,15 @@ use borrow.Author.Rules.{rules}
 use Rattle.sheet.proofs.write_sac.Statement.{statement}
 use Rattle.sheet.proofs.write_sac.Tie as tie
 
-returns : tie.Need-returns
-returns c = (numbers_refused "sac" (sym c.before.before.dynamic_distance.ensures ∙ ap said_largest_change c.enum_told.given.1), refl)
+returns : tie.Need-returns-in_default
+returns c = (numbers_refused "sac" (sym c.dynamic_distance-answer.ensures ∙ ap said_largest_change c.in_default.is), refl)
 
-returns-2 : tie.Need-returns-2
+returns-2 : tie.Need-returns
 returns-2 c =
-    let put = c.before.before in
-    let told = put.before.before.before.before.before in
-    let reply = sym told.before.before.dynamic_distance.ensures ∙ ap said_largest_change told.answer.given.1 in
-    record { bytes = _; is = numbers_shown "sac" reply; short = line_few _ _; stored = put.put_line.ensures }
+    let reply = sym c.dynamic_distance-answer.ensures ∙ ap said_largest_change c.in-Reached.is in
+    record { bytes = _; is = numbers_shown "sac" reply; short = line_few _ _; stored = c.put_line.ensures }
 
 pub write_sac_spec : {M : Type 1} → statement M
 write_sac_spec = tie.close
-    (tie.spec (λ c κs. search rules) (λ c. search rules) (λ c. search rules) returns (λ c. search rules) (λ c. search rules)
+    (tie.spec (λ c κs. search rules) (λ c. search rules) (λ c. search rules) returns (λ c. search rules)
     (λ c κs. search rules) (λ c. search rules) returns-2)

@@ -5,16 +5,16 @@ use borrow.Author.Rules.{rules}
 use Rattle.sheet.proofs.write_sheet.Statement.{statement}
 use Rattle.sheet.proofs.write_sheet.Tie as tie
 
-slice_aggregate_write_read : tie.Need-slice-aggregate-write-read
-slice_aggregate_write_read c = sym (length-take-le _ _ c.before.room_of.ensures.1)
+slice_aggregate_write_read : tie.Need-slice_bounds-write_read-end
+slice_aggregate_write_read c = sym (length-take-le _ _ c.room_of-size.ensures.1)
 
-write_read_requires : tie.Need-write-read-requires
+write_read_requires : tie.Need-write_read-requires
 write_read_requires c κs =
-    let room = c.before.before.room_of.ensures in
+    let room = c.room_of-size.ensures in
     (length-take-le _ _ room.1 ∙ room.0, search rules)
 
 returns : tie.Need-returns
-returns c = c.before.write_read.ensures.0
+returns c = c.write_read.ensures.0
 
 pub write_sheet_spec : {M : Type 1} → statement M
 write_sheet_spec =

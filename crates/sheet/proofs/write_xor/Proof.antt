@@ -7,17 +7,15 @@ use borrow.Author.Rules.{rules}
 use Rattle.sheet.proofs.write_xor.Statement.{statement}
 use Rattle.sheet.proofs.write_xor.Tie as tie
 
-returns : tie.Need-returns
-returns c = (numbers_refused "xor" (sym c.before.before.largest_cell.ensures ∙ ap said_largest_cell c.enum_told.given.1), refl)
+returns : tie.Need-returns-in_default
+returns c = (numbers_refused "xor" (sym c.largest_cell-answer.ensures ∙ ap said_largest_cell c.in_default.is), refl)
 
-returns-2 : tie.Need-returns-2
+returns-2 : tie.Need-returns
 returns-2 c =
-    let put = c.before.before in
-    let told = put.before.before.before.before.before in
-    let reply = sym told.before.before.largest_cell.ensures ∙ ap said_largest_cell told.answer.given.1 in
-    record { bytes = _; is = numbers_shown "xor" reply; short = line_few _ _; stored = put.put_line.ensures }
+    let reply = sym c.largest_cell-answer.ensures ∙ ap said_largest_cell c.in-Reached.is in
+    record { bytes = _; is = numbers_shown "xor" reply; short = line_few _ _; stored = c.put_line.ensures }
 
 pub write_xor_spec : {M : Type 1} → statement M
 write_xor_spec = tie.close
-    (tie.spec (λ c κs. search rules) (λ c. search rules) (λ c. search rules) returns (λ c. search rules) (λ c. search rules)
+    (tie.spec (λ c κs. search rules) (λ c. search rules) (λ c. search rules) returns (λ c. search rules)
     (λ c κs. search rules) (λ c. search rules) returns-2)

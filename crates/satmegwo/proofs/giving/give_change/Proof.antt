@@ -6,12 +6,12 @@ use borrow.Author.Rules.{rules}
 use Rattle.satmegwo.proofs.giving.give_change.Statement.{statement}
 use Rattle.satmegwo.proofs.giving.give_change.Tie as tie
 
-returns : tie.Need-returns
+returns : tie.Need-returns-in-Reached
 returns c =
-    gives_same (sym (ap said_largest_change c.before.before.before.before.before.before.answer.given.1)) c.before.before.give.ensures
+    gives_same (sym (ap said_largest_change c.in-Reached.is)) c.give.ensures
 
-returns-2 : tie.Need-returns-2
-returns-2 c = gives_same (sym (ap said_largest_change c.before.before.answer2.given.1)) (gives_refused c.number_of_lem.ensures)
+returns-2 : tie.Need-returns-in-Declined
+returns-2 c = gives_same (sym (ap said_largest_change c.in-Declined.is)) (gives_refused c.number_of.ensures)
 
 pub give_change_spec : {M : Type 1} → statement M
 give_change_spec =

@@ -6,17 +6,15 @@ use borrow.Author.Rules.{rules}
 use Rattle.satmegwo.proofs.giving.give_sum.Statement.{statement}
 use Rattle.satmegwo.proofs.giving.give_sum.Tie as tie
 
-returns : tie.Need-returns
+returns : tie.Need-returns-in-Reached
 returns c =
-    let given = c.before.before in
-    let is = given.before.before.before in
-    let a = is.before.before.before.args in
-    gives_same (sym (ap (said_least_sum a.count) is.answer.given.1)) given.give_masks.ensures
+    let a = c.args in
+    gives_same (sym (ap (said_least_sum a.count) c.in-Reached.is)) c.give_masks.ensures
 
-returns-2 : tie.Need-returns-2
+returns-2 : tie.Need-returns-in-Declined
 returns-2 c =
-    let a = c.before.before.before.before.before.args in
-    gives_same (sym (ap (said_least_sum a.count) c.before.before.answer2.given.1)) (gives_refused c.number_of_lem.ensures)
+    let a = c.args in
+    gives_same (sym (ap (said_least_sum a.count) c.in-Declined.is)) (gives_refused c.number_of.ensures)
 
 pub give_sum_spec : {M : Type 1} → statement M
 give_sum_spec =

@@ -6,20 +6,20 @@ use borrow.Author.Rules.{rules}
 use Rattle.satmegwo.proofs.giving.give_verdict.Statement.{statement}
 use Rattle.satmegwo.proofs.giving.give_verdict.Tie as tie
 
-returns : tie.Need-returns
+returns : tie.Need-returns-in-Yes
 returns c =
-    gives_same (sym (ap said_verdict c.before.before.before.before.before.enum_told.given.1)) c.before.before.give.ensures
+    gives_same (sym (ap said_verdict c.in-Yes.is)) c.give.ensures
 
-returns-2 : tie.Need-returns-2
+returns-2 : tie.Need-returns-in-No
 returns-2 c =
-    gives_same (sym (ap said_verdict c.before.before.before.before.before.enum_told2.given.1)) c.before.before.give2.ensures
+    gives_same (sym (ap said_verdict c.in-No.is)) c.give-in-No.ensures
 
-returns-3 : tie.Need-returns-3
-returns-3 c = gives_same (sym (ap said_verdict c.before.before.answer.given.1)) (gives_refused c.number_of_lem.ensures)
+returns-3 : tie.Need-returns-in-Undecided
+returns-3 c = gives_same (sym (ap said_verdict c.in-Undecided.is)) (gives_refused c.number_of.ensures)
 
 pub give_verdict_spec : {M : Type 1} → statement M
 give_verdict_spec =
     tie.close
-    (tie.spec (λ c. search rules) (λ c. search rules) (λ c κs. search rules) (λ c. search rules) (λ c. search rules)
+    (tie.spec (λ c. search rules) (λ c κs. search rules) (λ c. search rules)
     (λ c κs. search rules) (λ c. search rules) (λ c κs. search rules) (λ c. search rules) returns (λ c. search rules) returns-2
     returns-3)

@@ -21,45 +21,30 @@ with_masks s ws = let a = s.args in figures (a.flag ∷ a.figure ∷ a.c ∷ (ws
 so_many : (s : tie.Start) {k : ℕ} → s.args.count ≡ k → with_masks s (take k (all s)) ≡ with_masks s (take s.args.count (all s))
 so_many s e = ap (λ (k : ℕ). with_masks s (take k (all s))) (sym e)
 
-returns : tie.Need-returns
+returns : tie.Need-returns-then-count-eq0
 returns c =
-    let given = c.before.before in
-    let then = given.before.before.before in
-    let s = then.before.before in
-    gives_same (so_many s then.if1.true) given.give.ensures
+    gives_same (so_many c.before.before.before.before.before.before.before c.if-count-eq0.true) c.give.ensures
 
-returns-2 : tie.Need-returns-2
+returns-2 : tie.Need-returns-then-count-eq1
 returns-2 c =
-    let given = c.before.before in
-    let then = given.before.before.before in
-    let s = then.before.before.before in
-    gives_same (so_many s then.if2.true) given.give2.ensures
+    gives_same (so_many c.before.before.before.before.before.before.before.before c.if-count-eq1.true) c.give-then-count-eq1.ensures
 
-returns-3 : tie.Need-returns-3
+returns-3 : tie.Need-returns-then-count-eq2
 returns-3 c =
-    let given = c.before.before in
-    let then = given.before.before.before in
-    let s = then.before.before.before.before in
-    gives_same (so_many s then.if3.true) given.give3.ensures
+    gives_same (so_many c.before.before.before.before.before.before.before.before.before c.if-count-eq2.true) c.give-then-count-eq2.ensures
 
-returns-4 : tie.Need-returns-4
+returns-4 : tie.Need-returns-then-count-eq3
 returns-4 c =
-    let given = c.before.before in
-    let then = given.before.before.before in
-    let s = then.before.before.before.before.before in
-    gives_same (so_many s then.if4.true) given.give4.ensures
+    gives_same (so_many c.before.before.before.before.before.before.before.before.before.before c.if-count-eq3.true) c.give-then-count-eq3.ensures
 
-returns-5 : tie.Need-returns-5
+returns-5 : tie.Need-returns
 returns-5 c =
-    let given = c.before.before in
-    let else = given.before.before.before in
-    let s = else.before.before.before.before.before in
-    let no_0 = else.before.before.before.if1.false in
-    let no_1 = else.before.before.if2.false in
-    let no_2 = else.before.if3.false in
-    let no_3 = else.if4.false in
-    let four : 4 ≤ s.args.count = omega arith in
-    gives_same (ap (with_masks s) (sym (take_all s.args.count (all s) four))) given.give5.ensures
+    let no_0 = c.if-count-eq0.false in
+    let no_1 = c.if-count-eq1.false in
+    let no_2 = c.if-count-eq2.false in
+    let no_3 = c.if-count-eq3.false in
+    let four : 4 ≤ c.args.count = omega arith in
+    gives_same (ap (with_masks c.before.before.before.before.before.before.before.before.before.before) (sym (take_all c.args.count (all c.before.before.before.before.before.before.before.before.before.before) four))) c.give-2.ensures
 
 pub give_masks_spec : {M : Type 1} → statement M
 give_masks_spec =

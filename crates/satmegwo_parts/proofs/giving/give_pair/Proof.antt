@@ -8,22 +8,22 @@ use borrow.Author.Rules.{rules}
 use Rattle.satmegwo_parts.proofs.giving.give_pair.Statement.{statement}
 use Rattle.satmegwo_parts.proofs.giving.give_pair.Tie as tie
 
-returns : tie.Need-returns
+returns : tie.Need-returns-in-Reached
 unfolding flagged part_figures
 returns c =
-    gives_same (sym (ap (λ (p : PartPair). flagged 5 (said_part p)) c.before.before.before.before.before.before.answer.given.1)) c.before.before.give.ensures
+    gives_same (sym (ap (λ (p : PartPair). flagged 5 (said_part p)) c.in-Reached.is)) c.give.ensures
 
-returns-2 : tie.Need-returns-2
+returns-2 : tie.Need-returns-in-Nothing
 unfolding flagged part_figures
 returns-2 c =
-    gives_same (sym (ap (λ (p : PartPair). flagged 5 (said_part p)) c.before.before.before.before.before.enum_told.given.1)) c.before.before.give2.ensures
+    gives_same (sym (ap (λ (p : PartPair). flagged 5 (said_part p)) c.in-Nothing.is)) c.give-in-Nothing.ensures
 
-returns-3 : tie.Need-returns-3
+returns-3 : tie.Need-returns-in-Declined
 unfolding flagged part_figures
-returns-3 c = gives_same (sym (ap (λ (p : PartPair). flagged 5 (said_part p)) c.before.before.answer2.given.1)) (gives_refused c.number_of_lem.ensures)
+returns-3 c = gives_same (sym (ap (λ (p : PartPair). flagged 5 (said_part p)) c.in-Declined.is)) (gives_refused c.number_of.ensures)
 
 pub give_pair_spec : {M : Type 1} → statement M
 give_pair_spec =
     tie.close
-    (tie.spec (λ c. search rules) (λ c. search rules) (λ c κs. search rules) (λ c. search rules) (λ c. search rules) (λ c κs. search rules)
+    (tie.spec (λ c. search rules) (λ c. search rules) (λ c κs. search rules) (λ c. search rules) (λ c κs. search rules)
     (λ c. search rules) (λ c κs. search rules) (λ c. search rules) returns (λ c. search rules) returns-2 returns-3)

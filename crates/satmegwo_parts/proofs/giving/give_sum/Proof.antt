@@ -10,27 +10,23 @@ use borrow.Author.Rules.{rules}
 use Rattle.satmegwo_parts.proofs.giving.give_sum.Statement.{statement}
 use Rattle.satmegwo_parts.proofs.giving.give_sum.Tie as tie
 
-returns : tie.Need-returns
+returns : tie.Need-returns-in-Reached
 unfolding flagged part_figures
 returns c =
-    let given = c.before.before in
-    let is = given.before.before.before in
-    let a = is.before.before.before.args in
-    gives_same (sym (ap (λ (p : PartSum). flagged (sum_size a.count) (said_part_sum a.count p)) is.answer.given.1)) given.give_masks.ensures
+    let a = c.args in
+    gives_same (sym (ap (λ (p : PartSum). flagged (sum_size a.count) (said_part_sum a.count p)) c.in-Reached.is)) c.give_masks.ensures
 
-returns-2 : tie.Need-returns-2
+returns-2 : tie.Need-returns-in-Nothing
 unfolding flagged part_figures
 returns-2 c =
-    let given = c.before.before in
-    let is = given.before.before in
-    let a = is.before.before.before.args in
-    gives_same (ap figures (no_masks a.count) ∙ sym (ap (λ (p : PartSum). flagged (sum_size a.count) (said_part_sum a.count p)) is.enum_told.given.1)) given.give_masks2.ensures
+    let a = c.args in
+    gives_same (ap figures (no_masks a.count) ∙ sym (ap (λ (p : PartSum). flagged (sum_size a.count) (said_part_sum a.count p)) c.in-Nothing.is)) c.give_masks-in-Nothing.ensures
 
-returns-3 : tie.Need-returns-3
+returns-3 : tie.Need-returns-in-Declined
 unfolding flagged part_figures
 returns-3 c =
-    let a = c.before.before.before.before.before.args in
-    gives_same (sym (ap (λ (p : PartSum). flagged (sum_size a.count) (said_part_sum a.count p)) c.before.before.answer2.given.1)) (gives_refused c.number_of_lem.ensures)
+    let a = c.args in
+    gives_same (sym (ap (λ (p : PartSum). flagged (sum_size a.count) (said_part_sum a.count p)) c.in-Declined.is)) (gives_refused c.number_of.ensures)
 
 pub give_sum_spec : {M : Type 1} → statement M
 give_sum_spec =
