@@ -228,7 +228,7 @@ def let_else(code):
 
 def upper_crate(code):
     """The sums of boxes stand above the analyser, and call of it what docs/CALLS.md lists for them and calls; their proofs read no code of another crate."""
-    below = dict(re.findall(r"^(\w+):(.*)$", code.text("crates.txt"), re.M))
+    below = dict(re.findall(r"^(\w+)[^:\n]*:(.*)$", code.text("crates.txt"), re.M))
     if "rounds" not in below:
         raise Missing("crates.txt has no crate rounds")
     analyser = ("walsh", "masks", "linear")
@@ -244,9 +244,10 @@ def upper_crate(code):
     found += [f"rounds calls {path}, which docs/CALLS.md does not list for it" for path in sorted(made - published)]
     found += [f"docs/CALLS.md lists {path} for the sums of boxes, which do not call it" for path in sorted(allowed - made)]
     for file, text in code.below("crates/rounds/"):
-        for module in re.findall(r"^(?:ghost )?use Rattle·([^\s.{]+)\.([^\s.{;]+)", text, re.M):
-            if module[0].split("·")[0] in analyser and module[1] not in ("specs", "proofs"):
-                found.append(f"{file} uses {'.'.join(module)}, which is neither specs nor theorems")
+        # below `proofs`, what has a small letter is of a function: its steps and goals
+        for crate, part, module in re.findall(r"^(?:ghost )?use Rattle\.(\w+)\.(\w+)\.([^\s.{;]+)", text, re.M):
+            if crate in analyser and not (part == "specs" or (part == "proofs" and module[0].isupper())):
+                found.append(f"{file} uses {crate}.{part}.{module}, which is neither specs nor theorems")
     return found
 
 

@@ -6,7 +6,7 @@ field, file, crate or option that is there; `name` (`crate/specs/File`) is decla
 to an entry. A header's comments name calls, macros and files that are there.
 
 Every row of docs/PROMISES.md has a key. The key stands above the statements of `claims` that carry the sentence, as `-- [KEY]`, and the row
-names these and no other (`*-call` names every one of that ending); or the row says "none: " and why no statement can carry it. Every statement
+names these and no other (`*_call` names every one of that ending); or the row says "none: " and why no statement can carry it. Every statement
 of `claims` has a key.
 
 docs/READING.md has every crate of crates.txt, and docs/CONTRIBUTING.md every part of the gate. Page one of docs/CERTIFICATE.md, which is read out, has at most 350 words and no brackets.
@@ -26,16 +26,16 @@ KEY = r"(?:(?:D[123]|01|02|beside)\.[^\]\s|,]+|parts\.\d+)"
 WORDS = set(
     "rt cargo gcc g++ clang make ar objdump objcopy python3 git pip pkg-config rustc simp rw search requires ensures match pub fn use let else "
     "ghost self bool return static inline extern unsafe record data where Type typedef struct enum const abbrev unfoldable u8 u16 u32 u64 i32 "
-    "size_t uint8_t uint32_t int32_t uint64_t memcpy memset allow-holes libs cflags ldconfig must-fail".split()
+    "size_t uint8_t uint32_t int32_t uint64_t memcpy memset allow-holes libs cflags ldconfig must-fail staticlib".split()
 )
 CODE = {".rt", ".antt", ".rs", ".c", ".h", ".py", ".edit", ".toml", ".txt", ".md", ".box", ".sheet", ".stdout", ".svg", ".html", ".sh"}
 BUILT = ("target/", "lib")
 TICKED = re.compile(r"`([^`\n]+)`")
 LISTED = r"((?:`[^`\n]+`(?:, and |, | and )?)+)"
-IN_FILE = re.compile(LISTED + r" ?(?:\(|in )((?:`[\w.+·/-]+/[\w.+·/-]+`(?:, | and )?)+)")
+IN_FILE = re.compile(LISTED + r" ?(?:\(|in )((?:`[\w.+/-]+/[\w.+/-]+`(?:, | and )?)+)")
 LINK = re.compile(r"\]\(([^)\s]+)\)")
-NAME = re.compile(r"[^\W\d](?:[\w′·]|-(?=[\w′]))*$")
-COMPOUND = re.compile(r"[^\W\d][\w′]*(?:[a-z][A-Z]|[_-][^\W_])[\w′-]*")
+NAME = re.compile(r"[^\W\d](?:[\w']|-(?=\w))*$")
+COMPOUND = re.compile(r"[^\W\d]\w*(?:[a-z][A-Z]|[_-][^\W_])[\w-]*")
 TOP = re.compile(r"^(?:(?:pub|abbrev|unfoldable|opaque) )*(?:(?:record|data) )?([^\s:(){}]+)(?=\s+[:({])", re.M)
 INNER = re.compile(r"^ +(?:(?:pub|abbrev|unfoldable) )*(?:(?:record|data) )?([^\s:(){}]+) :", re.M)
 STATEMENT = re.compile(r"\s*(?:(?:abbrev|unfoldable) )?pub (?!record |data |mod )(?:(?:abbrev|unfoldable) )?([^\s:(){}]+)\s*(?=[:({]|$)")
@@ -107,7 +107,9 @@ def token_fault(tree, token, folder="."):
         return None
     if re.fullmatch(KEY, token):
         return None if token in [key for key, _ in rows(tree.files.get("docs/PROMISES.md", ""))] else f"no promise {token}"
-    if " " in token or not re.fullmatch(r"[\w′·./:*+<>-]+", token):
+    if re.fullmatch(r"_\w+", token):
+        return None if any(name.endswith(token) for name in tree.all) else f"no name that ends in {token}"
+    if " " in token or not re.fullmatch(r"[\w'./:*+<>-]+", token):
         words = [word for word in COMPOUND.findall(token) if word not in WORDS]
         paths = [word for word in re.findall(r"(?<![\w./-])[\w.-]+(?:/[\w.+*-]+)+", token) if not word.startswith("target/")]
         lost = [word for word in words if not known(tree, word) and not any(word in path for path in paths)]
@@ -268,7 +270,7 @@ def key_faults(tree):
 
 def crate_faults(tree):
     """Crates that docs/READING.md does not have."""
-    listed = re.findall(r"^(\w+):", tree.files.get("crates.txt", ""), re.M)
+    listed = re.findall(r"^(\w+)[^:\n]*:", tree.files.get("crates.txt", ""), re.M)
     held = TICKED.findall(tree.files.get("docs/READING.md", ""))
     return [f"docs/READING.md: the crate {crate} is not in it" for crate in listed if crate not in held]
 
@@ -306,7 +308,7 @@ def read(root):
     found = {}
     for file in sorted(root.rglob("*")):
         name = file.relative_to(root)
-        if file.is_file() and not {".git", "target", "__pycache__"} & set(name.parts) and name.suffix not in (".so", ".a", ".o"):
+        if file.is_file() and not {".git", "target", "out", "__pycache__"} & set(name.parts) and name.suffix not in (".so", ".a", ".o"):
             try:
                 found[name.as_posix()] = file.read_text(encoding="utf-8")
             except UnicodeDecodeError:

@@ -5,7 +5,7 @@ import unittest
 import names
 
 SPECS = """-- what is measured
-use Rattle·boolean.specs.Bits.{bit}
+use Rattle.boolean.specs.Bits.{bit}
 
 unfoldable pub distance : (n : ℕ) (f : ℕ → ℕ) → ℕ
 distance n f = 0
@@ -23,22 +23,22 @@ pub data Reply : Type 0 where
   refusal : ℕ → Reply
 """
 DEMAND = """-- Demand 3, and its key [D3.9] in the words above the imports, where it is no statement's.
-use Rattle·linear.specs.Nonlinearity.{distance}
+use Rattle.linear.specs.Nonlinearity.{distance}
 
 -- [D3.1] "every nonzero combination differs"
 -- [D3.2] "the witness is first"
-pub least-within : (n : ℕ)
+pub least_within : (n : ℕ)
     → ℕ
-least-within n = n
+least_within n = n
 
 module _ (n : ℕ) where
   -- [02.§12.1] two additions are one
-  pub two-are-one : ℕ
-  two-are-one = 0
+  pub two_are_one : ℕ
+  two_are_one = 0
 
-  pub two-are-one-again :
+  pub two_are_one_again :
       ℕ
-  two-are-one-again = 0
+  two_are_one_again = 0
 """
 SOURCE = """pub fn nonlinearity(n: u32) -> u32
 {
@@ -67,7 +67,7 @@ PAGE = """# Page
 
 `distance` (`linear/specs/Nonlinearity`), `Reported`, `InnerReported` and `LongReported` (`linear/specs/Nonlinearity`), field `least`; `linear::nonlinearity`,
 `Design::swap`, `linear::Design`, `Done`; `crates/linear/src/`, `crates/*/specs/`, `docs/PROMISES.md`, `stack.c`, `linear`, `requires`, `NAME.box`, `target/bin/x`,
-`first (distance ..)`, `Nonlinearity.distance`, `two-are-one`, DECISIONS 7, [promises](docs/PROMISES.md), [away](https://example.org/a).
+`first (distance ..)`, `Nonlinearity.distance`, `two_are_one`, DECISIONS 7, [promises](docs/PROMISES.md), [away](https://example.org/a).
 
     $ a command with `backquoted-nonsense`
 
@@ -79,9 +79,9 @@ PROMISES = """# Promises
 
 | key | sentence | definition | contract | theorem |
 |---|---|---|---|---|
-| D3.1 | every combination differs | `distance` | | `least-within` |
-| D3.2 | the witness is first | | | `least-within` |
-| 02.§12.1 | two are one | | | `two-are-one`, `two-are-one-again` |
+| D3.1 | every combination differs | `distance` | | `least_within` |
+| D3.2 | the witness is first | | | `least_within` |
+| 02.§12.1 | two are one | | | `two_are_one`, `two_are_one_again` |
 | 01.form.1 | signed values | | | none: a form of the code |
 """
 FILES = {
@@ -114,8 +114,12 @@ class Names(unittest.TestCase):
         self.assertEqual(self.faults(), [])
 
     def test_a_dead_name(self):
-        for token in ("distances", "least-without", "nextMask", "first (distances_of ..)", "linear::sweep", "lines::sweep", "Design::mark", "Nonlinearity.cell", "wrong_name"):
+        for token in ("distances", "least_without", "nextMask", "first (distances_of ..)", "linear::sweep", "lines::sweep", "Design::mark", "Nonlinearity.cell", "wrong_name"):
             self.one_fault("no ", page=PAGE + f"`{token}`\n")
+
+    def test_an_ending(self):
+        self.assertEqual(self.faults(page=PAGE + "every `_within`\n"), [])
+        self.one_fault("no name that ends in _without", page=PAGE + "every `_without`\n")
 
     def test_a_dead_file(self):
         for token in ("crates/lines/src/", "linear/specs/Gone", "gone.c", "docs/GONE.md"):
@@ -141,7 +145,7 @@ class Names(unittest.TestCase):
 
     def test_a_name_in_another_file(self):
         self.one_fault("swap is not declared in linear/specs/Nonlinearity", page=PAGE + "`swap` (`linear/specs/Nonlinearity`)\n")
-        self.one_fault("distance is not declared", page=PAGE + "`two-are-one`, `distance` in `crates/claims/proofs/Demand3.antt`\n")
+        self.one_fault("distance is not declared", page=PAGE + "`two_are_one`, `distance` in `crates/claims/proofs/Demand3.antt`\n")
 
     def test_a_wrong_program_by_its_edit(self):
         self.assertEqual(self.faults(page=PAGE + "the wrong `nonlinearity` in `linear/must-fail/sweep`\n"), [])
@@ -165,28 +169,28 @@ class Names(unittest.TestCase):
         self.one_fault("no room", header=HEADER.replace("`figures`", "`room`"))
 
     def test_a_statement_without_a_key(self):
-        self.one_fault("least-within has no key", claims=DEMAND.replace("[D3.1] ", "").replace("[D3.2] ", ""), promises=PROMISES.replace("| D3.1", "| x").replace("| D3.2", "| x"))
+        self.one_fault("least_within has no key", claims=DEMAND.replace("[D3.1] ", "").replace("[D3.2] ", ""), promises=PROMISES.replace("| D3.1", "| x").replace("| D3.2", "| x"))
 
     def test_a_statement_that_no_row_names(self):
-        self.one_fault("02.§12.1 names two-are-one, two-are-one-again", claims=DEMAND + "  pub one-more : ℕ\n")
+        self.one_fault("02.§12.1 names two_are_one, two_are_one_again", claims=DEMAND + "  pub one-more : ℕ\n")
 
     def test_statements_by_their_ending(self):
-        self.assertEqual(self.faults(promises=PROMISES.replace("`two-are-one`, `two-are-one-again`", "`two-*`")), [])
-        self.one_fault("02.§12.1 names two-are-one-again", promises=PROMISES.replace("`two-are-one`, `two-are-one-again`", "`*-again`"))
+        self.assertEqual(self.faults(promises=PROMISES.replace("`two_are_one`, `two_are_one_again`", "`two_*`")), [])
+        self.one_fault("02.§12.1 names two_are_one_again", promises=PROMISES.replace("`two_are_one`, `two_are_one_again`", "`*_again`"))
 
     def test_a_promise_without_its_statement(self):
         self.one_fault("D3.2 has no statement", claims=DEMAND.replace('-- [D3.2] "the witness is first"\n', ""))
         self.one_fault("01.form.1 has no statement", promises=PROMISES.replace("none: a form of the code", ""))
 
     def test_a_key_that_no_row_has(self):
-        self.one_fault("[D3.2] is no key", promises=PROMISES.replace("| D3.2 | the witness is first | | | `least-within` |\n", ""))
+        self.one_fault("[D3.2] is no key", promises=PROMISES.replace("| D3.2 | the witness is first | | | `least_within` |\n", ""))
 
     def test_a_row_that_names_another_statement(self):
-        self.one_fault("D3.2 names two-are-one", promises=PROMISES.replace("is first | | | `least-within`", "is first | | | `two-are-one`"))
-        self.one_fault("D3.2 names nothing", promises=PROMISES.replace("is first | | | `least-within`", "is first | | | `Reported`"))
+        self.one_fault("D3.2 names two_are_one", promises=PROMISES.replace("is first | | | `least_within`", "is first | | | `two_are_one`"))
+        self.one_fault("D3.2 names nothing", promises=PROMISES.replace("is first | | | `least_within`", "is first | | | `Reported`"))
 
     def test_a_key_twice(self):
-        self.one_fault("D3.1 stands there twice", promises=PROMISES + "| D3.1 | again | | | `least-within` |\n")
+        self.one_fault("D3.1 stands there twice", promises=PROMISES + "| D3.1 | again | | | `least_within` |\n")
 
     def test_a_crate_that_readers_do_not_find(self):
         files = {"crates.txt": "# floors\nboolean:\nlinear: boolean\n", "docs/READING.md": "`boolean`, `linear`\n"}

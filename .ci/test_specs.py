@@ -5,7 +5,7 @@ import unittest
 import specs
 
 BELIEVED = """-- Topic
-use Rattle·linear.specs.Calls.{candidate}
+use Rattle.linear.specs.Calls.{candidate}
 
 unfoldable pub distance : (n : ℕ) (f : ℕ → ℕ) (w b : ℕ) → ℕ
 distance n f w b = 0
@@ -23,21 +23,21 @@ HALF_NAMED = """pub record Here (n : ℕ) : Type 0 where
 abbrev pub checks : (n m : ℕ)
     → List ℕ → List Check
 """
-IMPORTS_WORK = """use Rattle·linear·specs.specs.Work.{Swept, candidate}
+IMPORTS_WORK = """use Rattle.linear.specs.Work.{Swept, candidate}
 pub record Found : Type 0 where
 """
-SOURCE = """ghost use Rattle·linear·specs.specs.Calls.{leastPair};
-ghost use Rattle·linear·specs.specs.Work.{Swept};
+SOURCE = """ghost use Rattle.linear.specs.Calls.{least_pair};
+ghost use Rattle.linear.specs.Work.{Swept};
 
 fn sweep(n: u32) -> u32
-    requires { ⌜ Swept n ⌝ }
-    ensures { λ r. ⌜ r ≡ n ⌝ }
+    requires { Swept n }
+    ensures { result ≡ n }
 {
     n
 }
 
 pub fn nonlinearity(n: u32) -> u32
-    ensures { λ r. ⌜ leastPair r ≡ n ⌝ }
+    ensures { least_pair result ≡ n }
 {
     sweep(n)
 }
@@ -49,7 +49,7 @@ class Specs(unittest.TestCase):
     def test_what_is_right_passes(self):
         self.assertEqual(specs.faults_of_specs("crates/linear/specs/Topic.antt", BELIEVED), [])
         self.assertEqual(specs.faults_of_calls("linear", SOURCE, CALLS), [])
-        self.assertEqual(specs.long_lines("a" * 140 + "\n" + "b"), [])
+        self.assertEqual(specs.long_lines("a" * 150 + "\n" + "b"), [])
 
     def test_arguments_without_names(self):
         self.assertEqual(len(specs.faults_of_specs("specs/Topic.antt", UNNAMED)), 1)
@@ -60,8 +60,10 @@ class Specs(unittest.TestCase):
         self.assertEqual(specs.faults_of_specs("specs/Work.antt", IMPORTS_WORK), [])
 
     def test_a_call_s_contract_names_what_need_not_be_believed(self):
-        wrong = SOURCE.replace("leastPair r", "Swept r")
+        wrong = SOURCE.replace("least_pair result", "Swept result")
         self.assertEqual(len(specs.faults_of_calls("linear", wrong, CALLS)), 1)
+        renamed = wrong.replace("{Swept}", "{Swept as Gone}").replace("Swept result", "Gone result")
+        self.assertEqual(len(specs.faults_of_calls("linear", renamed, CALLS)), 1)
         self.assertEqual(specs.faults_of_calls("masks", wrong, CALLS), [])
 
     def test_a_name_with_two_meanings(self):
@@ -69,7 +71,8 @@ class Specs(unittest.TestCase):
         self.assertEqual(specs.twice_defined({"within": ["a/Bits", "b/Text"], "dot": ["a/Bits"]}), ["within is defined in a/Bits, b/Text"])
 
     def test_a_long_line(self):
-        self.assertEqual(specs.long_lines("a\n" + "≡" * 141), [2])
+        self.assertEqual(specs.long_lines("a\n" + "≡" * 151), [2])
+        self.assertEqual(specs.long_lines(f"use Rattle.linear.specs.Calls.{{{'a' * 150}}}"), [])
 
 
 if __name__ == "__main__":

@@ -6,15 +6,15 @@ import tied
 
 PAGE = """# What ties each definition
 
-The word **behind the calls** stands here, and `nothing-of-this` is no row.
+The word **behind the calls** stands here, and `nothing_of_this` is no row.
 
 ## `linear`
 
 | definition | what breaks |
 |---|---|
-| `distance` | `least-within`; `cases` 3 |
-| `Found`, `pairs` | text of every `-within` statement; `distance`, field `so-far`, `linear::sweep` in `linear/src` |
-| `best` | `least-within` |
+| `distance` | `least_within`; `cases` 3 |
+| `Found`, `pairs` | text of every `_within` statement; `distance`, field `so_far`, `linear::sweep` in `linear/src` |
+| `best` | `least_within` |
 | `rank` | behind the calls |
 | `Ranked` | behind the calls: laws alone |
 
@@ -22,23 +22,23 @@ The word **behind the calls** stands here, and `nothing-of-this` is no row.
 
 | definition | what breaks |
 |---|---|
-| `cases` | text of `least-within` |
+| `cases` | text of `least_within` |
 """
 TOPIC = """-- a topic; `rank` in a comment is no use of it
-use Prim.Native.Nat.{ℕ}
+use Rattle.std.specs.Prelude.{ℕ}
 
 unfoldable pub distance : (n w : ℕ) → ℕ
 distance n w = n
 
 pub record Found (n : ℕ) : Type 0 where
-  pub so-far : ℕ
+  pub so_far : ℕ
   pub rank : ℕ
 
 module _ {C : Type 0} where
   unfoldable pub best : (b : C) → C
   best b = b
 """
-PAIRS = """use Rattle·linear·specs.specs.Topic.{distance}
+PAIRS = """use Rattle.linear.specs.Topic.{distance}
 
 abbrev pub pairs : ℕ → ℕ
 pairs n = distance n n
@@ -52,33 +52,33 @@ pub record Ranked (c : ℕ) : Type 0 where
 """
 WORK = """pub record Swept : Type 0 where
 """
-WORKED = """use Rattle·claims·specs.specs.Outcomes.{Case}
+WORKED = """use Rattle.claims.specs.Outcomes.{Case}
 
 abbrev pub cases : List Case
 cases = []
 """
-DEMAND = """use Rattle·linear.specs.Topic.{distance}
-use Rattle·linear.specs.Laws as laws
+DEMAND = """use Rattle.linear.specs.Topic.{distance}
+use Rattle.linear.specs.Laws as laws
 
 module _ (n : ℕ)
     (rank : ℕ) where
   -- a sentence
-  pub least-within : (w : ℕ)
+  pub least_within : (w : ℕ)
       → w ≤ distance n w
   unfolding distance
-  least-within w = laws.rank w
+  least_within w = laws.rank w
 """
-SOURCE = """ghost use Rattle·linear·specs.specs.Topic.{distance};
-ghost use Rattle·linear·specs.specs.Laws.{rank};
+SOURCE = """ghost use Rattle.linear.specs.Topic.{distance};
+ghost use Rattle.linear.specs.Laws.{rank};
 
 fn sweep(n: u32) -> u32
-    ensures { λ r. ⌜ r ≡ rank n ⌝ }
+    ensures { result ≡ rank n }
 {
     n
 }
 
 pub fn nonlinearity(n: u32) -> u32
-    ensures { λ r. ⌜ r ≡ distance n n ⌝ }
+    ensures { result ≡ distance n n }
 {
     sweep(n)
 }
@@ -95,7 +95,7 @@ FILES = {
     "crates/linear/src/lib.rt": SOURCE,
     "crates/claims/specs/Worked.antt": WORKED,
     "crates/claims/proofs/Demand3.antt": DEMAND,
-    "crates/claims/proofs/Words.antt": "pub of-no-statement : ℕ\nof-no-statement = 0\n",
+    "crates/claims/proofs/Words.antt": "pub of_no_statement : ℕ\nof_no_statement = 0\n",
     "docs/CALLS.md": CALLS,
 }
 
@@ -120,50 +120,55 @@ class Tied(unittest.TestCase):
     def test_what_is_read(self):
         held = tied.Sources(FILES)
         self.assertEqual(sorted(held.homes), ["Found", "Ranked", "best", "cases", "distance", "pairs", "rank"])
-        self.assertEqual(held.statements, {"least-within"})
+        self.assertEqual(held.statements, {"least_within"})
         self.assertEqual(held.lists, {"cases"})
 
     def test_a_definition_without_a_row(self):
-        self.assertEqual(self.found(page("| `best` | `least-within` |\n", "")), ["linear: best has no row"])
+        self.assertEqual(self.found(page("| `best` | `least_within` |\n", "")), ["linear: best has no row"])
         self.assertEqual(len(self.found(files=changed("crates/linear/specs/Pairs.antt", "abbrev pub pairs", "pub data Kind : Type 0 where\nabbrev pub pairs"))), 1)
 
     def test_a_row_whose_definition_is_gone_or_elsewhere(self):
         self.assertEqual(self.found(page("`Found`, `pairs`", "`Found`, `pairs`, `gone`")), ["linear: Found, pairs, gone: gone is no definition of linear"])
         self.assertEqual(len(self.found(page("| `cases` |", "| `cases`, `Swept` |"))), 1)
-        moved = page("| `best` | `least-within` |\n", "").replace("| `cases` |", "| `cases`, `best` |")
+        moved = page("| `best` | `least_within` |\n", "").replace("| `cases` |", "| `cases`, `best` |")
         self.assertEqual(self.found(moved), ["claims: cases, best: best is no definition of claims"])
 
     def test_two_rows(self):
         self.assertEqual(self.found(page("| `Found`, `pairs` |", "| `Found`, `pairs`, `best` |")), ["best stands in two rows"])
 
     def test_a_statement_that_is_not_there(self):
-        self.assertEqual(len(self.found(page("| `best` | `least-within` |", "| `best` | `least-without` |"))), 2)
-        self.assertEqual(len(self.found(page("| `best` | `least-within` |", "| `best` | `of-no-statement`; `cases` 1 |"))), 1)
-        self.assertEqual(len(self.found(page("`-within`", "`-without`"))), 2)
+        self.assertEqual(len(self.found(page("| `best` | `least_within` |", "| `best` | `least_without` |"))), 2)
+        self.assertEqual(len(self.found(page("| `best` | `least_within` |", "| `best` | `of_no_statement`; `cases` 1 |"))), 1)
+        self.assertEqual(len(self.found(page("`_within`", "`_without`"))), 2)
         self.assertEqual(len(self.found(page("`cases` 3", "`bounds` (3)"))), 1)
 
     def test_nothing_ties_it(self):
-        self.assertEqual(len(self.found(page("| `best` | `least-within` |", "| `best` | NOTHING |"))), 1)
-        self.assertEqual(len(self.found(page("| `best` | `least-within` |", "| `best` | as `distance` has it |"))), 1)
-        self.assertEqual(self.found(page("| `best` | `least-within` |", "| `best` | a program alone, no call |")), [])
+        self.assertEqual(len(self.found(page("| `best` | `least_within` |", "| `best` | NOTHING |"))), 1)
+        self.assertEqual(len(self.found(page("| `best` | `least_within` |", "| `best` | as `distance` has it |"))), 1)
+        self.assertEqual(self.found(page("| `best` | `least_within` |", "| `best` | a program alone, no call |")), [])
 
     def test_what_is_not_behind_the_calls(self):
-        behind = page("| `distance` | `least-within`; `cases` 3 |", "| `distance` | behind the calls |")
+        behind = page("| `distance` | `least_within`; `cases` 3 |", "| `distance` | behind the calls |")
         self.assertEqual(len(self.found(behind)), 3)  # a statement, the contract of a call, and a definition before it
         users = " ".join(self.found(behind))
-        for user in ("the statement least-within", "the contract of linear::nonlinearity", "the definition pairs"):
+        for user in ("the statement least_within", "the contract of linear::nonlinearity", "the definition pairs"):
             self.assertIn(user, users)
 
     def test_what_is_behind_the_calls_is_used_by_what_is_not(self):
-        self.assertEqual(len(self.found(page("| `Ranked` | behind the calls: laws alone |", "| `Ranked` | `least-within` |"))), 1)
+        self.assertEqual(len(self.found(page("| `Ranked` | behind the calls: laws alone |", "| `Ranked` | `least_within` |"))), 1)
         stated = changed("crates/claims/proofs/Demand3.antt", "→ w ≤ distance n w", "→ w ≤ laws.rank w")
         self.assertEqual(len(self.found(files=stated)), 1)
-        called = changed("crates/linear/src/lib.rt", "r ≡ distance n n", "r ≡ rank n")
+        called = changed("crates/linear/src/lib.rt", "result ≡ distance n n", "result ≡ rank n")
         self.assertEqual(len(self.found(files=called)), 1)
+        renamed = changed("crates/linear/src/lib.rt", "Laws.{rank}", "Laws.{rank as order}")
+        renamed["crates/linear/src/lib.rt"] = renamed["crates/linear/src/lib.rt"].replace("rank n", "order n").replace("distance n n", "order n")
+        self.assertEqual(len(self.found(files=renamed)), 1)
 
     def test_a_field_of_the_same_name_is_no_use(self):
+        field = changed("crates/linear/src/lib.rt", "result ≡ distance n n", "(of result).rank ≡ result.rank")
+        self.assertEqual(self.found(files=field), [])
         self.assertEqual(tied.behind_faults(tied.Sources(FILES), tied.rows(PAGE)), [])
-        brought = changed("crates/linear/specs/Topic.antt", "use Prim.Native.Nat.{ℕ}", "use Rattle·linear·specs.specs.Laws.{rank}")
+        brought = changed("crates/linear/specs/Topic.antt", "use Rattle.std.specs.Prelude.{ℕ}", "use Rattle.linear.specs.Laws.{rank}")
         self.assertEqual(self.found(files=brought), [])
         brought["crates/linear/specs/Topic.antt"] += "  best b = rank b\n"
         self.assertEqual(len(self.found(files=brought)), 1)

@@ -27,7 +27,7 @@ LIST = re.compile(r"^abbrev pub (\S+) : List Case$", re.M)
 STATEMENT = re.compile(r"^( *)pub ([^\s:]+) :(.*)$")
 IMPORT = re.compile(r"^(?:ghost )?use \S+?specs\.\w+\.\{([^}]*)\};?$", re.M)
 ALIAS = re.compile(r"^(?:ghost )?use \S+?specs\.(\w+) as (\S+?);?$", re.M)
-NAME = re.compile(r"[^\W\d][\w′·]*(?:-[\w′·]+)*(?:\.[^\W\d][\w′·]*(?:-[\w′·]+)*)?")
+NAME = re.compile(r"(?<![\w'.])[^\W\d][\w']*(?:\.[^\W\d][\w']*)?")  # what comes behind `).` is a field
 TICKED = re.compile(r"`([^`\n]+)`")
 
 
@@ -54,17 +54,17 @@ def bodies(text):
 
 
 def imported(text):
-    """The names that a file brings in, and the names of whole files that it brings in under another name."""
-    brought = {name.strip() for listed in IMPORT.findall(text) for name in listed.split(",")}
-    return brought, {alias for _, alias in ALIAS.findall(text)}
+    """The names that a file brings in, each with that of its definition, and the names of whole files that it brings in under another name."""
+    brought = [name.split(" as ") for listed in IMPORT.findall(text) for name in listed.split(",")]
+    return {name[-1].strip(): name[0].strip() for name in brought}, {alias for _, alias in ALIAS.findall(text)}
 
 
 def named(text, visible, aliases, wanted):
-    """Which of the wanted definitions a text names: those that its file defines or brings in, plain or behind another name for their file."""
+    """Which of the wanted definitions a text names: those that its file defines or brings in, as it calls them, or behind a name for their file."""
     found = set()
     for word in NAME.findall(text):
         first, _, second = word.partition(".")
-        found |= {first} & visible & wanted
+        found |= {visible.get(first)} & wanted
         if first in aliases:
             found |= {second} & wanted
     return found
@@ -130,19 +130,19 @@ class Sources:
             crate = path.split("/")[1]
             for function in sources.functions(crate, sources.module_of(pathlib.PurePath(path)), sources.tokens(text)):
                 if (crate, function.name) in self.listed:
-                    promised = " ".join(function.promises)
+                    promised = " ".join(function.promises).replace(" . ", ".")
                     found += [(f"the contract of {crate}::{function.name}", function.name, word) for word in named(promised, visible, aliases, wanted)]
         for path, text in self.specs.items():
             visible, aliases = imported(text)
             for name, body in bodies(text).items():
-                words = named(body, visible | set(believed(text)), aliases, wanted) - {name}
+                words = named(body, visible | {own: own for own in believed(text)}, aliases, wanted) - {name}
                 found += [(f"the definition {name}", name, word) for word in words]
         return found
 
 
 def ties(held, token):
-    """Whether a name is that of a statement or of a worked list; `-call` names the statements of that ending."""
-    return token in held.statements or token in held.lists or (token.startswith("-") and any(name.endswith(token) for name in held.statements))
+    """Whether a name is that of a statement or of a worked list; `_call` names the statements of that ending."""
+    return token in held.statements or token in held.lists or (token.startswith("_") and any(name.endswith(token) for name in held.statements))
 
 
 def token_fault(held, token):
