@@ -144,7 +144,9 @@ def build_libraries(crates):
 
 
 def at_once():
-    """How many checks may run side by side: one a processor, as many as memory holds."""
+    """How many checks may run side by side: RT_JOBS, as `rt` has it, or one a processor, as many as memory holds."""
+    if os.environ.get("RT_JOBS", "").isdigit():
+        return int(os.environ["RT_JOBS"])
     free = os.sysconf("SC_AVPHYS_PAGES") * os.sysconf("SC_PAGE_SIZE")
     with contextlib.suppress(OSError, StopIteration):
         with open("/proc/meminfo", encoding="ascii") as told:
