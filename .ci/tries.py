@@ -8,7 +8,7 @@ crates/*/out. It begins with what a check of the crate as it stands has proved, 
 What the prover said is kept on this machine, in the folder of the user's caches, under the sum of all that it was said of: the edit, the sources of the crate
 and of those below it, and the kit. What has not changed is not tried again.
 
-usage: tries.py ROOT LOGS
+usage: tries.py ROOT LOGS [CRATE..]      (with names, the edits of these crates alone)
 """
 import concurrent.futures
 import contextlib
@@ -23,7 +23,7 @@ import time
 
 import kit
 
-PROVED, NOT_PROVED = 0, 1  # the prover's status; any other is no verdict
+PROVED, NOT_PROVED, AT_A_LIMIT = 0, 1, 3  # the prover's status; any other says nothing of the crate
 A_CHECK = 3 << 30  # the memory that a check may take, in bytes
 UNUSED = 30 * 24 * 3600  # seconds after which what was kept, and not read since, is removed
 
@@ -121,7 +121,7 @@ class Tried:
             status, said = check(self.crate, changes, own)
         finally:
             shutil.rmtree(own, ignore_errors=True)
-        if status not in (PROVED, NOT_PROVED):
+        if status not in (PROVED, NOT_PROVED, AT_A_LIMIT):
             raise Failed(f"the check ended with status {status}:\n{said[-2000:]}")
         return said
 
@@ -202,12 +202,13 @@ def make(lacking, place, kept_at):
 
 
 def main():
-    if len(sys.argv) != 3:
-        sys.exit("usage: tries.py ROOT LOGS")
+    if len(sys.argv) < 3:
+        sys.exit("usage: tries.py ROOT LOGS [CRATE..]")
     root, logs, began = pathlib.Path(sys.argv[1]).resolve(), pathlib.Path(sys.argv[2]), time.monotonic()
     version, sums, lacking, place, kept_at = kit.version(), {}, {}, {}, {}
-    shutil.rmtree(logs, ignore_errors=True)
-    for crate in kit.crates(root).values():
+    names = sys.argv[3:] or list(kit.crates(root))
+    for crate in (crate for crate in kit.crates(root).values() if crate.name in names):
+        shutil.rmtree(logs / crate.name, ignore_errors=True)
         for edit in sorted((crate.folder / "must-fail").glob("*.edit")):
             key = hashlib.sha256(repr((sum_of(crate, version, sums), edit.name, edit.read_bytes())).encode()).hexdigest()
             place[edit], kept_at[edit] = logs / crate.name / edit.stem / ".log", cache() / key
