@@ -7,6 +7,9 @@
 #                               and the licence (/usr/local if nothing is said)
 #   make stale                  says which of the archives and boxsheet are older than a source of theirs, and makes nothing
 #
+# `rt` leaves what it makes of a crate in the crate's own folder out/, which .ci/build.py asks it for. The archive of the crate NAME_c, the exports of the
+# library NAME, is libNAME.a here.
+#
 # All of it is for Linux on x86-64.
 SHELL = bash
 .SHELLFLAGS = -o pipefail -ec
@@ -31,41 +34,41 @@ all: $(ARCHIVES) $(SHARED) $(PROGRAM)
 shared: $(SHARED)
 
 # The crates that a crate is made of: itself and all that it stands on. In crates.txt a crate comes after those that it stands on.
-crates_of = $(sort $(shell awk -F: '/^[a-z]/ { all = $$1; n = split($$2, on, " "); for (k = 1; k <= n; k++) all = all " " of[on[k]]; of[$$1] = all } \
-    END { print of["$(1)"] }' crates.txt))
+crates_of = $(sort $(shell awk -F: '/^[a-z]/ { split($$1, name, " "); all = name[1]; n = split($$2, on, " "); for (k = 1; k <= n; k++) all = all " " of[on[k]]; \
+    of[name[1]] = all } END { print of["$(1)"] }' crates.txt))
 # Where their sources lie, by the names of folders and files that `rt` knows.
-folders_of = crates.txt $(foreach crate,$(call crates_of,$(1)),$(wildcard $(addprefix crates/$(crate)/,src specs proofs stdin stdout args data)))
+folders_of = crates.txt $(foreach crate,$(call crates_of,$(1)),$(wildcard $(addprefix crates/$(crate)/,src specs proofs stdin stdout args status data)))
 sources_of = $(shell find $(call folders_of,$(1)) -type f)
-$(foreach library,$(LIBRARIES),$(eval target/staticlib/lib$(library).a: $(call sources_of,$(library))))
+$(foreach library,$(LIBRARIES),$(eval target/staticlib/lib$(library).a: $(call sources_of,$(library)_c)))
 $(PROGRAM): $(call sources_of,boxsheet)
 
-# Makes $@ of the crate $(1) by the command $(2). `rt staticlib` proves its crate whenever it is run, so it is run only where the sums of the
+# Makes $@ of the crate $(1). `rt` proves what it has not proved yet whenever it is called, so it is called only where the sums of the
 # sources and of $@ are not those that were kept when it was last made: a source that was only touched costs no proof. Where a source is changed
 # while the proof runs, $@ is dated back, so that the next run makes it again.
 define make_of
 @sums() { find $(call folders_of,$(1)) -type f | LC_ALL=C sort | xargs sha256sum; }; before=$$(sums); \
 if { echo "$$before"; sha256sum $@; } 2> /dev/null | cmp -s - $@.sums; then touch $@; exit; fi; \
-echo '$(2)'; $(2); touch $@; \
+echo 'crates/$(1) to $@'; python3 -B .ci/build.py $(1) $@; touch $@; \
 [ "$$(sums)" = "$$before" ] || { touch -d 2001-01-01 $@; echo 'a source of $@ was changed meanwhile: run make again'; exit 1; }; \
 { echo "$$before"; sha256sum $@; } > $@.sums
 endef
 $(ARCHIVES): target/staticlib/lib%.a:
-	$(call make_of,$*,rt staticlib $*)
+	$(call make_of,$*_c)
 
 $(PROGRAM):
-	$(call make_of,boxsheet,rt check boxsheet)
+	$(call make_of,boxsheet)
 
 # Of what is not there nothing is said.
 older = if [ -e $(1) ]; then find $(call folders_of,$(2)) -type f -newer $(1) -print -quit | sed 's|.*|$(1) is older than &: run make|'; fi
 stale:
-	@$(foreach library,$(LIBRARIES),$(call older,target/staticlib/lib$(library).a,$(library)); )$(call older,$(PROGRAM),boxsheet)
+	@$(foreach library,$(LIBRARIES),$(call older,target/staticlib/lib$(library).a,$(library)_c); )$(call older,$(PROGRAM),boxsheet)
 
-# Whole archives, of which the calls alone are exported.
+# Whole archives, of which the calls alone are exported. The second name is the same file and no link to it: `rt ci` refuses links.
 $(SHARED): $(ARCHIVES) Makefile
 	mkdir -p $(@D)
 	$(CC) -shared -o $@ -Wl,-soname,libsatmegwo.so.$(MAJOR) -Wl,--version-script=<(echo '{ global: satmegwo_*; local: *; };') \
 	    -Wl,--whole-archive $(ARCHIVES) -Wl,--no-whole-archive -Wl,-z,defs,-z,relro,-z,now
-	ln -sf libsatmegwo.so target/lib/libsatmegwo.so.$(MAJOR)
+	ln -f $@ target/lib/libsatmegwo.so.$(MAJOR)
 
 define PKG_CONFIG
 prefix=$(abspath $(PREFIX))

@@ -2,7 +2,8 @@
 """Prints the lists of docs/CALLS.md from the sources, and compares: what is public stands there, once, under what its source makes it.
 
 Every `pub fn` below crates/ stands in one section:
-- exported: a call from C. It has no `requires`, and an `ensures`;
+- exported: a call from C. It has no `requires`, and an `ensures`. The crate NAME_c, which is linked into C, has a function of the same name that only
+  hands its arguments to it, with the same types and clauses; NAME_c has no other function, and none of its own stands on the page;
 - of a crate of the analyser, called by the sums of boxes, and no call: in the section of these. It has an `ensures`, over definitions that are to
   be believed (`specs.py`);
 - with a `requires`: a function between crates that asks something;
@@ -23,6 +24,7 @@ CALLS, EXPORTS, UPPER = "Calls", "Calls from C", "Functions that the sums of box
 ASKING, FREE = "Functions between crates that ask something", "Functions between crates that ask nothing"
 SECTIONS = (CALLS, EXPORTS, UPPER, ASKING, FREE)
 SUMS, ANALYSER = "rounds", ("walsh", "masks", "linear")
+LINKED = "_c"  # how the name of a crate that is linked into C ends, behind that of its library
 WIDEST = 150
 ENTRY = re.compile(r"- `(\w+)`: (.*)$")
 NAME = re.compile(r"`([\w:]+)`")
@@ -62,11 +64,12 @@ def believed(text):
 
 def is_outcome(function):
     """Whether a function at the root of its crate has the contract of a call: an answer, and what it says or the whole outcome by its name."""
-    if not function.gives or "⌜" not in function.promises or re.match(r"[a-z]\w*::", function.name):
+    promises = function.promises
+    if not function.gives or "{" not in promises or re.match(r"[a-z]\w*::", function.name):
         return False
-    first = next(word for word in function.promises[function.promises.index("⌜") + 1:] if word != "(")
+    first = next(word for word in promises[promises.index("{") + 1:] if word != "(")
     answer = function.gives[-1][0].isupper() and function.gives[-1] != "Checked"  # which says what checks found, and is no answer
-    part, length = function.gives[0] == "&", function.gives == ["usize"] and "exit" in function.promises
+    part, length = function.gives[0] == "&", function.gives == ["usize"] and (".", "new") in zip(promises, promises[1:])
     return (answer or part or length) and (first.startswith("said") or first[0].isupper())
 
 
@@ -75,9 +78,14 @@ def called_by_sums(functions):
     return " ".join(word for function in functions if function.crate == SUMS for word in function.body)
 
 
-def section_of(function, sums):
+def exports(functions):
+    """The functions of the libraries that C calls, by the crates that are linked into it."""
+    return {(function.crate.removesuffix(LINKED), function.name) for function in functions if function.exported}
+
+
+def section_of(function, sums, exported):
     """The section in which a public function stands."""
-    if function.exported:
+    if (function.crate, function.name) in exported:
         return EXPORTS
     if is_outcome(function) and "requires" not in function.clauses:
         return CALLS
@@ -88,10 +96,10 @@ def section_of(function, sums):
 
 def by_section(functions):
     """What the sources say: for each section its public functions, by crates."""
-    sums, found = called_by_sums(functions), {name: [] for name in SECTIONS}
+    sums, exported, found = called_by_sums(functions), exports(functions), {name: [] for name in SECTIONS}
     for function in functions:
-        if function.public:
-            found[section_of(function, sums)].append((function.crate, function.name))
+        if function.public and not function.exported:
+            found[section_of(function, sums, exported)].append((function.crate, function.name))
     return {section: sorted(names, key=lambda name: name[0]) for section, names in found.items()}
 
 
@@ -116,12 +124,40 @@ def printed(text, functions):
     return "\n".join(found)
 
 
+def export_faults(function, libraries):
+    """Where an export is not the library's function of its name, handed on."""
+    home = function.crate.removesuffix(LINKED)
+    inner = libraries.get((home, function.name))
+    if inner is None or home == function.crate:
+        return [f"no function {function.name} of the library {home} is public"]
+    arguments, body = ", ".join(function.takes), function.body
+    plain = [word for word, after in zip(body, body[1:] + [""]) if (word, after) != (",", ")")]  # as where the call stands on one line
+    handed = sources.tokens(f"{home}::{function.name}({arguments})")
+    same = {
+        "other arguments": (function.takes, function.types) == (inner.takes, inner.types),
+        "another reply": function.gives == inner.gives,
+        "another contract": (function.clauses, function.promises) == (inner.clauses, inner.promises),
+        f"another body than `{home}::{function.name}({arguments})`": plain == handed,
+    }
+    return [f"it has {what}" for what, holds in same.items() if not holds]
+
+
+def linked_faults(functions):
+    """What is wrong with the crates that are linked into C: each holds exports alone, and each of these is the library's function of its name."""
+    libraries = {(function.crate, function.name): function for function in functions if function.public and not function.exported}
+    linked, found = {function.crate for function in functions if function.exported}, []
+    for function in (function for function in functions if function.crate in linked):
+        faults = export_faults(function, libraries) if function.exported else ["it is no export, and its crate is linked into C"]
+        found += [f"{function.crate}::{function.name}: {fault}" for fault in faults]
+    return found
+
+
 def source_faults(functions):
     """What a contract lacks or has too much, wherever the function is listed."""
-    sums, found = called_by_sums(functions), []
-    for function in (function for function in functions if function.public):
-        name, section = f"{function.crate}::{function.name}", section_of(function, sums)
-        if "requires" in function.clauses and (function.exported or is_outcome(function)):
+    sums, exported, found = called_by_sums(functions), exports(functions), linked_faults(functions)
+    for function in (function for function in functions if function.public and not function.exported):
+        name, section = f"{function.crate}::{function.name}", section_of(function, sums, exported)
+        if "requires" in function.clauses and (section == EXPORTS or is_outcome(function)):
             found.append(f"{name} is a call, and has a `requires`")
         if "ensures" not in function.clauses and (section in (CALLS, EXPORTS, UPPER) or function.gives):
             found.append(f"{name} gives something, and has no `ensures`")

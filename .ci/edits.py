@@ -2,14 +2,14 @@
 """Holds each must-fail edit to its own refusals, and each public contract to two wrong programs or more.
 
 `rt` takes an edit for refused if its crate is not proved, for whatever reason. An edit may make several functions of one crate wrong at
-once, and this script reads the log of its check: every function that the edit names by a line 'refused: NAME', and every law that it names by
+once, and this script reads the log of its check, which tries.py makes: every function that the edit names by a line 'refused: NAME', and every law that it names by
 a line 'law: NAME', must be refused in it by an error of its own that is a fact that no longer holds. Of a function that is an error in what
-it returns or in what a loop of it keeps, or else its first error; of a law it is the first. A proof that only no longer fits the code shows
+it returns or in what a loop of it keeps, or else its first error, and where it has no proof of its own, that none is found; of a law it is the first. A proof that only no longer fits the code shows
 nothing, and neither does an edit that changes nothing but arguments that no function reads.
 
 The public contracts are those of the calls and exports of docs/CALLS.md.
 
-usage: edits.py CALLS CRATES LOGS      (docs/CALLS.md, crates/ and target/must-fail/, after `rt ci`)
+usage: edits.py CALLS CRATES LOGS      (docs/CALLS.md, crates/ and target/must-fail/, after tries.py)
 """
 import dataclasses
 import itertools
@@ -26,6 +26,7 @@ SHAPE = (
     "that can be named from here",
     "` has no field `",
     "but this has type `tie.Need-",
+    "but this has type `goal.",
 )
 # An error of one of these kinds says that the proof does not fit the code, that something else failed before, or that the check gave up.
 UNFIT = SHAPE + (
@@ -35,14 +36,16 @@ UNFIT = SHAPE + (
     "`simp`: no equation of the list has an instance",
     "stopped at the step limit",
 )
-# The needs that say what a function returns, and what a loop of it keeps.
-OUTCOME = re.compile(r"(returns|loop-holds|loop-again)(-\d+)?")
+# The goals that say what a function returns, and what a loop of it keeps, by the prover's names and by those that our proofs give them.
+OUTCOME = re.compile(r"returns(-.+)?|loop-(holds|again)(-\d+)?|.+-(init|preserved)(-\d+)?")
 NOT_SHOWN = "what differs could not be computed"
 OTHER_TEST = "the test has another form"
 ERROR = re.compile(r"^(\S+): error: `([^`]*)`: ")
-START = re.compile(r"^(/|fn |enum |struct |note: |help: |logic|library )")
+GOES_ON = "  "  # what each further line of a message begins with
+OF_FUNCTION = re.compile(r"/(Proof|Answers|Invariants)\.antt:")  # the proof of a function, and no lemma's
+NO_PROOF = re.compile(r"no proof: .*`search` did not prove `")
 TYPES = re.compile(r"expected type `([^`]*)`,? but this has type `([^`]*)`")
-PREFIX = re.compile(r"[\w.·]*_([<≤≡])_ ")
+PREFIX = re.compile(r"[\w.]*◌([<≤≡])◌ ")
 HOLE = re.compile(r"\?\d")
 UNCOMPUTED = re.compile(r"could not be computed|neither could be computed")
 DIFFER = re.compile(r"as printed, the two (types|sides) (first )?differ")
@@ -89,7 +92,7 @@ def errors(lines):
         match = ERROR.match(line)
         if match:
             end = at + 1
-            while end < len(lines) and not START.match(lines[end]):
+            while end < len(lines) and lines[end].startswith(GOES_ON):
                 end += 1
             found.append((match.group(1), match.group(2), " ".join(" ".join(lines[at:end]).split())))
     return found
@@ -97,7 +100,7 @@ def errors(lines):
 
 def relation(printed):
     """The relation of two numbers that a printed type states, `≢` where equality is denied; None for any other type."""
-    denied = re.fullmatch(r"(.*) → (?:Prim\.)?⊥", printed)
+    denied = re.fullmatch(r"(.*) → (?:[\w.]*\.)?⊥", printed)
     text = denied.group(1) if denied else printed
     prefix = PREFIX.match(text)
     found = prefix.group(1) if prefix else None
@@ -131,11 +134,11 @@ def unfit(message):
 
 
 def outcome_fails(own):
-    """Whether what a function returns, or what a loop of it keeps, fails by a fact. Of its errors, each with its need, those count that come
+    """Whether what a function returns, or what a loop of it keeps, fails by a fact. Of its errors, each with its goal, those count that come
     before one which says that the code has another shape."""
-    kinds = [(need, unfit(message)) for need, message in own]
+    kinds = [(goal, unfit(message)) for goal, message in own]
     fitting = itertools.takewhile(lambda error: error[1] not in SHAPE, kinds)
-    return any(OUTCOME.fullmatch(need) and kind is None for need, kind in fitting)
+    return any(OUTCOME.fullmatch(goal) and kind is None for goal, kind in fitting)
 
 
 def first_fault(messages):
@@ -151,18 +154,18 @@ def function_fault(crate, name, lines, found):
         return "the log does not name it"
     if told == "proved":
         return "it is proved"
-    folder = re.compile(r"/proofs/" + r"/".join(r"\+?" + re.escape(part) for part in name.split("::")) + r"/Proof\.antt:")
-    own = [(need, message) for file, need, message in found if folder.search(file)]
+    folder = re.compile(r"/proofs/" + r"/".join(r"\+?" + re.escape(part) for part in name.split("::")) + OF_FUNCTION.pattern)
+    own = [(goal, message) for file, goal, message in found if folder.search(file)]
     if own:
         return None if outcome_fails(own) else first_fault([message for _, message in own])
-    if told.startswith("no proof: ") and "`search` does not close" in told:
+    if NO_PROOF.match(told):
         return None
     return f"it has no error of its own ({told})"
 
 
 def law_fault(name, found):
-    """What is wrong with the refusal of a law, or None. A law may stand in specs/ too; a need of a function is none."""
-    own = [message for file, law, message in found if law == name and re.search("/(proofs|specs)/", file) and "/Proof.antt:" not in file]
+    """What is wrong with the refusal of a law, or None. A law may stand in specs/ too; a goal of a function is none."""
+    own = [message for file, law, message in found if law == name and re.search("/(proofs|specs)/", file) and not OF_FUNCTION.search(file)]
     return first_fault(own) if own else "no error is in its proof"
 
 

@@ -1,7 +1,7 @@
 #!/usr/bin/env python3
 """Holds every contract to what a function leaves: each lent array, and the reply.
 
-A `&mut` parameter has its `.exit` in an `ensures` (DECISIONS 108), of a private function too: what no contract names may be left with any content,
+A `&mut` parameter has its `.new` in an `ensures` (DECISIONS 108), of a private function too: what no contract names may be left with any content,
 and a wrong program lives there. A function that returns something has an `ensures`.
 
 usage: lent.py CRATES      (crates/)
@@ -29,7 +29,7 @@ def lent(function):
 def unnamed(function):
     """The lent arrays whose content after the call stands in no `ensures`."""
     promises = function.promises
-    named = {promises[at - 2] for at in range(2, len(promises)) if promises[at - 1:at + 1] == [".", "exit"]}
+    named = {promises[at - 2] for at in range(2, len(promises)) if promises[at - 1:at + 1] == [".", "new"]}
     return [name for name in lent(function) if name not in named]
 
 

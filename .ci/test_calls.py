@@ -39,45 +39,49 @@ They ask nothing.
 """
 LINEAR = """// pub fn old(n: u32) { is a comment }
 pub fn nonlinearity<'a>(n: u32, rows: &'a [u32]) -> LeastPair
-    ensures reply { λ r. ⌜ saidLeastPair { A = ℕ } r ≡ n ⌝ }
-    ensures { λ r. ⌜ r ≡ n ⌝ }
+    ensures reply { said_least_pair { A = ℕ } result ≡ n }
+    ensures same { result ≡ n }
 {
     let text = b"pub fn hidden() {";
     rows
 }
 
 pub fn write_text(text: &mut [u8; 8]) -> usize
-    ensures { λ r. ⌜ TextWritten r (now (text .exit)) ⌝ }
+    ensures { TextWritten result text.new }
 { 8 }
 
 pub fn sweep(mut found: Found, values: &mut [i32]) -> [i32; 8]
-    requires { ⌜ n ≤ 8 ⌝ }
-    ensures { λ r. ⌜ r ≡ n ⌝ }
+    requires { n ≤ 8 }
+    ensures { result ≡ n }
 { values }
 
 pub fn spectra() -> [i32; 8]
-    ensures { λ r. ⌜ Spectra r ⌝ }
+    ensures { Spectra result }
 { [0i32; 8] }
 
-pub fn check(n: u32) -> Checked ensures { λ r. ⌜ r ≡ first (checks n) ⌝ } { n }
+pub fn check(n: u32) -> Checked ensures { result ≡ first (checks n) } { n }
 
-pub fn largest(n: u32) -> u32 ensures { λ r. ⌜ r ≡ n ⌝ } { n }
+pub fn largest(n: u32) -> u32 ensures { result ≡ n } { n }
 
-pub fn count(n: u32) -> u32 requires { ⌜ n ≤ 8 ⌝ } ensures { λ r. ⌜ r ≡ n ⌝ } { n }
+pub fn count(n: u32) -> u32 requires { n ≤ 8 } ensures { result ≡ n } { n }
 
 fn private(n: u32) {}
 """
-LISTING = "pub fn measure(n: u32) -> CellList requires { ⌜ n ≤ 8 ⌝ } ensures { λ r. ⌜ ListCalled n r ⌝ } { n }\n"
-SERVER = "struct Server { n: u32 }\nimpl Server {\n    pub fn step(self) -> Self ensures { λ r. ⌜ ServerStepped self r ⌝ } { self }\n}\nfn after() {}\n"
-CATALOGUE = "pub fn fetch<'a>(catalogue: &'a [u8]) -> &'a [u8] ensures { λ r. ⌜ Handed (catalogue .entry) r ⌝ } { catalogue }\n"
-EXPORTS = '#[no_mangle]\npub extern "C" fn satmegwo_nonlinearity(n: u32) -> u32 ensures { λ r. ⌜ r ≡ n ⌝ } { n }\n'
-SUMS = "fn product(n: u32) -> u32 ensures { λ r. ⌜ r ≡ n ⌝ } { linear::largest(n) + linear::count(n) + linear::nonlinearity(n) }\n"
+LISTING = "pub fn measure(n: u32) -> CellList requires { n ≤ 8 } ensures { ListCalled n result } { n }\n"
+SERVER = "struct Server { n: u32 }\nimpl Server {\n    pub fn step(self) -> Self ensures { ServerStepped self result } { self }\n}\nfn after() {}\n"
+CATALOGUE = "pub fn fetch<'a>(catalogue: &'a [u8]) -> &'a [u8] ensures { Handed catalogue.now result } { catalogue }\n"
+LIBRARY = "pub fn satmegwo_nonlinearity(n: u32, rows: &[u32]) -> u32 ensures { result ≡ n } { n }\n"
+EXPORTS = """#[unsafe(no_mangle)]
+pub extern "C" fn satmegwo_nonlinearity(n: u32, rows: &[u32]) -> u32 ensures { result ≡ n } { satmegwo::satmegwo_nonlinearity(n, rows) }
+"""
+SUMS = "fn product(n: u32) -> u32 ensures { result ≡ n } { linear::largest(n) + linear::count(n) + linear::nonlinearity(n) }\n"
 FILES = {
     "linear/src/lib.rt": LINEAR,
     "linear/src/listing.rt": LISTING,
     "server/src/lib.rt": SERVER,
     "catalogue/src/lib.rt": CATALOGUE,
-    "satmegwo/src/lib.rt": EXPORTS,
+    "satmegwo/src/lib.rt": LIBRARY,
+    "satmegwo_c/src/lib.rt": EXPORTS,
     "rounds/src/lib.rt": SUMS,
 }
 
@@ -118,22 +122,51 @@ class Listed(unittest.TestCase):
         self.assertEqual(calls.source_faults(functions) + calls.page_faults(PAGE, functions), [])
 
     def test_a_call_with_a_requires_fails(self):
-        self.wrong("linear::nonlinearity", "`requires`", linear=LINEAR.replace("ensures reply {", "requires { ⌜ n ≤ 8 ⌝ }\n    ensures reply {"))
+        self.wrong("linear::nonlinearity", "`requires`", linear=LINEAR.replace("ensures reply {", "requires { n ≤ 8 }\n    ensures reply {"))
 
     def test_an_export_with_a_requires_fails(self):
-        self.wrong("satmegwo_nonlinearity", "`requires`", satmegwo=EXPORTS.replace("ensures", "requires { ⌜ n ≤ 8 ⌝ } ensures"))
+        asks = ("ensures", "requires { n ≤ 8 } ensures")
+        self.wrong("satmegwo::satmegwo_nonlinearity", "`requires`", satmegwo=LIBRARY.replace(*asks), satmegwo_c=EXPORTS.replace(*asks))
 
     def test_a_method_with_a_requires_fails(self):
-        self.wrong("Server::step", "`requires`", server=SERVER.replace("ensures", "requires { ⌜ Sound self ⌝ } ensures"))
+        self.wrong("Server::step", "`requires`", server=SERVER.replace("ensures", "requires { Sound self } ensures"))
 
     def test_a_call_without_an_ensures_fails(self):
-        self.wrong("Server::step", "no `ensures`", server=SERVER.replace("ensures { λ r. ⌜ ServerStepped self r ⌝ } ", ""))
+        self.wrong("Server::step", "no `ensures`", server=SERVER.replace("ensures { ServerStepped self result } ", ""))
 
     def test_an_export_without_an_ensures_fails(self):
-        self.wrong("satmegwo_nonlinearity", "no `ensures`", satmegwo=EXPORTS.replace("ensures { λ r. ⌜ r ≡ n ⌝ } ", ""))
+        lost = ("ensures { result ≡ n } ", "")
+        self.wrong("satmegwo::satmegwo_nonlinearity", "no `ensures`", satmegwo=LIBRARY.replace(*lost), satmegwo_c=EXPORTS.replace(*lost))
+
+    def test_an_export_that_is_not_its_librarys_function_fails(self):
+        for part, old, new in (
+            ("another contract", "result ≡ n", "result ≤ n"),
+            ("another contract", "ensures {", "ensures same {"),
+            ("another reply", "-> u32", "-> u16"),
+            ("other arguments", "rows: &[u32]", "rows: &mut [u32]"),
+            ("another body", "satmegwo_nonlinearity(n, rows)", "satmegwo_nonlinearity(n, &rows[1..])"),
+            ("another body", "{ satmegwo::", "{ linear::"),
+            ("another body", "{ satmegwo::satmegwo_nonlinearity(n, rows) }", "{ let r = satmegwo::satmegwo_nonlinearity(n, rows); r }"),
+        ):
+            self.assertIn(old, EXPORTS)
+            self.wrong("satmegwo_c::satmegwo_nonlinearity", part, satmegwo_c=EXPORTS.replace(old, new))
+
+    def test_an_export_on_several_lines(self):
+        functions = functions_of({"satmegwo_c": EXPORTS.replace("(n, rows) }", "(\n        n, rows,\n    ) }")})
+        self.assertEqual(calls.source_faults(functions), [])
+
+    def test_an_export_without_a_library_fails(self):
+        found = calls.source_faults(functions_of({"satmegwo": LIBRARY.replace("pub ", "")}))
+        self.assertEqual(found, ["satmegwo_c::satmegwo_nonlinearity: no function satmegwo_nonlinearity of the library satmegwo is public"])
+        self.assertIn("no function satmegwo_nonlinearity", " ".join(calls.source_faults(functions_of({"satmegwo": EXPORTS}))))
+
+    def test_another_function_beside_the_exports_fails(self):
+        for more in ("fn part() {}\n", "pub fn part() {}\n"):
+            found = calls.source_faults(functions_of({"satmegwo_c": EXPORTS + more}))
+            self.assertEqual(found[:1], ["satmegwo_c::part: it is no export, and its crate is linked into C"])
 
     def test_what_the_sums_call_without_an_ensures_fails(self):
-        self.wrong("linear::largest", "no `ensures`", linear=LINEAR.replace("largest(n: u32) -> u32 ensures { λ r. ⌜ r ≡ n ⌝ }", "largest(n: u32)"))
+        self.wrong("linear::largest", "no `ensures`", linear=LINEAR.replace("largest(n: u32) -> u32 ensures { result ≡ n }", "largest(n: u32)"))
 
     def test_a_name_without_a_function(self):
         self.differs("no such `pub fn`", text=PAGE.replace("`nonlinearity`", "`nonlinearity`, `degree`"))
@@ -143,19 +176,19 @@ class Listed(unittest.TestCase):
 
     def test_a_public_function_that_is_not_listed(self):
         self.differs("linear::more is public", linear=LINEAR + "pub fn more() {}\n")
-        run = "impl Server {\n    pub fn run(self) -> Self ensures { λ r. ⌜ ServerRan self r ⌝ } { self }"
+        run = "impl Server {\n    pub fn run(self) -> Self ensures { ServerRan self result } { self }"
         self.differs("server::Server::run is public", server=SERVER.replace("impl Server {", run))
 
     def test_a_function_that_is_listed_twice(self):
         self.differs("twice", text=PAGE.replace("`sweep`", "`sweep`, `sweep`"))
 
     def test_a_function_in_another_section(self):
-        self.differs("'Functions between crates that ask nothing'", linear=LINEAR.replace("    requires { ⌜ n ≤ 8 ⌝ }\n", ""))
+        self.differs("'Functions between crates that ask nothing'", linear=LINEAR.replace("    requires { n ≤ 8 }\n", ""))
         self.differs("makes it one of 'Calls'", text=PAGE.replace("`nonlinearity`, ", "").replace("`spectra`", "`spectra`, `nonlinearity`"))
-        self.differs("makes it one of 'Calls'", linear=LINEAR.replace("r ≡ first (checks n)", "saidVerdict r ≡ n").replace("-> Checked", "-> Verdict"))
+        self.differs("makes it one of 'Calls'", linear=LINEAR.replace("result ≡ first (checks n)", "said_verdict result ≡ n").replace("-> Checked", "-> Verdict"))
 
     def test_a_contract_that_names_no_outcome_is_no_call(self):
-        self.differs("'Functions between crates that ask nothing'", catalogue=CATALOGUE.replace("Handed (catalogue .entry) r", "r ≡ catalogue"))
+        self.differs("'Functions between crates that ask nothing'", catalogue=CATALOGUE.replace("Handed catalogue.now result", "result ≡ catalogue.now"))
 
     def test_what_the_sums_no_longer_call(self):
         self.differs("'Functions between crates that ask nothing'", rounds=SUMS.replace("linear::largest(n) + ", ""))
@@ -165,7 +198,7 @@ class Listed(unittest.TestCase):
         self.differs("'Functions that the sums of boxes call'", rounds=SUMS.replace("linear::largest(n)", "linear::largest(n) + linear::sweep(n)"))
 
     def test_an_export_is_no_call(self):
-        self.differs("'Functions between crates that ask nothing'", satmegwo=EXPORTS.replace('extern "C" ', ""))
+        self.differs("'Functions between crates that ask nothing'", satmegwo_c="")
 
     def test_another_order(self):
         self.differs("another order or form", text=PAGE.replace("`sweep`, `listing::measure`", "`listing::measure`, `sweep`"))
@@ -228,7 +261,7 @@ class Command(unittest.TestCase):
 
     def test_nothing_is_written_where_a_call_has_a_requires(self):
         changed = PAGE.replace("`sweep`, ", "")
-        page, status, said = self.ran(changed, "--write", server=SERVER.replace("ensures", "requires { ⌜ Sound self ⌝ } ensures"))
+        page, status, said = self.ran(changed, "--write", server=SERVER.replace("ensures", "requires { Sound self } ensures"))
         self.assertEqual((page, status), (changed, 1))
         self.assertIn("Server::step is a call, and has a `requires`", said)
 

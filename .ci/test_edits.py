@@ -26,11 +26,11 @@ old: w = 0
 new: w = 1
 """
 LAW = "# a definition\nlaw: least\nfile: specs/A.antt\nold: : a\nnew: : b\n"
-SWEEP = "/t/linear/both/proofs/sweep/Proof.antt:31:5: error: `loop-again`: `omega`: the goal fails at c = 3"
+SWEEP = "./proofs/sweep/Proof.antt:31:5: error: `loop-again`: `omega`: the goal fails at c = 3"
 OTHER = SWEEP.replace("loop-again", "next-requires")
-PLACE = "/t/linear/both/proofs/first_place/Proof.antt:12:1: error: `returns`: `search`: no proof of"
+PLACE = "./proofs/first_place/Proof.antt:12:1: error: `returns`: `search`: no proof of"
 REFUSED = ["fn linear::sweep: not proved", "fn linear::first_place: not proved"]
-AT = "/t/linear/both/proofs/sweep/Proof.antt:31:5: error: "
+AT = "./proofs/sweep/Proof.antt:31:5: error: "
 
 
 def program_of(top, sources):
@@ -84,20 +84,28 @@ class Held(unittest.TestCase):
         self.one_fault("no error of its own", log)
 
     def test_no_proof_found_is_a_refusal(self):
-        log = [PLACE, "fn linear::sweep: no proof: expected `sweep-spec` in ..; `search` does not close `returns-7`", REFUSED[1]]
+        log = [PLACE, "fn linear::sweep: no proof: expected answers in ./proofs/sweep/Answers.antt; `search` did not prove `returns-then-c-ne0`", REFUSED[1]]
         self.assertEqual(self.faults(log), (2, []))
+
+    def test_no_measure_is_no_refusal(self):
+        log = [PLACE, "fn linear::sweep: no proof: expected a measure in ./proofs/sweep/Invariants.antt", REFUSED[1]]
+        self.one_fault("no error of its own", log)
+
+    def test_an_answer_that_fails_is_a_refusal(self):
+        for file in ("Answers", "Invariants"):
+            self.assertEqual(self.faults([SWEEP.replace("Proof", file), PLACE] + REFUSED), (2, []))
 
     # ---- which error counts
     def test_an_outcome_counts_though_it_is_not_first(self):
         unfit = AT + "`add-c`: `rw`: no occurrence of `c`"
-        for need in ("returns", "returns-3", "loop-holds", "loop-again-2"):
-            self.assertEqual(self.faults([unfit, SWEEP.replace("loop-again", need), PLACE] + REFUSED), (2, []))
+        for goal in ("returns", "returns-3", "returns-then-c-ne0", "loop-holds", "loop-again-2", "loop-c-preserved", "loop-c-init-2"):
+            self.assertEqual(self.faults([unfit, SWEEP.replace("loop-again", goal), PLACE] + REFUSED), (2, []))
 
-    def test_no_other_need_counts_after_an_error_that_is_no_fact(self):
-        for need in ("next-requires", "loop-less", "returned", "sweep-spec"):
-            self.one_fault("no fact", [AT + "`add-c`: `rw`: no occurrence of `c`", SWEEP.replace("loop-again", need), PLACE] + REFUSED)
+    def test_no_other_goal_counts_after_an_error_that_is_no_fact(self):
+        for goal in ("next-requires", "loop-less", "loop-c-smaller", "returned", "sweep_spec"):
+            self.one_fault("no fact", [AT + "`add-c`: `rw`: no occurrence of `c`", SWEEP.replace("loop-again", goal), PLACE] + REFUSED)
 
-    def test_a_first_error_in_another_need_counts(self):
+    def test_a_first_error_in_another_goal_counts(self):
         unfit = AT + "`returns`: `mask` was not admitted"
         self.assertEqual(self.faults([OTHER, unfit, PLACE] + REFUSED), (2, []))
 
@@ -117,11 +125,11 @@ class Held(unittest.TestCase):
         self.unfit("`returns`: record `linear.sweep.Lts.After-clear` has no field `next`")
 
     def test_a_message_may_be_broken_anywhere(self):
-        self.unfit("`returns`: record `linear.sweep.Lts.After-slice-known2`\n  has no field `limit-of`")
+        self.unfit("`returns`: record `linear.sweep.Lts.After-slice_known2`\n  has no field `limit_of`")
         self.unfit("`returns`: expected type `A`, but this has\n    type `tie.Need-add-c`")
 
     def test_a_simp_without_an_instance_fails(self):
-        self.unfit("`returns`: `simp`: no equation of the list has an\n  instance in the goal `r ≡ limitOf m`")
+        self.unfit("`returns`: `simp`: no equation of the list has an\n  instance in the goal `r ≡ limit_of m`")
 
     def test_what_is_not_shown_fails(self):
         self.unfit("`worked`: expected type `T (right cases)`, but this has type `Prim.Unit {?ℓ0}`\n  what the two types compute to is not shown, because one could not be computed (expected: computing it took more than 200000 steps)")
@@ -131,35 +139,35 @@ class Held(unittest.TestCase):
         self.fits("`returns`: as printed, the two types differ only where one has `table` (expected) and the other has `rule` (found)\n  what the two types compute to is not shown, because neither could be computed (..)")
 
     def test_a_test_of_another_form_fails(self):
-        self.unfit("`returns`: expected type `mathlib.Core.Path._≡_ {A = Prim.Native.Nat.ℕ} (?11 c) 1`, but this has type `Prim.Native.Nat._≤_ (get 2 m) 2`")
-        self.unfit("`loop-again`: expected type `Prim.Native.Nat._<_ (?7 c) (?8 c)`,\n  but this has type `Prim.Native.Nat._≤_ (get 8 x) (get 2 x)`")
-        self.unfit("`returns`: expected type `a ≡ b → Prim.⊥` but this has type `Prim.Native.Nat._<_ a b`")
-        self.unfit("`returns`: expected type `Prim.Native.Nat._≤_ a b` but this has type `Prim.Native.Nat._<_ a b`")
+        self.unfit("`returns`: expected type `mathlib.Core.Path.◌≡◌ {A = Prim.Native.Nat.ℕ} (?11 c) 1`, but this has type `Prim.Native.Nat.◌≤◌ (get 2 m) 2`")
+        self.unfit("`loop-again`: expected type `Prim.Native.Nat.◌<◌ (?7 c) (?8 c)`,\n  but this has type `Prim.Native.Nat.◌≤◌ (get 8 x) (get 2 x)`")
+        self.unfit("`returns`: expected type `a ≡ b → Prim.⊥` but this has type `Prim.Native.Nat.◌<◌ a b`")
+        self.unfit("`returns`: expected type `Prim.Native.Nat.◌≤◌ a b` but this has type `Prim.Native.Nat.◌<◌ a b`")
 
     def test_another_number_in_the_same_relation_is_a_fact(self):
-        self.fits("`returns`: expected type `Prim.Native.Nat._≤_ (?7 c) b` but this has type `Prim.Native.Nat._≤_ a (b + 1)`")
-        self.fits("`returns`: expected type `boxFile x ≡ ?12 c` but this has type `refusal (f (a < b)) ≡ y`")
+        self.fits("`returns`: expected type `Prim.Native.Nat.◌≤◌ (?7 c) b` but this has type `Prim.Native.Nat.◌≤◌ a (b + 1)`")
+        self.fits("`returns`: expected type `box_file x ≡ ?12 c` but this has type `refusal (f (a < b)) ≡ y`")
 
     def test_a_weaker_relation_is_a_fact(self):
-        self.fits("`returns`: expected type `Prim.Native.Nat._<_ a b` but this has type `Prim.Native.Nat._≤_ a b`")
+        self.fits("`returns`: expected type `Prim.Native.Nat.◌<◌ a b` but this has type `Prim.Native.Nat.◌≤◌ a b`")
 
     def test_a_denied_test_is_a_fact(self):
-        self.fits("`returns`: expected type `_≡_ {A = Prim.Native.Nat.ℕ} (?21 c) 1 → Prim.⊥`, but this has type `here ≡ 1`")
+        self.fits("`returns`: expected type `◌≡◌ {A = Prim.Native.Nat.ℕ} (?21 c) 1 → Prim.⊥`, but this has type `here ≡ 1`")
 
     # ---- laws
     def test_a_law(self):
-        error = "/t/linear/both/proofs/Theorems.antt:3:1: error: `least`: expected `a`, but this is `b`"
+        error = "./proofs/Theorems.antt:3:1: error: `least`: expected `a`, but this is `b`"
         self.assertEqual(self.faults([error], LAW), (1, []))
         self.one_fault("no error is in its proof", [SWEEP], LAW)
 
     def test_a_law_in_the_specs(self):
-        error = "/t/linear/both/specs/Worked.antt:3:1: error: `least`: expected type `T (right cases)`, but this has type `Unit`"
+        error = "./specs/Worked.antt:3:1: error: `least`: expected type `T (right cases)`, but this has type `Unit`"
         self.assertEqual(self.faults([error], LAW), (1, []))
         self.one_fault("no error", [error.replace("`least`", "`cases`")], LAW)
         self.one_fault("no error", [error.replace("/specs/", "/src/")], LAW)
 
-    def test_a_need_of_a_function_is_no_law(self):
-        self.one_fault("no error", ["/t/linear/both/proofs/sweep/Proof.antt:3:1: error: `least`: expected `a`, but this is `b`"], LAW)
+    def test_a_goal_of_a_function_is_no_law(self):
+        self.one_fault("no error", ["./proofs/sweep/Proof.antt:3:1: error: `least`: expected `a`, but this is `b`"], LAW)
 
     # ---- edits
     def test_an_edit_that_names_nothing_fails(self):
@@ -206,7 +214,7 @@ class Held(unittest.TestCase):
         self.assertEqual(edits.thin([("linear", "sweep"), ("linear", "first_place")], held), ["linear::first_place has 0"])
 
     def test_a_law_is_no_wrong_program(self):
-        error = "/t/linear/both/proofs/Theorems.antt:3:1: error: `least`: expected `a`, but this is `b`"
+        error = "./proofs/Theorems.antt:3:1: error: `least`: expected `a`, but this is `b`"
         self.assertEqual(edits.thin([("linear", "least")], self.judged([error], LAW)[0]), ["linear::least has 0"])
 
 

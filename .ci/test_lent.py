@@ -8,15 +8,15 @@ import sources
 RIGHT = """
 // fn old(out: &mut [u8]) {}
 pub fn fill<'a>(rows: &[u32], out: &'a mut [u32; 256], mut k: usize) -> [u32; 4]
-    requires { ⌜ length (now out) ≡ k ⌝ }
-    ensures { λ r. ⌜ r ≡ now (rows .entry) ⌝ }
-    ensures content { λ r. ⌜ now (out .exit) ≡ replicate k 0 ⌝ }
+    requires { length out.old ≡ k }
+    ensures same { result ≡ rows.now }
+    ensures content { out.new ≡ replicate k 0 }
 {
     rows
 }
 
 fn clear(out: &mut [u32])
-    ensures { λ _. ⌜ AnyContent (now (out .entry)) (now (out .exit)) ⌝ }
+    ensures { AnyContent out.old out.new }
 {
     out[0] = 0;
 }
@@ -40,23 +40,23 @@ class Lent(unittest.TestCase):
         self.assertEqual(faults(RIGHT), [])
 
     def test_an_array_that_a_sweep_works_in(self):
-        functions = sources.functions("packing", "", sources.tokens(RIGHT.replace("(out .exit)) ⌝ }\n{\n    out", "(out .entry)) ⌝ }\n{\n    out")))
+        functions = sources.functions("packing", "", sources.tokens(RIGHT.replace("out.new }\n{\n    out", "out.old }\n{\n    out")))
         self.assertEqual(lent.faults(functions, {("packing::clear", "out")}), [])
         (fault,) = lent.faults(functions, {("packing::clear", "out"), ("packing::fill", "out")})
         self.assertIn("packing::fill is said to work in out", fault)
 
     def test_an_array_that_no_ensures_names(self):
-        self.one_fault("now (out .exit) ≡ replicate k 0", "r ≡ r", "packing::fill is lent out")
-        self.one_fault("    ensures { λ _. ⌜ AnyContent (now (out .entry)) (now (out .exit)) ⌝ }\n", "", "packing::clear is lent out")
+        self.one_fault("out.new ≡ replicate k 0", "result ≡ result", "packing::fill is lent out")
+        self.one_fault("    ensures { AnyContent out.old out.new }\n", "", "packing::clear is lent out")
 
     def test_its_content_before_the_call_is_not_enough(self):
-        self.one_fault("(now (out .exit)) ⌝", "(now (out .entry)) ⌝", "packing::clear is lent out")
+        self.one_fault("AnyContent out.old out.new", "AnyContent out.old out.old", "packing::clear is lent out")
 
     def test_what_is_asked_of_it_is_not_enough(self):
-        self.one_fault("ensures { λ _. ⌜", "requires { ⌜", "packing::clear is lent out")
+        self.one_fault("ensures { AnyContent", "requires { AnyContent", "packing::clear is lent out")
 
     def test_the_name_of_another_array_is_not_enough(self):
-        self.one_fault("now (out .exit) ≡", "now (about .exit) ≡", "packing::fill is lent out")
+        self.one_fault("out.new ≡", "about.new ≡", "packing::fill is lent out")
 
     def test_a_second_array(self):
         self.one_fault("mut k: usize", "words: &mut [u32]", "packing::fill is lent words")

@@ -1,8 +1,9 @@
 #!/usr/bin/env python3
 """The Makefile and .ci/run on a planted tree: a changed source is made anew, and nothing else is; and what is older than a source is told.
 
-The tree has the repository's crates.txt, and of each crate one file of `src` and one of `proofs`. In place of the toolchain stands a script that
-notes how it was called and writes an archive or a program of the sources' sum. Times are set, so that nothing hangs on the clock's steps."""
+The tree has the repository's crates.txt, and of each crate one file of `src` and one of `proofs`. In place of `rt` and of the kit's compiler stands a
+script that notes how it was called and writes an archive or a program of the sources' sum. Times are set, so that nothing hangs on the clock's
+steps."""
 import os
 import pathlib
 import re
@@ -14,30 +15,38 @@ import unittest
 
 ROOT = pathlib.Path(__file__).resolve().parent.parent
 LIBRARIES = ("satmegwo", "satmegwo_parts", "satmegwo_design", "satmegwo_server")
-MADE = {**{name: f"target/staticlib/lib{name}.a" for name in LIBRARIES}, "boxsheet": "target/bin/boxsheet"}
+CRATES = [f"{name}_c" for name in LIBRARIES] + ["boxsheet"]
+MADE = dict(zip(CRATES, [f"target/staticlib/lib{name}.a" for name in LIBRARIES] + ["target/bin/boxsheet"]))
 # An archive holds the sum of all sources, so that it is another for every other tree.
 RT = r"""#!/usr/bin/env bash
 set -e
-echo "$*" >> called
+crate=${PWD##*/}
+made=crates/$crate/out
+cd ../..
+case $0 in */rattle) echo "rattle $1 $crate" ;; *) echo "$1 $crate" ;; esac >> called
 [ ! -e refused ] || exit 1
-sum=$(find crates -type f | LC_ALL=C sort | xargs cat | sha256sum)
+[ ! -e "refused-$(basename "$0")" ] || exit 1
+sum=$(find crates -type f -not -path '*/out/*' | LC_ALL=C sort | xargs cat | sha256sum)
 [ ! -e meanwhile ] || mv meanwhile crates/design/src/lib.rt
-mkdir -p target/staticlib target/bin
+mkdir -p "$made"
 case $1 in
-staticlib)
-    echo ".asciz \"$sum\"" | as -o "$2.o" -
-    rm -f "target/staticlib/lib$2.a"
-    ar rc "target/staticlib/lib$2.a" "$2.o"
+lib | build)
+    echo ".asciz \"$sum\"" | as -o "$crate.o" -
+    rm -f "$made/lib$crate.a"
+    ar rc "$made/lib$crate.a" "$crate.o"
     ;;
-check) echo "$sum" | cmp -s - target/bin/boxsheet || echo "$sum" > target/bin/boxsheet ;;
+run) echo "$sum" > "$made/boxsheet" ;;
 esac
 """
+
+
+ALL = [*(f"lib {name}_c" for name in LIBRARIES), "run boxsheet"]
 
 
 def stands_on():
     """The crates of crates.txt, each with all that it is made of."""
     found = {}
-    for name, below in re.findall(r"^(\w+):(.*)$", (ROOT / "crates.txt").read_text(), re.M):
+    for name, below in re.findall(r"^(\w+)[^:\n]*:(.*)$", (ROOT / "crates.txt").read_text(), re.M):
         found[name] = {name}.union(*(found.get(other, set()) for other in below.split()))
     return found
 
@@ -50,15 +59,16 @@ class Make(unittest.TestCase):
         cls.addClassCleanup(folder.cleanup)
         planted = cls()
         planted.tree = cls.planted = pathlib.Path(folder.name)
-        for name in ("Makefile", "crates.txt", "include/satmegwo.h", ".ci/run"):
+        for name in ("Makefile", "crates.txt", "include/satmegwo.h", ".ci/run", ".ci/build.py", ".ci/kit.py"):
             planted.program(name, (ROOT / name).read_text())
         for crate in stands_on():
-            for file in (f"crates/{crate}/src/lib.rt", f"crates/{crate}/proofs/part/Proof.antt"):
+            for file in (f"crates/{crate}/src/{'main' if crate == 'boxsheet' else 'lib'}.rt", f"crates/{crate}/proofs/part/Proof.antt"):
                 planted.write(file, f"{file} as it was\n")
-        planted.program("bin/rt", RT)
+        for name in ("rt", "rattle"):
+            planted.program(f"bin/{name}", RT)
         planted.program(".ci/install", "#!/bin/sh\necho installed\n")
         planted.assertEqual(planted.make().returncode, 0)
-        planted.assertEqual(planted.called(), [*(f"staticlib {name}" for name in LIBRARIES), "check boxsheet"])
+        planted.assertEqual(planted.called(), ALL)
 
     def setUp(self):
         folder = tempfile.TemporaryDirectory()
@@ -86,7 +96,8 @@ class Make(unittest.TestCase):
 
     def age(self):
         """Makes all that is there an hour older, in its order."""
-        for file in [file for file in self.tree.rglob("*") if file.is_file() and not file.is_symlink()]:
+        files = {file.stat().st_ino: file for file in self.tree.rglob("*") if file.is_file()}  # one may have two names
+        for file in files.values():
             then = file.stat().st_mtime_ns - 3600 * 10**9
             os.utime(file, ns=(then, then))
 
@@ -131,15 +142,15 @@ class Make(unittest.TestCase):
         for name, made in MADE.items():
             on = set(re.search(rf"^{re.escape(made)}: (.*)$", told, re.M)[1].split())
             files = {file.relative_to(self.tree).as_posix() for crate in stands_on()[name] for file in (self.tree / "crates" / crate).rglob("*") if file.is_file()}
-            self.assertEqual(on, files | {"crates.txt"})
+            self.assertEqual(on, {file for file in files if "/out/" not in file} | {"crates.txt"})
 
     def test_the_list_of_crates_counts(self):
         self.edit("crates.txt", (self.tree / "crates.txt").read_text().replace("satmegwo_design: ", "satmegwo_design: sorting "))
         self.make()
-        self.assertIn("staticlib satmegwo_design", self.called())
+        self.assertIn("lib satmegwo_design_c", self.called())
         self.edit("crates/sorting/src/lib.rt")
         self.make()
-        self.assertIn("staticlib satmegwo_design", self.called())
+        self.assertIn("lib satmegwo_design_c", self.called())
         self.assert_done()
 
     def test_a_touched_source_costs_no_proof(self):
@@ -155,18 +166,61 @@ class Make(unittest.TestCase):
         self.write("refused", "")
         for _ in range(2):
             self.assertNotEqual(self.make().returncode, 0)
-            self.assertEqual(self.called(), ["staticlib satmegwo_design"])
+            self.assertEqual(self.called(), ["lib satmegwo_design_c"])
 
     def test_an_archive_of_other_sources_is_not_taken(self):
-        file = "crates/design/src/lib.rt"
-        before = (self.tree / file).read_text()
+        file, archive = "crates/design/src/lib.rt", self.tree / MADE["satmegwo_design_c"]
+        before, made = (self.tree / file).read_text(), archive.read_bytes()
         self.edit(file)
-        self.run_in_tree("rt", "staticlib", "satmegwo_design")  # by hand
-        self.called()
+        self.make()
+        other = archive.read_bytes()
+        self.assertNotEqual(other, made)
         self.edit(file, before)
         self.make()
-        self.assertEqual(self.called(), ["staticlib satmegwo_design"])
+        self.assertEqual(archive.read_bytes(), made)
+        self.called()
+        self.edit(file, before)
+        archive.write_bytes(other)  # as where it was put there by hand
+        self.edit(file, before)
+        self.make()
+        self.assertEqual((self.called(), archive.read_bytes()), (["lib satmegwo_design_c"], made))
         self.assert_done()
+
+    def libraries_of_ci(self):
+        """Plants what `rt ci` leaves in a checkout that had nothing: the libraries, and the program."""
+        shutil.rmtree(self.tree / "target")
+        for crate in stands_on():
+            (self.tree / f"crates/{crate}/out/rlib/{crate}.rlib").mkdir(parents=True, exist_ok=True)
+        self.write("crates/boxsheet/out/boxsheet", "built by the gate")
+
+    def test_after_the_gate_nothing_is_proved_again(self):
+        self.libraries_of_ci()
+        self.assertEqual(self.make("AFTER_CI=yes").returncode, 0)
+        self.assertEqual(self.called(), [f"rattle build {name}_c" for name in LIBRARIES])
+        self.assertEqual((self.tree / "target/bin/boxsheet").read_text(), "built by the gate")
+        self.assert_done()
+
+    def test_what_rt_built_by_itself_is_not_taken_for_the_gates(self):
+        self.libraries_of_ci()
+        self.write("crates/boolean/out/rlib/stamp", "")  # below all
+        self.assertEqual(self.make("AFTER_CI=yes").returncode, 0)
+        self.assertEqual(self.called(), ALL)
+        self.libraries_of_ci()
+        shutil.rmtree(self.tree / "crates/boolean/out")
+        self.assertEqual(self.make("AFTER_CI=yes").returncode, 0)
+        self.assertEqual(self.called(), ALL)
+        self.libraries_of_ci()
+        self.assertEqual(self.make().returncode, 0)
+        self.assertEqual(self.called(), ALL)
+
+    def test_where_the_compiler_refuses_rt_is_asked(self):
+        self.libraries_of_ci()
+        self.write("refused-rattle", "")
+        self.assertEqual(self.make("AFTER_CI=yes").returncode, 0)
+        self.assertEqual(self.called(), [word for name in LIBRARIES for word in (f"rattle build {name}_c", f"lib {name}_c")])
+        self.write("refused-rt", "")
+        self.libraries_of_ci()
+        self.assertNotEqual(self.make("AFTER_CI=yes").returncode, 0)
 
     def test_a_source_that_is_changed_meanwhile_is_noticed(self):
         self.edit("crates/design/src/lib.rt")
@@ -174,7 +228,7 @@ class Make(unittest.TestCase):
         self.assertNotEqual(self.make().returncode, 0)
         self.called()
         self.assertEqual(self.make().returncode, 0)
-        self.assertEqual(self.called(), ["staticlib satmegwo_design"])
+        self.assertEqual(self.called(), ["lib satmegwo_design_c"])
         self.assert_done()
 
     def test_the_shared_library_follows(self):
@@ -195,9 +249,28 @@ class Make(unittest.TestCase):
         self.assertEqual((told.returncode, told.stdout), (0, line + whole + line))
         self.edit("crates/sheet/src/lib.rt")
         told = self.make("--silent", "stale").stdout.splitlines()
-        self.assertEqual([text.split()[0] for text in told], [MADE[name] for name in ("satmegwo", "satmegwo_design", "boxsheet")])
+        self.assertEqual([text.split()[0] for text in told], [MADE[name] for name in ("satmegwo_c", "satmegwo_design_c", "boxsheet")])
         self.make()
         self.assertEqual(self.gate("install").stdout, whole)
+
+    def proofs(self, told, status=0):
+        """The status of the part `proofs` where `rt ci` says this."""
+        self.program("bin/rt", f"#!/bin/sh\necho \"$*\" >> called\ncat told\nexit {status}\n")
+        self.write("told", told)
+        ran = self.gate("proofs")
+        self.assertEqual(self.called(), ["ci"])
+        self.assertTrue(ran.stdout.startswith("==== proofs\n" + told))
+        return ran.returncode
+
+    def test_the_proofs_are_what_rt_says(self):
+        well = "rt: linear proved\nrt: ok; handles allowed: none; must-fail edits: 125 refused{}; done in this run: 3 of the 36 proofs\n161 passed, 0 failed\n"
+        self.assertEqual(self.proofs(well.format("")), 0)
+        self.assertEqual(self.proofs(well.format(", 2 of them only by a limit")), 0)
+        self.assertEqual(self.proofs(well.format(", 0 bad")), 0)
+        self.assertEqual(self.proofs(well.format(", 1 bad")), 1)
+        self.assertEqual(self.proofs(well.format(", 2 of them only by a limit, 10 bad")), 1)
+        self.assertEqual(self.proofs(well.format(""), 1), 1)
+        self.assertEqual(self.proofs("161 passed, 0 failed\n"), 1)
 
     def test_the_gate_says_which_part_runs(self):
         clock = "[0-2][0-9]:[0-5][0-9]:[0-5][0-9]"

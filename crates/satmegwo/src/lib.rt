@@ -41,8 +41,7 @@ use rounds::Widths;
 use swaps::RaisingSwap;
 
 // The spectrum of a truth table.
-#[unsafe(no_mangle)]
-pub extern "C" fn satmegwo_spectrum(n: u32, table: &[u8], out: &mut [i32]) -> u32
+pub fn satmegwo_spectrum(n: u32, table: &[u8], out: &mut [i32]) -> u32
     ensures { WroteOut (table_call_checks n table.now (length out.old))
         (spectrum n (at table.now)) out.old result out.new }
 {
@@ -50,8 +49,7 @@ pub extern "C" fn satmegwo_spectrum(n: u32, table: &[u8], out: &mut [i32]) -> u3
 }
 
 // The truth table of a spectrum.
-#[unsafe(no_mangle)]
-pub extern "C" fn satmegwo_inverse_spectrum(n: u32, values: &[i32], table: &mut [u8]) -> u32
+pub fn satmegwo_inverse_spectrum(n: u32, values: &[i32], table: &mut [u8]) -> u32
     ensures { WroteOut (inverse_checks n values.now (length table.old))
         (list_below (2 ^ n) (λ x. inverse n (value_at values.now) x)) table.old result table.new }
 {
@@ -59,14 +57,7 @@ pub extern "C" fn satmegwo_inverse_spectrum(n: u32, values: &[i32], table: &mut 
 }
 
 // The spectrum of component c of a box.
-#[unsafe(no_mangle)]
-pub extern "C" fn satmegwo_component_spectrum(
-    n: u32,
-    m: u32,
-    rows: &[u32],
-    c: u32,
-    out: &mut [i32],
-) -> u32
+pub fn satmegwo_component_spectrum(n: u32, m: u32, rows: &[u32], c: u32, out: &mut [i32]) -> u32
     ensures { WroteOut (component_checks n m rows.now c (length out.old))
         (spectrum n (component rows.now c)) out.old result out.new }
 {
@@ -74,14 +65,7 @@ pub extern "C" fn satmegwo_component_spectrum(
 }
 
 // The nonlinearity of a box over its combinations of at most i outputs, with c, w and b.
-#[unsafe(no_mangle)]
-pub extern "C" fn satmegwo_nonlinearity(
-    n: u32,
-    m: u32,
-    rows: &[u32],
-    i: u32,
-    figures: &mut [u32],
-) -> u32
+pub fn satmegwo_nonlinearity(n: u32, m: u32, rows: &[u32], i: u32, figures: &mut [u32]) -> u32
     ensures { FiguresOut (nonlinearity_reply n m rows.now i) figures.old result figures.new }
 {
     if figures.len() != 4 { // the count, c, w and b
@@ -94,8 +78,7 @@ pub extern "C" fn satmegwo_nonlinearity(
 }
 
 // Adds the affine function (w, b) to column j.
-#[unsafe(no_mangle)]
-pub extern "C" fn satmegwo_add_to_column(
+pub fn satmegwo_add_to_column(
     n: u32,
     m: u32,
     rows: &[u32],
@@ -111,8 +94,7 @@ pub extern "C" fn satmegwo_add_to_column(
 }
 
 // One row of the XOR table of a box of at most 16 outputs.
-#[unsafe(no_mangle)]
-pub extern "C" fn satmegwo_xor_row(n: u32, m: u32, rows: &[u32], a: u32, counts: &mut [u16]) -> u32
+pub fn satmegwo_xor_row(n: u32, m: u32, rows: &[u32], a: u32, counts: &mut [u16]) -> u32
     ensures { WroteOut (row_checks n m rows.now a (length counts.old))
         (xor_row n m rows.now a) counts.old result counts.new }
 {
@@ -120,8 +102,7 @@ pub extern "C" fn satmegwo_xor_row(n: u32, m: u32, rows: &[u32], a: u32, counts:
 }
 
 // The largest cell of the XOR table, with a and beta.
-#[unsafe(no_mangle)]
-pub extern "C" fn satmegwo_largest_cell(n: u32, m: u32, rows: &[u32], figures: &mut [u32]) -> u32
+pub fn satmegwo_largest_cell(n: u32, m: u32, rows: &[u32], figures: &mut [u32]) -> u32
     ensures { FiguresOut (largest_cell_reply n m rows.now) figures.old result figures.new }
 {
     match differential::largest_cell(n, m, rows) {
@@ -131,8 +112,7 @@ pub extern "C" fn satmegwo_largest_cell(n: u32, m: u32, rows: &[u32], figures: &
 }
 
 // The list of all cells that reach the largest count, by ascending a, then beta. It is written to only where its number can be given too.
-#[unsafe(no_mangle)]
-pub extern "C" fn satmegwo_largest_cells(
+pub fn satmegwo_largest_cells(
     n: u32,
     m: u32,
     rows: &[u32],
@@ -154,14 +134,7 @@ pub extern "C" fn satmegwo_largest_cells(
 }
 
 // The largest |r(s)| over the combinations of at most i outputs, with c and s.
-#[unsafe(no_mangle)]
-pub extern "C" fn satmegwo_autocorrelation(
-    n: u32,
-    m: u32,
-    rows: &[u32],
-    i: u32,
-    figures: &mut [u32],
-) -> u32
+pub fn satmegwo_autocorrelation(n: u32, m: u32, rows: &[u32], i: u32, figures: &mut [u32]) -> u32
     ensures { FiguresOut (autocorrelation_reply n m rows.now i) figures.old result figures.new }
 {
     if figures.len() != 3 { // the figure, c and s
@@ -171,8 +144,7 @@ pub extern "C" fn satmegwo_autocorrelation(
 }
 
 // The dynamic distance of order (i, j), doubled, with c and d.
-#[unsafe(no_mangle)]
-pub extern "C" fn satmegwo_dynamic_distance(
+pub fn satmegwo_dynamic_distance(
     n: u32,
     m: u32,
     rows: &[u32],
@@ -189,8 +161,7 @@ pub extern "C" fn satmegwo_dynamic_distance(
 }
 
 // The normal form of a truth table.
-#[unsafe(no_mangle)]
-pub extern "C" fn satmegwo_normal_form(n: u32, table: &[u8], out: &mut [u8]) -> u32
+pub fn satmegwo_normal_form(n: u32, table: &[u8], out: &mut [u8]) -> u32
     ensures { WroteOut (table_call_checks n table.now (length out.old))
         (normal_form n (at table.now)) out.old result out.new }
 {
@@ -198,8 +169,7 @@ pub extern "C" fn satmegwo_normal_form(n: u32, table: &[u8], out: &mut [u8]) -> 
 }
 
 // The least degree of the combinations of at most i outputs, with c.
-#[unsafe(no_mangle)]
-pub extern "C" fn satmegwo_degree(n: u32, m: u32, rows: &[u32], i: u32, figures: &mut [u32]) -> u32
+pub fn satmegwo_degree(n: u32, m: u32, rows: &[u32], i: u32, figures: &mut [u32]) -> u32
     ensures { FiguresOut (box_degree_reply n m rows.now i) figures.old result figures.new }
 {
     if figures.len() != 2 { // the degree and c
@@ -212,30 +182,21 @@ pub extern "C" fn satmegwo_degree(n: u32, m: u32, rows: &[u32], i: u32, figures:
 }
 
 // Whether every input bit changes every column.
-#[unsafe(no_mangle)]
-pub extern "C" fn satmegwo_complete(n: u32, m: u32, rows: &[u32], figures: &mut [u32]) -> u32
+pub fn satmegwo_complete(n: u32, m: u32, rows: &[u32], figures: &mut [u32]) -> u32
     ensures { FiguresOut (complete_reply n m rows.now) figures.old result figures.new }
 {
     giving::give_verdict(avalanche::is_complete(n, m, rows), figures)
 }
 
 // Whether n = m and no two rows are equal.
-#[unsafe(no_mangle)]
-pub extern "C" fn satmegwo_bijective(n: u32, m: u32, rows: &[u32], figures: &mut [u32]) -> u32
+pub fn satmegwo_bijective(n: u32, m: u32, rows: &[u32], figures: &mut [u32]) -> u32
     ensures { FiguresOut (bijective_reply n m rows.now) figures.old result figures.new }
 {
     giving::give_verdict(algebraic::is_bijective(n, m, rows), figures)
 }
 
 // A column with one more input.
-#[unsafe(no_mangle)]
-pub extern "C" fn satmegwo_enlarge_column(
-    n: u32,
-    table: &[u8],
-    k: u32,
-    a: u32,
-    out: &mut [u8],
-) -> u32
+pub fn satmegwo_enlarge_column(n: u32, table: &[u8], k: u32, a: u32, out: &mut [u8]) -> u32
     ensures { WroteOut (column_checks n table.now k a (length out.old))
         (enlarged_table n table.now k a) out.old result out.new }
 {
@@ -243,14 +204,7 @@ pub extern "C" fn satmegwo_enlarge_column(
 }
 
 // A box with one more input and one more output.
-#[unsafe(no_mangle)]
-pub extern "C" fn satmegwo_enlarge_box(
-    n: u32,
-    rows: &[u32],
-    table: &[u8],
-    k: u32,
-    out: &mut [u32],
-) -> u32
+pub fn satmegwo_enlarge_box(n: u32, rows: &[u32], table: &[u8], k: u32, out: &mut [u32]) -> u32
     ensures { WroteOut (enlarge_checks n rows.now table.now k (length out.old))
         (enlarged_rows n rows.now table.now k) out.old result out.new }
 {
@@ -258,13 +212,7 @@ pub extern "C" fn satmegwo_enlarge_box(
 }
 
 // A bent function.
-#[unsafe(no_mangle)]
-pub extern "C" fn satmegwo_bent_function(
-    n: u32,
-    permutation: &[u8],
-    table: &[u8],
-    out: &mut [u8],
-) -> u32
+pub fn satmegwo_bent_function(n: u32, permutation: &[u8], table: &[u8], out: &mut [u8]) -> u32
     ensures { WroteOut (bent_checks n permutation.now table.now (length out.old))
         (bent_table n permutation.now table.now) out.old result out.new }
 {
@@ -272,8 +220,7 @@ pub extern "C" fn satmegwo_bent_function(
 }
 
 // Reads a box file: the rows go to one array, n and m to another. Neither is written to unless both can be.
-#[unsafe(no_mangle)]
-pub extern "C" fn satmegwo_read_box(file: &[u8], rows: &mut [u32], figures: &mut [u32]) -> u32
+pub fn satmegwo_read_box(file: &[u8], rows: &mut [u32], figures: &mut [u32]) -> u32
     ensures widths { WroteOut (read_box_checks file.now (length rows.old) (length figures.old))
         (at file.now 0 ∷ at file.now 1 ∷ []) figures.old result figures.new }
     ensures rows { WroteOut (read_box_checks file.now (length rows.old) (length figures.old))
@@ -290,8 +237,7 @@ pub extern "C" fn satmegwo_read_box(file: &[u8], rows: &mut [u32], figures: &mut
 
 // The nonlinearity of the sum of one to four boxes over its combinations of at most i outputs, with c, a mask for each box, and b. The
 // array for the figures is looked at before the sweep, which may be long, and told after the checks.
-#[unsafe(no_mangle)]
-pub extern "C" fn satmegwo_sum_nonlinearity(
+pub fn satmegwo_sum_nonlinearity(
     count: u32,
     n1: u32,
     m1: u32,
@@ -331,8 +277,7 @@ pub extern "C" fn satmegwo_sum_nonlinearity(
 }
 
 // Checks a catalogue: the number of its records.
-#[unsafe(no_mangle)]
-pub extern "C" fn satmegwo_check_catalogue(catalogue: &[u8], figures: &mut [u32]) -> u32
+pub fn satmegwo_check_catalogue(catalogue: &[u8], figures: &mut [u32]) -> u32
     ensures { FiguresOut (check_reply catalogue.now) figures.old result figures.new }
 {
     match catalogue::check(catalogue) {
@@ -342,8 +287,7 @@ pub extern "C" fn satmegwo_check_catalogue(catalogue: &[u8], figures: &mut [u32]
 }
 
 // Adds a box file to a catalogue: the index of the new record. The catalogue is written to only where the index can be given too.
-#[unsafe(no_mangle)]
-pub extern "C" fn satmegwo_add_record(catalogue: &mut [u8], file: &[u8], figures: &mut [u32]) -> u32
+pub fn satmegwo_add_record(catalogue: &mut [u8], file: &[u8], figures: &mut [u32]) -> u32
     ensures index { WroteOut (add_record_checks catalogue.old file.now (length figures.old))
         (gap_index (gap_for catalogue.old file.now) ∷ []) figures.old result figures.new }
     ensures records { WroteOut (add_record_checks catalogue.old file.now (length figures.old))
@@ -359,8 +303,7 @@ pub extern "C" fn satmegwo_add_record(catalogue: &mut [u8], file: &[u8], figures
 }
 
 // Removes a record of a catalogue.
-#[unsafe(no_mangle)]
-pub extern "C" fn satmegwo_remove_record(catalogue: &mut [u8], index: u32) -> u32
+pub fn satmegwo_remove_record(catalogue: &mut [u8], index: u32) -> u32
     ensures { WroteOut (index_checks catalogue.old index)
         (removed catalogue.old index) catalogue.old result catalogue.new }
 {
@@ -368,8 +311,7 @@ pub extern "C" fn satmegwo_remove_record(catalogue: &mut [u8], index: u32) -> u3
 }
 
 // Where a record of a catalogue lies, and its length.
-#[unsafe(no_mangle)]
-pub extern "C" fn satmegwo_fetch_record(catalogue: &[u8], index: u32, figures: &mut [u32]) -> u32
+pub fn satmegwo_fetch_record(catalogue: &[u8], index: u32, figures: &mut [u32]) -> u32
     ensures { FiguresOut (fetch_reply catalogue.now index) figures.old result figures.new }
 {
     match catalogue::fetch_status(catalogue, index) {
@@ -379,8 +321,7 @@ pub extern "C" fn satmegwo_fetch_record(catalogue: &[u8], index: u32, figures: &
 }
 
 // Compacts a catalogue.
-#[unsafe(no_mangle)]
-pub extern "C" fn satmegwo_compact_catalogue(catalogue: &mut [u8]) -> u32
+pub fn satmegwo_compact_catalogue(catalogue: &mut [u8]) -> u32
     ensures { WroteOut (catalogue_checks catalogue.old)
         (compacted catalogue.old) catalogue.old result catalogue.new }
 {
@@ -388,8 +329,7 @@ pub extern "C" fn satmegwo_compact_catalogue(catalogue: &mut [u8]) -> u32
 }
 
 // The columns of a box, packed for the mask.
-#[unsafe(no_mangle)]
-pub extern "C" fn satmegwo_pack_columns(n: u32, m: u32, rows: &[u32], packed: &mut [u8]) -> u32
+pub fn satmegwo_pack_columns(n: u32, m: u32, rows: &[u32], packed: &mut [u8]) -> u32
     ensures { WroteOut (pack_checks n m rows.now (length packed.old))
         (packedForm n m rows.now) packed.old result packed.new }
 {
@@ -397,8 +337,7 @@ pub extern "C" fn satmegwo_pack_columns(n: u32, m: u32, rows: &[u32], packed: &m
 }
 
 // The rows of packed columns.
-#[unsafe(no_mangle)]
-pub extern "C" fn satmegwo_unpack_columns(n: u32, m: u32, packed: &[u8], rows: &mut [u32]) -> u32
+pub fn satmegwo_unpack_columns(n: u32, m: u32, packed: &[u8], rows: &mut [u32]) -> u32
     ensures { WroteOut (unpack_checks n m packed.now (length rows.old))
         (unpacked n m packed.now) rows.old result rows.new }
 {
@@ -407,8 +346,7 @@ pub extern "C" fn satmegwo_unpack_columns(n: u32, m: u32, packed: &[u8], rows: &
 
 // The first swap of two unlike rows that raises the nonlinearity over all combinations: 1, both inputs and the new figure, or four zeros
 // for "none".
-#[unsafe(no_mangle)]
-pub extern "C" fn satmegwo_raising_swap(n: u32, m: u32, rows: &[u32], figures: &mut [u32]) -> u32
+pub fn satmegwo_raising_swap(n: u32, m: u32, rows: &[u32], figures: &mut [u32]) -> u32
     ensures { FiguresOut (raising_reply n m rows.now) figures.old result figures.new }
 {
     if figures.len() != 4 { // 1, x, y and the new figure
@@ -422,8 +360,7 @@ pub extern "C" fn satmegwo_raising_swap(n: u32, m: u32, rows: &[u32], figures: &
 }
 
 // The checks 1 to 4 of a box, by themselves.
-#[unsafe(no_mangle)]
-pub extern "C" fn satmegwo_check_box(n: u32, m: u32, rows: &[u32]) -> u32
+pub fn satmegwo_check_box(n: u32, m: u32, rows: &[u32]) -> u32
     ensures { result ≡ status (reply_after (first (box_checks n m rows.now)) []) }
 {
     match refusals::check_box(n, m, rows) {
@@ -433,8 +370,7 @@ pub extern "C" fn satmegwo_check_box(n: u32, m: u32, rows: &[u32]) -> u32
 }
 
 // Writes the file of a box.
-#[unsafe(no_mangle)]
-pub extern "C" fn satmegwo_write_box(n: u32, m: u32, rows: &[u32], file: &mut [u8]) -> u32
+pub fn satmegwo_write_box(n: u32, m: u32, rows: &[u32], file: &mut [u8]) -> u32
     ensures { WroteOut (write_checks n m rows.now (length file.old))
         (file_of n m rows.now) file.old result file.new }
 {
@@ -443,8 +379,7 @@ pub extern "C" fn satmegwo_write_box(n: u32, m: u32, rows: &[u32], file: &mut [u
 
 // Writes the sheet of a box file at the start of the text, and how many bytes it has: a refused file has a sheet too. The sheet is made in
 // an array whose type says its length, and then copied. Neither array is written to unless both can be.
-#[unsafe(no_mangle)]
-pub extern "C" fn satmegwo_sheet(file: &[u8], text: &mut [u8], figures: &mut [u32]) -> u32
+pub fn satmegwo_sheet(file: &[u8], text: &mut [u8], figures: &mut [u32]) -> u32
     ensures size { WroteOut (sheet_checks (length text.old) (length figures.old))
         (length (sheet_text file.now) ∷ []) figures.old result figures.new }
     ensures text { WroteOut (sheet_checks (length text.old) (length figures.old))
@@ -464,16 +399,14 @@ pub extern "C" fn satmegwo_sheet(file: &[u8], text: &mut [u8], figures: &mut [u3
 }
 
 // The version of the library.
-#[unsafe(no_mangle)]
-pub extern "C" fn satmegwo_version() -> u32
+pub fn satmegwo_version() -> u32
     ensures { result ≡ version }
 {
     10000
 }
 
 // All pairs that differ at as few inputs as the nonlinearity within the limit i says, and how many they are.
-#[unsafe(no_mangle)]
-pub extern "C" fn satmegwo_nearest_pairs(
+pub fn satmegwo_nearest_pairs(
     n: u32,
     m: u32,
     rows: &[u32],

@@ -30,48 +30,42 @@ fn numbered(tuned: Tuned) -> Outcome
 }
 
 // A design of this box, with no mark set. Refused, it is a design without a box.
-#[unsafe(no_mangle)]
-pub extern "C" fn satmegwo_design_begin(n: u32, m: u32, rows: &[u32]) -> Outcome
+pub fn satmegwo_design_begin(n: u32, m: u32, rows: &[u32]) -> Outcome
     ensures { DesignBegun n m rows.now (number_says result.status) result.design }
 {
     numbered(Design::begin(n, m, rows))
 }
 
 // Exchanges the rows of inputs x and y.
-#[unsafe(no_mangle)]
-pub extern "C" fn satmegwo_design_swap(design: Design, x: u32, y: u32) -> Outcome
+pub fn satmegwo_design_swap(design: Design, x: u32, y: u32) -> Outcome
     ensures { DesignSwapped design x y (number_says result.status) result.design }
 {
     numbered(design.swap(x, y))
 }
 
 // Adds the affine function (w, b) to column j.
-#[unsafe(no_mangle)]
-pub extern "C" fn satmegwo_design_add(design: Design, j: u32, w: u32, b: u32) -> Outcome
+pub fn satmegwo_design_add(design: Design, j: u32, w: u32, b: u32) -> Outcome
     ensures { DesignAdded design j w b (number_says result.status) result.design }
 {
     numbered(design.add(j, w, b))
 }
 
 // Sets mark k: it keeps the box of this moment.
-#[unsafe(no_mangle)]
-pub extern "C" fn satmegwo_design_mark(design: Design, k: u32) -> Outcome
+pub fn satmegwo_design_mark(design: Design, k: u32) -> Outcome
     ensures { DesignMarked design k (number_says result.status) result.design }
 {
     numbered(design.mark(k))
 }
 
 // Brings back the box of mark k; all marks remain.
-#[unsafe(no_mangle)]
-pub extern "C" fn satmegwo_design_return(design: Design, k: u32) -> Outcome
+pub fn satmegwo_design_return(design: Design, k: u32) -> Outcome
     ensures { DesignReturned design k (number_says result.status) result.design }
 {
     numbered(design.return_to(k))
 }
 
 // Reads the box: the rows go to one array, n and m to another. Neither is written to unless both can be.
-#[unsafe(no_mangle)]
-pub extern "C" fn satmegwo_design_read(design: Design, rows: &mut [u32], figures: &mut [u32]) -> u32
+pub fn satmegwo_design_read(design: Design, rows: &mut [u32], figures: &mut [u32]) -> u32
     ensures { ReadOut design rows.old figures.old result rows.new figures.new }
 {
     if figures.len() != 2 {

@@ -17,8 +17,7 @@ use refusals::{Checked, Refusal};
 use rounds::Widths;
 
 // The nonlinearity over the combinations of at most i outputs from `first` to `last`.
-#[unsafe(no_mangle)]
-pub extern "C" fn satmegwo_nonlinearity_between(
+pub fn satmegwo_nonlinearity_between(
     n: u32,
     m: u32,
     rows: &[u32],
@@ -37,8 +36,7 @@ pub extern "C" fn satmegwo_nonlinearity_between(
 }
 
 // The autocorrelation over the combinations of at most i outputs from `first` to `last`.
-#[unsafe(no_mangle)]
-pub extern "C" fn satmegwo_autocorrelation_between(
+pub fn satmegwo_autocorrelation_between(
     n: u32,
     m: u32,
     rows: &[u32],
@@ -57,8 +55,7 @@ pub extern "C" fn satmegwo_autocorrelation_between(
 }
 
 // The dynamic distance of order (i, j) over the combinations from `first` to `last`.
-#[unsafe(no_mangle)]
-pub extern "C" fn satmegwo_dynamic_distance_between(
+pub fn satmegwo_dynamic_distance_between(
     n: u32,
     m: u32,
     rows: &[u32],
@@ -78,8 +75,7 @@ pub extern "C" fn satmegwo_dynamic_distance_between(
 }
 
 // The nonlinearity of the sum of one to four boxes over its combinations of at most i outputs from `first` to `last`.
-#[unsafe(no_mangle)]
-pub extern "C" fn satmegwo_sum_nonlinearity_between(
+pub fn satmegwo_sum_nonlinearity_between(
     count: u32,
     n1: u32,
     m1: u32,
@@ -169,8 +165,7 @@ fn is_second_larger(x: &[u32], y: &[u32]) -> bool
 }
 
 // Merges two parts of which the smaller figure is the better one.
-#[unsafe(no_mangle)]
-pub extern "C" fn satmegwo_merge_least(x: &[u32], y: &[u32], merged: &mut [u32]) -> u32
+pub fn satmegwo_merge_least(x: &[u32], y: &[u32], merged: &mut [u32]) -> u32
     ensures { WroteOut (merge_checks x.now y.now (length merged.old))
         (merged_part ltb x.now y.now) merged.old result merged.new }
 {
@@ -186,8 +181,7 @@ pub extern "C" fn satmegwo_merge_least(x: &[u32], y: &[u32], merged: &mut [u32])
 }
 
 // Merges two parts of which the larger figure is the better one.
-#[unsafe(no_mangle)]
-pub extern "C" fn satmegwo_merge_largest(x: &[u32], y: &[u32], merged: &mut [u32]) -> u32
+pub fn satmegwo_merge_largest(x: &[u32], y: &[u32], merged: &mut [u32]) -> u32
     ensures { WroteOut (merge_checks x.now y.now (length merged.old))
         (merged_part above x.now y.now) merged.old result merged.new }
 {

@@ -17,22 +17,14 @@ pub struct Outcome {
 }
 
 // A server with no box on any place.
-#[unsafe(no_mangle)]
-pub extern "C" fn satmegwo_server_begin() -> Server
+pub fn satmegwo_server_begin() -> Server
     ensures { ServerBegan result }
 {
     Server::begin()
 }
 
 // Puts a box on a place. No combination of it is examined yet.
-#[unsafe(no_mangle)]
-pub extern "C" fn satmegwo_server_put(
-    server: Server,
-    place: u32,
-    n: u32,
-    m: u32,
-    rows: &[u32],
-) -> Outcome
+pub fn satmegwo_server_put(server: Server, place: u32, n: u32, m: u32, rows: &[u32]) -> Outcome
     ensures { NumberedCall (ServerPut server place n m rows.now) result }
 {
     let tried = server.put(place, n, m, rows);
@@ -45,8 +37,7 @@ pub extern "C" fn satmegwo_server_put(
 }
 
 // Takes the box off a place.
-#[unsafe(no_mangle)]
-pub extern "C" fn satmegwo_server_withdraw(server: Server, place: u32) -> Outcome
+pub fn satmegwo_server_withdraw(server: Server, place: u32) -> Outcome
     ensures { NumberedCall (ServerWithdrew server place) result }
 {
     let withdrawn = server.withdraw(place);
@@ -59,16 +50,14 @@ pub extern "C" fn satmegwo_server_withdraw(server: Server, place: u32) -> Outcom
 }
 
 // Examines one combination of the next unfinished box.
-#[unsafe(no_mangle)]
-pub extern "C" fn satmegwo_server_step(server: Server) -> Server
+pub fn satmegwo_server_step(server: Server) -> Server
     ensures { ServerStepped server result }
 {
     server.step()
 }
 
 // Steps, one after the other, as many as the budget says.
-#[unsafe(no_mangle)]
-pub extern "C" fn satmegwo_server_run(server: Server, budget: u32) -> Server
+pub fn satmegwo_server_run(server: Server, budget: u32) -> Server
     ensures { ServerRan server budget result }
 {
     server.run(budget)
@@ -86,8 +75,7 @@ fn give_standing(answer: Asked, figures: &mut [u32]) -> u32
 }
 
 // Whether the box on a place is finished, and its nonlinearity with the first pair that reaches it.
-#[unsafe(no_mangle)]
-pub extern "C" fn satmegwo_server_ask(server: Server, place: u32, figures: &mut [u32]) -> u32
+pub fn satmegwo_server_ask(server: Server, place: u32, figures: &mut [u32]) -> u32
     ensures { ToldOut server place figures.old result figures.new }
 {
     give_standing(server.ask(place), figures)
