@@ -8,6 +8,8 @@ ghost use Rattle.spectra.specs.Reading.{line_end, width_of, digit_of, digits_of}
 use refusals::Written;
 use std::io::{self, Write};
 
+const LINE_END: u8 = b'\n';
+
 // Where the line that starts at `from` ends.
 fn line_end(text: &[u8], from: usize) -> usize
     requires { from ≤ length text.now }
@@ -15,7 +17,7 @@ fn line_end(text: &[u8], from: usize) -> usize
 {
     let mut at = from;
     while at < text.len() {
-        if text[at] == b'\n' {
+        if text[at] == LINE_END {
             return at;
         }
         at += 1;
