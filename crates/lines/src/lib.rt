@@ -1,7 +1,9 @@
 // Lines of text for the programs that run stored vectors: numbers and refusals written out, and an input read whole.
 #![tactic(auto)]
 
-ghost use Rattle.std.specs.Prelude.{◌≡◌, ◌≤◌, min, length};
+ghost use Rattle.std.specs.Prelude.{◌≡◌, ◌≤◌, min, length, take, OnOk, [], ◌∷◌};
+ghost use Rattle.std.specs.Io.KnownBytes.{Appends, Consumes};
+ghost use Rattle.lines.specs.Lines.{number_text, refused_line};
 
 use refusals::Refusal;
 use std::io::{self, Read, Write};
@@ -14,16 +16,22 @@ pub fn smaller(a: usize, b: usize) -> usize
 }
 
 // A number after a space.
-pub fn write_number<W: Write>(out: &mut W, v: u32) -> io::Result<()> {
+pub fn write_number<W: Write>(out: &mut W, v: u32) -> io::Result<()>
+    ensures { OnOk result (Appends (W.contents out.old) (W.contents out.new) (number_text v)) }
+{
     write!(out, " {v}")
 }
 
-pub fn end_line<W: Write>(out: &mut W) -> io::Result<()> {
+pub fn end_line<W: Write>(out: &mut W) -> io::Result<()>
+    ensures { OnOk result (Appends (W.contents out.old) (W.contents out.new) (10 ∷ [])) }
+{
     writeln!(out)
 }
 
 // The line of a refusal.
-pub fn write_refused<W: Write>(out: &mut W, e: Refusal) -> io::Result<()> {
+pub fn write_refused<W: Write>(out: &mut W, e: Refusal) -> io::Result<()>
+    ensures { OnOk result (Appends (W.contents out.old) (W.contents out.new) (refused_line e)) }
+{
     write!(out, "refused")?;
     write_number(out, refusals::number_of(e))?;
     end_line(out)
@@ -31,7 +39,8 @@ pub fn write_refused<W: Write>(out: &mut W, e: Refusal) -> io::Result<()> {
 
 // Fills the buffer from the input, and gives how many bytes it has then: all that fit, or those before the input ends or a read fails.
 pub fn read_full<R: Read>(input: &mut R, buffer: &mut [u8]) -> usize
-    ensures { result ≤ length buffer.new }
+    ensures within { result ≤ length buffer.new }
+    ensures bytes { Consumes (R.remaining input.old) (R.remaining input.new) (take result buffer.new) }
 {
     let mut count = 0;
     while count < buffer.len() {
