@@ -2,12 +2,12 @@
 // nothing: the sheet of any file is that of its first 1,027 bytes or more (`enough_is_read`, in the proofs of `sheet`).
 #![tactic(auto)]
 
-use libc::STDOUT_FILENO;
+use std::io::{self, Write};
 
-fn main() {
-    let mut buffer = io::large_buffer();
-    let count = io::read_full(0, &mut buffer);
+fn main(rt: HostRuntime) -> io::Result<()> {
+    let mut buffer = [0u8; 65536];
+    let count = lines::read_full(&mut rt.stdin(), &mut buffer);
     let mut text = [0u8; 332];
     let length = sheet::write_sheet(&buffer[..count], &mut text);
-    io::write_all(STDOUT_FILENO, &text[..length]);
+    rt.stdout().write_all(&text[..length])
 }

@@ -4,99 +4,95 @@
 
 use boxfile::BoxFile;
 use catalogue::{Fetched, Told};
-use libc::STDOUT_FILENO;
 use refusals::Written;
+use std::io::{self, Write};
 
-fn show_box(n: u32, m: u32, rows: &[u32]) {
-    io::write_all(STDOUT_FILENO, b"box");
-    lines::write_number(n);
-    lines::write_number(m);
-    io::write_all(STDOUT_FILENO, b" rows");
-    let mut x = 0;
-    while x < rows.len() {
-        lines::write_number(rows[x]);
-        x += 1;
+fn show_box<W: Write>(out: &mut W, n: u32, m: u32, rows: &[u32]) -> io::Result<()> {
+    write!(out, "box")?;
+    lines::write_number(out, n)?;
+    lines::write_number(out, m)?;
+    write!(out, " rows")?;
+    for row in rows {
+        lines::write_number(out, *row)?;
     }
-    lines::end_line();
+    lines::end_line(out)
 }
 
-fn show_file(file: &[u8]) {
+fn show_file<W: Write>(out: &mut W, file: &[u8]) -> io::Result<()> {
     let mut rows = [0u32; 256];
     let size = boxfile::room_of(file);
     match boxfile::read_box(file, &mut rows[..size]) {
-        BoxFile::Read { n, m } => show_box(n, m, &rows[..size]),
-        BoxFile::Declined(e) => lines::write_refused(e),
+        BoxFile::Read { n, m } => show_box(out, n, m, &rows[..size]),
+        BoxFile::Declined(e) => lines::write_refused(out, e),
     }
 }
 
-fn show_place(offset: u32, size: u32) {
-    io::write_all(STDOUT_FILENO, b"at");
-    lines::write_number(offset);
-    lines::write_number(size);
-    lines::end_line();
+fn show_place<W: Write>(out: &mut W, offset: u32, size: u32) -> io::Result<()> {
+    write!(out, "at")?;
+    lines::write_number(out, offset)?;
+    lines::write_number(out, size)?;
+    lines::end_line(out)
 }
 
 // Where a record lies, and the box in the part of the catalogue that is handed back.
-fn show_record(catalogue: &[u8], index: u32) {
-    io::write_all(STDOUT_FILENO, b"record");
-    lines::write_number(index);
-    lines::end_line();
+fn show_record<W: Write>(out: &mut W, catalogue: &[u8], index: u32) -> io::Result<()> {
+    write!(out, "record")?;
+    lines::write_number(out, index)?;
+    lines::end_line(out)?;
     match catalogue::fetch_status(catalogue, index) {
-        Fetched::Lies { offset, size } => show_place(offset, size),
-        Fetched::Unfetched(e) => lines::write_refused(e),
+        Fetched::Lies { offset, size } => show_place(out, offset, size)?,
+        Fetched::Unfetched(e) => lines::write_refused(out, e)?,
     }
-    show_file(catalogue::fetch(catalogue, index));
+    show_file(out, catalogue::fetch(catalogue, index))
 }
 
 // The records of a catalogue that has three at most; the last index is past them.
-fn show_records(catalogue: &[u8]) {
-    let mut index = 0;
-    while index < 4 {
-        show_record(catalogue, index);
-        index += 1;
+fn show_records<W: Write>(out: &mut W, catalogue: &[u8]) -> io::Result<()> {
+    for index in 0..4 {
+        show_record(out, catalogue, index)?;
     }
+    Ok(())
 }
 
-fn show_added(answer: Told) {
+fn show_added<W: Write>(out: &mut W, answer: Told) -> io::Result<()> {
     match answer {
         Told::Number(index) => {
-            io::write_all(STDOUT_FILENO, b"added");
-            lines::write_number(index);
-            lines::end_line();
+            write!(out, "added")?;
+            lines::write_number(out, index)?;
+            lines::end_line(out)
         }
-        Told::Declined(e) => lines::write_refused(e),
+        Told::Declined(e) => lines::write_refused(out, e),
     }
 }
 
-fn show_written(answer: Written) {
+fn show_written<W: Write>(out: &mut W, answer: Written) -> io::Result<()> {
     match answer {
-        Written::Done => {
-            io::write_all(STDOUT_FILENO, b"done\n");
-        }
-        Written::Declined(e) => lines::write_refused(e),
+        Written::Done => writeln!(out, "done"),
+        Written::Declined(e) => lines::write_refused(out, e),
     }
 }
 
 // Two equal records with another between them; a fourth has no room until that one is removed, and its gap then serves again. At last a
 // catalogue with a byte behind its records, and one that is too short.
-fn main() {
+fn main(rt: HostRuntime) -> io::Result<()> {
+    let mut out = rt.stdout();
     let identity = [1u8, 1, 0, 0, 0, 0, 1, 0, 0, 0];
     let example =
         b"\x03\x03\x03\0\0\0\x01\0\0\0\x04\0\0\0\0\0\0\0\x02\0\0\0\x05\0\0\0\x06\0\0\0\x07\0\0\0";
     let mut catalogue = [0u8; 316];
-    show_record(&catalogue, 0);
-    show_added(catalogue::add(&mut catalogue, &identity));
-    show_added(catalogue::add(&mut catalogue, example));
-    show_added(catalogue::add(&mut catalogue, &identity));
-    show_added(catalogue::add(&mut catalogue, &identity));
-    show_records(&catalogue);
-    show_record(&catalogue, 4294967295);
-    show_written(catalogue::remove(&mut catalogue, 1));
-    show_added(catalogue::add(&mut catalogue, &identity));
-    show_records(&catalogue);
-    show_written(catalogue::compact(&mut catalogue));
-    show_records(&catalogue);
+    show_record(&mut out, &catalogue, 0)?;
+    show_added(&mut out, catalogue::add(&mut catalogue, &identity))?;
+    show_added(&mut out, catalogue::add(&mut catalogue, example))?;
+    show_added(&mut out, catalogue::add(&mut catalogue, &identity))?;
+    show_added(&mut out, catalogue::add(&mut catalogue, &identity))?;
+    show_records(&mut out, &catalogue)?;
+    show_record(&mut out, &catalogue, 4294967295)?;
+    show_written(&mut out, catalogue::remove(&mut catalogue, 1))?;
+    show_added(&mut out, catalogue::add(&mut catalogue, &identity))?;
+    show_records(&mut out, &catalogue)?;
+    show_written(&mut out, catalogue::compact(&mut catalogue))?;
+    show_records(&mut out, &catalogue)?;
     catalogue[315] = 1;
-    show_record(&catalogue, 0);
-    show_record(&[0u8; 257], 0);
+    show_record(&mut out, &catalogue, 0)?;
+    show_record(&mut out, &[0u8; 257], 0)
 }

@@ -1,10 +1,12 @@
-// Lines of text on standard output, for the programs that run stored vectors.
+// Lines of text for the programs that run stored vectors: numbers and refusals written out, and an input read whole.
 #![tactic(auto)]
 
-ghost use Rattle.std.specs.Prelude.{◌≡◌, ◌≤◌, min};
+ghost use Rattle.std.specs.Prelude.{◌≡◌, ◌≤◌, min, length, take, OnOk, [], ◌∷◌};
+ghost use Rattle.std.specs.Io.KnownBytes.{Appends, Consumes};
+ghost use Rattle.lines.specs.Lines.{number_text, refused_line};
 
-use libc::STDOUT_FILENO;
 use refusals::Refusal;
+use std::io::{self, Read, Write};
 
 // The smaller of two lengths.
 pub fn smaller(a: usize, b: usize) -> usize
@@ -14,18 +16,38 @@ pub fn smaller(a: usize, b: usize) -> usize
 }
 
 // A number after a space.
-pub fn write_number(v: u32) {
-    io::write_all(STDOUT_FILENO, b" ");
-    io::print_decimal(STDOUT_FILENO, v as u64);
+pub fn write_number<W: Write>(out: &mut W, v: u32) -> io::Result<()>
+    ensures { OnOk result (Appends (W.contents out.old) (W.contents out.new) (number_text v)) }
+{
+    write!(out, " {v}")
 }
 
-pub fn end_line() {
-    io::write_all(STDOUT_FILENO, b"\n");
+pub fn end_line<W: Write>(out: &mut W) -> io::Result<()>
+    ensures { OnOk result (Appends (W.contents out.old) (W.contents out.new) (10 ∷ [])) }
+{
+    writeln!(out)
 }
 
 // The line of a refusal.
-pub fn write_refused(e: Refusal) {
-    io::write_all(STDOUT_FILENO, b"refused");
-    write_number(refusals::number_of(e));
-    end_line();
+pub fn write_refused<W: Write>(out: &mut W, e: Refusal) -> io::Result<()>
+    ensures { OnOk result (Appends (W.contents out.old) (W.contents out.new) (refused_line e)) }
+{
+    write!(out, "refused")?;
+    write_number(out, refusals::number_of(e))?;
+    end_line(out)
+}
+
+// Fills the buffer from the input, and gives how many bytes it has then: all that fit, or those before the input ends or a read fails.
+pub fn read_full<R: Read>(input: &mut R, buffer: &mut [u8]) -> usize
+    ensures within { result ≤ length buffer.new }
+    ensures bytes { Consumes (R.remaining input.old) (R.remaining input.new) (take result buffer.new) }
+{
+    let mut count = 0;
+    while count < buffer.len() {
+        match input.read(&mut buffer[count..]) {
+            Ok(0) | Err(_) => break,
+            Ok(n) => count += n,
+        }
+    }
+    count
 }

@@ -10,160 +10,160 @@ use algebraic::DegreeFound;
 use avalanche::LargestChange;
 use boxfile::BoxFile;
 use differential::LargestCell;
-use libc::STDOUT_FILENO;
 use linear::LeastPair;
 use refusals::{Verdict, Written};
+use std::io::{self, Write};
 
-fn show_nonlinearity(n: u32, m: u32, rows: &[u32]) {
-    let answer = linear::nonlinearity(n, m, rows, m);
-    let LeastPair::Reached { count, c, w, b } = answer else {
-        if let LeastPair::Declined(e) = answer {
-            lines::write_refused(e);
+fn show_nonlinearity<W: Write>(out: &mut W, n: u32, m: u32, rows: &[u32]) -> io::Result<()> {
+    match linear::nonlinearity(n, m, rows, m) {
+        LeastPair::Reached { count, c, w, b } => {
+            write!(out, "nonlinearity")?;
+            lines::write_number(out, count)?;
+            lines::write_number(out, c)?;
+            lines::write_number(out, w)?;
+            lines::write_number(out, b)?;
+            lines::end_line(out)
         }
-        return;
-    };
-    io::write_all(STDOUT_FILENO, b"nonlinearity");
-    lines::write_number(count);
-    lines::write_number(c);
-    lines::write_number(w);
-    lines::write_number(b);
-    lines::end_line();
+        LeastPair::Declined(e) => lines::write_refused(out, e),
+    }
 }
 
-fn show_largest_cell(n: u32, m: u32, rows: &[u32]) {
+fn show_largest_cell<W: Write>(out: &mut W, n: u32, m: u32, rows: &[u32]) -> io::Result<()> {
     let answer = differential::largest_cell(n, m, rows);
     let LargestCell::Reached { count, a, beta } = answer else {
-        return;
+        return Ok(());
     };
-    io::write_all(STDOUT_FILENO, b"xor");
-    lines::write_number(count);
-    lines::write_number(a);
-    lines::write_number(beta);
-    lines::end_line();
+    write!(out, "xor")?;
+    lines::write_number(out, count)?;
+    lines::write_number(out, a)?;
+    lines::write_number(out, beta)?;
+    lines::end_line(out)
 }
 
-fn show_change(answer: LargestChange) {
+fn show_change<W: Write>(out: &mut W, answer: LargestChange) -> io::Result<()> {
     let LargestChange::Reached { figure, c, s } = answer else {
-        return;
+        return Ok(());
     };
-    lines::write_number(figure);
-    lines::write_number(c);
-    lines::write_number(s);
-    lines::end_line();
+    lines::write_number(out, figure)?;
+    lines::write_number(out, c)?;
+    lines::write_number(out, s)?;
+    lines::end_line(out)
 }
 
-fn show_changes(n: u32, m: u32, rows: &[u32]) {
-    io::write_all(STDOUT_FILENO, b"autocorrelation");
-    show_change(avalanche::autocorrelation(n, m, rows, m));
-    io::write_all(STDOUT_FILENO, b"sac");
-    show_change(avalanche::dynamic_distance(n, m, rows, 1, 1));
-    io::write_all(STDOUT_FILENO, b"bic");
-    show_change(avalanche::dynamic_distance(n, m, rows, 2, 1));
+fn show_changes<W: Write>(out: &mut W, n: u32, m: u32, rows: &[u32]) -> io::Result<()> {
+    write!(out, "autocorrelation")?;
+    show_change(out, avalanche::autocorrelation(n, m, rows, m))?;
+    write!(out, "sac")?;
+    show_change(out, avalanche::dynamic_distance(n, m, rows, 1, 1))?;
+    write!(out, "bic")?;
+    show_change(out, avalanche::dynamic_distance(n, m, rows, 2, 1))
 }
 
-fn show_verdict(answer: Verdict) {
+fn show_verdict<W: Write>(out: &mut W, answer: Verdict) -> io::Result<()> {
     match answer {
-        Verdict::Yes => lines::write_number(1),
-        Verdict::No => lines::write_number(0),
-        Verdict::Undecided(e) => lines::write_refused(e),
+        Verdict::Yes => lines::write_number(out, 1)?,
+        Verdict::No => lines::write_number(out, 0)?,
+        Verdict::Undecided(e) => lines::write_refused(out, e)?,
     }
-    lines::end_line();
+    lines::end_line(out)
 }
 
-fn show_degree(n: u32, m: u32, rows: &[u32]) {
+fn show_degree<W: Write>(out: &mut W, n: u32, m: u32, rows: &[u32]) -> io::Result<()> {
     let answer = algebraic::degree(n, m, rows, m);
     let DegreeFound::Reached { degree, c } = answer else {
-        return;
+        return Ok(());
     };
-    io::write_all(STDOUT_FILENO, b"degree");
-    lines::write_number(degree);
-    lines::write_number(c);
-    lines::end_line();
-    io::write_all(STDOUT_FILENO, b"complete");
-    show_verdict(avalanche::is_complete(n, m, rows));
-    io::write_all(STDOUT_FILENO, b"bijective");
-    show_verdict(algebraic::is_bijective(n, m, rows));
+    write!(out, "degree")?;
+    lines::write_number(out, degree)?;
+    lines::write_number(out, c)?;
+    lines::end_line(out)?;
+    write!(out, "complete")?;
+    show_verdict(out, avalanche::is_complete(n, m, rows))?;
+    write!(out, "bijective")?;
+    show_verdict(out, algebraic::is_bijective(n, m, rows))
 }
 
 // The nonlinearity of the rows that stand after an addition to column m + 1, which a box of m outputs has not.
-fn show_refused(n: u32, m: u32, rows: &[u32]) {
+fn show_refused<W: Write>(out: &mut W, n: u32, m: u32, rows: &[u32]) -> io::Result<()> {
     let mut new = [0u32; 256];
     let size = lines::smaller(rows.len(), 256);
-    let answer = columns::add_to_column(n, m, rows, m % 65536 + 1, 0, 0, &mut new[..size]);
-    if let Written::Declined(e) = answer {
-        lines::write_refused(e);
-        show_nonlinearity(n, m, rows);
+    match columns::add_to_column(n, m, rows, m % 65536 + 1, 0, 0, &mut new[..size]) {
+        Written::Done => Ok(()),
+        Written::Declined(e) => {
+            lines::write_refused(out, e)?;
+            show_nonlinearity(out, n, m, rows)
+        }
     }
 }
 
-fn show_and_refuse(n: u32, m: u32, rows: &[u32]) {
-    show_nonlinearity(n, m, rows);
-    show_refused(n, m, rows);
+fn show_and_refuse<W: Write>(out: &mut W, n: u32, m: u32, rows: &[u32]) -> io::Result<()> {
+    show_nonlinearity(out, n, m, rows)?;
+    show_refused(out, n, m, rows)
 }
 
 // After inputs 1 and 3 are added to column m.
-fn show_second(n: u32, m: u32, rows: &[u32]) {
+fn show_second<W: Write>(out: &mut W, n: u32, m: u32, rows: &[u32]) -> io::Result<()> {
     let mut new = [0u32; 256];
     let size = lines::smaller(rows.len(), 256);
-    let answer = columns::add_to_column(n, m, rows, m, 5, 0, &mut new[..size]);
-    let Written::Done = answer else {
-        return;
-    };
-    show_and_refuse(n, m, &new[..size]);
+    match columns::add_to_column(n, m, rows, m, 5, 0, &mut new[..size]) {
+        Written::Done => show_and_refuse(out, n, m, &new[..size]),
+        Written::Declined(_) => Ok(()),
+    }
 }
 
-fn show_and_add(n: u32, m: u32, rows: &[u32]) {
-    show_nonlinearity(n, m, rows);
-    show_second(n, m, rows);
+fn show_and_add<W: Write>(out: &mut W, n: u32, m: u32, rows: &[u32]) -> io::Result<()> {
+    show_nonlinearity(out, n, m, rows)?;
+    show_second(out, n, m, rows)
 }
 
 // After input 1 and the constant 1 are added to column 1.
-fn show_first(n: u32, m: u32, rows: &[u32]) {
+fn show_first<W: Write>(out: &mut W, n: u32, m: u32, rows: &[u32]) -> io::Result<()> {
     let mut new = [0u32; 256];
     let size = lines::smaller(rows.len(), 256);
-    let answer = columns::add_to_column(n, m, rows, 1, 1, 1, &mut new[..size]);
-    let Written::Done = answer else {
-        return;
-    };
-    show_and_add(n, m, &new[..size]);
+    match columns::add_to_column(n, m, rows, 1, 1, 1, &mut new[..size]) {
+        Written::Done => show_and_add(out, n, m, &new[..size]),
+        Written::Declined(_) => Ok(()),
+    }
 }
 
-fn show_box(n: u32, m: u32, rows: &[u32]) {
-    io::write_all(STDOUT_FILENO, b"box");
-    lines::write_number(n);
-    lines::write_number(m);
-    lines::end_line();
-    show_nonlinearity(n, m, rows);
-    show_largest_cell(n, m, rows);
-    show_changes(n, m, rows);
-    show_degree(n, m, rows);
-    show_first(n, m, rows);
+fn show_box<W: Write>(out: &mut W, n: u32, m: u32, rows: &[u32]) -> io::Result<()> {
+    write!(out, "box")?;
+    lines::write_number(out, n)?;
+    lines::write_number(out, m)?;
+    lines::end_line(out)?;
+    show_nonlinearity(out, n, m, rows)?;
+    show_largest_cell(out, n, m, rows)?;
+    show_changes(out, n, m, rows)?;
+    show_degree(out, n, m, rows)?;
+    show_first(out, n, m, rows)
 }
 
 // One box file, of a box of `size` rows.
-fn show_file(file: &[u8], size: usize)
+fn show_file<W: Write>(out: &mut W, file: &[u8], size: usize) -> io::Result<()>
     requires { size ≤ 256 }
 {
     let mut rows = [0u32; 256];
     match boxfile::read_box(file, &mut rows[..size]) {
-        BoxFile::Read { n, m } => show_box(n, m, &rows[..size]),
-        BoxFile::Declined(e) => lines::write_refused(e),
+        BoxFile::Read { n, m } => show_box(out, n, m, &rows[..size]),
+        BoxFile::Declined(e) => lines::write_refused(out, e),
     }
 }
 
-fn show_boxes(bytes: &[u8]) {
+fn show_boxes<W: Write>(out: &mut W, bytes: &[u8]) -> io::Result<()> {
     let mut from = 0;
     while from + 2 <= bytes.len() {
         let size = boxfile::room_of(&bytes[from..]);
         let start = from + 2;
         let end = start + lines::smaller(4 * size, bytes.len() - start);
-        show_file(&bytes[from..end], size);
+        show_file(out, &bytes[from..end], size)?;
         from = end;
     }
+    Ok(())
 }
 
-fn main() {
-    let mut buffer = io::large_buffer();
-    let count = io::read_full(0, &mut buffer);
-    show_boxes(&buffer[..count]);
+// Of a longer input no more than the first 65,536 bytes are read.
+fn main(rt: HostRuntime) -> io::Result<()> {
+    let mut buffer = [0u8; 65536];
+    let count = lines::read_full(&mut rt.stdin(), &mut buffer);
+    show_boxes(&mut rt.stdout(), &buffer[..count])
 }

@@ -5,8 +5,10 @@
 ghost use Rattle.std.specs.Prelude.{◌≡◌, ◌≤◌, length};
 ghost use Rattle.spectra.specs.Reading.{line_end, width_of, digit_of, digits_of};
 
-use libc::STDOUT_FILENO;
 use refusals::Written;
+use std::io::{self, Write};
+
+const LINE_END: u8 = b'\n';
 
 // Where the line that starts at `from` ends.
 fn line_end(text: &[u8], from: usize) -> usize
@@ -15,7 +17,7 @@ fn line_end(text: &[u8], from: usize) -> usize
 {
     let mut at = from;
     while at < text.len() {
-        if text[at] == b'\n' {
+        if text[at] == LINE_END {
             return at;
         }
         at += 1;
@@ -56,103 +58,89 @@ fn read_digits(text: &[u8], table: &mut [u8])
     }
 }
 
-fn write_value(v: i32) {
-    if v < 0 {
-        io::write_all(STDOUT_FILENO, b" -");
-    } else {
-        io::write_all(STDOUT_FILENO, b" ");
-    }
-    io::print_decimal(STDOUT_FILENO, boolean::magnitude(v) as u64);
+fn write_value<W: Write>(out: &mut W, v: i32) -> io::Result<()> {
+    write!(out, " {v}")
 }
 
-fn write_spectrum(values: &[i32]) {
-    io::write_all(STDOUT_FILENO, b"spectrum");
-    let mut w = 0;
-    while w < values.len() {
-        write_value(values[w]);
-        w += 1;
+fn write_spectrum<W: Write>(out: &mut W, values: &[i32]) -> io::Result<()> {
+    write!(out, "spectrum")?;
+    for value in values {
+        write_value(out, *value)?;
     }
-    io::write_all(STDOUT_FILENO, b"\n");
+    lines::end_line(out)
 }
 
-fn write_table(table: &[u8]) {
-    io::write_all(STDOUT_FILENO, b"function ");
-    let mut x = 0;
-    while x < table.len() {
-        io::print_decimal(STDOUT_FILENO, table[x] as u64);
-        x += 1;
+fn write_table<W: Write>(out: &mut W, table: &[u8]) -> io::Result<()> {
+    write!(out, "function ")?;
+    for value in table {
+        write!(out, "{value}")?;
     }
-    io::write_all(STDOUT_FILENO, b"\n");
+    lines::end_line(out)
 }
 
 // The function that has the values, or the refusal.
-fn show_function(n: u32, values: &[i32]) {
+fn show_function<W: Write>(out: &mut W, n: u32, values: &[i32]) -> io::Result<()> {
     let mut table = [0u8; 256];
     let size = lines::smaller(values.len(), 256);
-    let answer = walsh::inverse_spectrum(n, values, &mut table[..size]);
-    let Written::Done = answer else {
-        if let Written::Declined(e) = answer {
-            lines::write_refused(e);
-        }
-        return;
-    };
-    write_table(&table[..size]);
+    match walsh::inverse_spectrum(n, values, &mut table[..size]) {
+        Written::Done => write_table(out, &table[..size]),
+        Written::Declined(e) => lines::write_refused(out, e),
+    }
 }
 
 // A spectrum, and the function that has it.
-fn show_spectrum(n: u32, values: &[i32]) {
-    write_spectrum(values);
-    show_function(n, values);
+fn show_spectrum<W: Write>(out: &mut W, n: u32, values: &[i32]) -> io::Result<()> {
+    write_spectrum(out, values)?;
+    show_function(out, n, values)
 }
 
 // The spectrum of a truth table and the function that has it, or the refusal.
-fn show_table(table: &[u8]) {
+fn show_table<W: Write>(out: &mut W, table: &[u8]) -> io::Result<()> {
     let mut values = [0i32; 256];
     let size = lines::smaller(table.len(), 256);
     let n = width_of(table.len());
-    let answer = walsh::spectrum(n, table, &mut values[..size]);
-    let Written::Done = answer else {
-        if let Written::Declined(e) = answer {
-            lines::write_refused(e);
-        }
-        return;
-    };
-    show_spectrum(n, &values[..size]);
+    match walsh::spectrum(n, table, &mut values[..size]) {
+        Written::Done => show_spectrum(out, n, &values[..size]),
+        Written::Declined(e) => lines::write_refused(out, e),
+    }
 }
 
 // Writes the answer for a line of digits. More than 512 of them are refused as 512 are.
-fn show_line(text: &[u8]) {
+fn show_line<W: Write>(out: &mut W, text: &[u8]) -> io::Result<()> {
     let mut table = [0u8; 512];
     let length = lines::smaller(text.len(), 512);
     read_digits(text, &mut table[..length]);
-    show_table(&table[..length]);
+    show_table(out, &table[..length])
 }
 
-fn show_lines(text: &[u8]) {
+fn show_lines<W: Write>(out: &mut W, text: &[u8]) -> io::Result<()> {
     let mut from = 0;
     while from < text.len() {
         let end = line_end(text, from);
-        show_line(&text[from..end]);
+        show_line(out, &text[from..end])?;
         from = end + 1;
     }
+    Ok(())
 }
 
 // Document 01's cases 4, 5 and 6, in the values of document 02's Request 9; values that no sum could hold, a value above half of the
 // inputs, the doubled values of case 4, and a width and a length that are refused.
-fn show_values() {
-    show_function(2, &[1i32, 1, 1, -1]);
-    show_function(2, &[1i32, 1, 1, 1]);
-    show_function(1, &[0i32, 0]);
-    show_function(1, &[2147483647i32, -2147483648]);
-    show_function(2, &[3i32, 1, 1, -1]);
-    show_function(2, &[2i32, 2, 2, -2]);
-    show_function(0, &[1i32]);
-    show_function(2, &[1i32, 1]);
+fn show_values<W: Write>(out: &mut W) -> io::Result<()> {
+    show_function(out, 2, &[1i32, 1, 1, -1])?;
+    show_function(out, 2, &[1i32, 1, 1, 1])?;
+    show_function(out, 1, &[0i32, 0])?;
+    show_function(out, 1, &[2147483647i32, -2147483648])?;
+    show_function(out, 2, &[3i32, 1, 1, -1])?;
+    show_function(out, 2, &[2i32, 2, 2, -2])?;
+    show_function(out, 0, &[1i32])?;
+    show_function(out, 2, &[1i32, 1])
 }
 
-fn main() {
-    let mut buffer = io::large_buffer();
-    let count = io::read_full(0, &mut buffer);
-    show_lines(&buffer[..count]);
-    show_values();
+// Of a longer input no more than the first 65,536 bytes are read.
+fn main(rt: HostRuntime) -> io::Result<()> {
+    let mut buffer = [0u8; 65536];
+    let count = lines::read_full(&mut rt.stdin(), &mut buffer);
+    let mut out = rt.stdout();
+    show_lines(&mut out, &buffer[..count])?;
+    show_values(&mut out)
 }
