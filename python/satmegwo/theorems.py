@@ -16,16 +16,16 @@ class Theorem(NamedTuple):
 
 # Nothing is nearer, larger or lower than the figure that is reported: in crates/claims/proofs.
 BOUNDS = {
-    "nonlinearity": Theorem("nonlinearity-reported", "least"),
-    "xor": Theorem("xor-reported", "largest"),
-    "autocorrelation": Theorem("autocorrelation-reported", "largest"),
-    "distance": Theorem("distance-reported", "largest"),
-    "degree": Theorem("degree-reported", "least"),
+    "nonlinearity": Theorem("nonlinearity_reported", "least"),
+    "xor": Theorem("xor_reported", "largest"),
+    "autocorrelation": Theorem("autocorrelation_reported", "largest"),
+    "distance": Theorem("distance_reported", "largest"),
+    "degree": Theorem("degree_reported", "least"),
 }
 # With a larger limit the figure falls, or rises: in the crates of the figures.
 LIMITS = {
-    "nonlinearity": Theorem("nonlinearity-falls"),
-    "autocorrelation": Theorem("autocorrelation-rises"),
-    "distance": Theorem("distance-rises"),
-    "degree": Theorem("degree-falls"),
+    "nonlinearity": Theorem("nonlinearity_falls"),
+    "autocorrelation": Theorem("autocorrelation_rises"),
+    "distance": Theorem("distance_rises"),
+    "degree": Theorem("degree_falls"),
 }

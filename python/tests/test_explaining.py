@@ -72,9 +72,9 @@ class Explained(unittest.TestCase):
     def test_a_limit_below_m(self):
         wide = Box([random.Random(7).randrange(2**20) for _ in range(256)], n=8, m=20)
         for figure, side, theorem in (
-            ("nonlinearity", "at most", "nonlinearity-falls"),
-            ("degree", "at most", "degree-falls"),
-            ("autocorrelation", "at least", "autocorrelation-rises"),
+            ("nonlinearity", "at most", "nonlinearity_falls"),
+            ("degree", "at most", "degree_falls"),
+            ("autocorrelation", "at least", "autocorrelation_rises"),
         ):
             explanation = wide.explain(figure)
             number = explanation.heading.split(":")[0].split()[1]
@@ -194,7 +194,7 @@ class Theorems(unittest.TestCase):
 
     def test_no_other_name_is_typed_in(self):
         for module in (explaining,):
-            self.assertNotRegex(inspect.getsource(module), r"[a-z]+-(reported|falls|rises)")
+            self.assertNotRegex(inspect.getsource(module), r"[a-z]+_(reported|falls|rises)")
 
     def test_definitions(self):
         self.assertEqual(definitions.combination([3, 1, 4, 0], 3), [0, 1, 0, 0])

@@ -28,7 +28,7 @@ IS_HERE = importlib.util.find_spec("openpyxl") is not None
 
 def elsewhere():
     """Another Python that has openpyxl, or None."""
-    for place in ("/usr/bin/python3", "/usr/local/bin/python3", shutil.which("python3"), shutil.which("python")):
+    for place in map(shutil.which, ("/usr/bin/python3", "/usr/local/bin/python3", "python3", "python")):
         if place and subprocess.run([place, "-c", "import openpyxl"], capture_output=True).returncode == 0:
             return place
     return None
