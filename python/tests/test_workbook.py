@@ -7,6 +7,7 @@ import contextlib
 import datetime
 import importlib.util
 import io
+import os
 import pathlib
 import random
 import re
@@ -28,8 +29,8 @@ IS_HERE = importlib.util.find_spec("openpyxl") is not None
 
 def elsewhere():
     """Another Python that has openpyxl, or None."""
-    for place in map(shutil.which, ("/usr/bin/python3", "/usr/local/bin/python3", "python3", "python")):
-        if place and subprocess.run([place, "-c", "import openpyxl"], capture_output=True).returncode == 0:
+    for place in ("/usr/bin/python3", "/usr/local/bin/python3", shutil.which("python3"), shutil.which("python")):
+        if place and os.path.exists(place) and subprocess.run([place, "-c", "import openpyxl"], capture_output=True).returncode == 0:
             return place
     return None
 

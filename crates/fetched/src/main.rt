@@ -2,12 +2,21 @@
 // part handed back. A refused fetch hands back an empty part, which is no box file: its two lines are the number, and 10.
 #![tactic(auto)]
 
+ghost use Rattle.std.specs.Prelude.{OnOk, [], ◌∷◌, codes};
+ghost use Rattle.std.specs.Io.KnownBytes.{Appends};
+ghost use Rattle.refusals.specs.Table.{said_written};
+ghost use Rattle.lines.specs.Lines.{numbers_line, reply_line};
+ghost use Rattle.catalogue.specs.Calls.{said_told, said_fetched};
+ghost use Rattle.fetched.specs.Printed.{box_line, file_shown, record_shown, records_shown};
+
 use boxfile::BoxFile;
 use catalogue::{Fetched, Told};
 use refusals::Written;
 use std::io::{self, Write};
 
-fn show_box<W: Write>(out: &mut W, n: u32, m: u32, rows: &[u32]) -> io::Result<()> {
+fn show_box<W: Write>(out: &mut W, n: u32, m: u32, rows: &[u32]) -> io::Result<()>
+    ensures { OnOk result (Appends (W.contents out.old) (W.contents out.new) (box_line (n ∷ m ∷ []) rows.now)) }
+{
     write!(out, "box")?;
     lines::write_number(out, n)?;
     lines::write_number(out, m)?;
@@ -18,7 +27,9 @@ fn show_box<W: Write>(out: &mut W, n: u32, m: u32, rows: &[u32]) -> io::Result<(
     lines::end_line(out)
 }
 
-fn show_file<W: Write>(out: &mut W, file: &[u8]) -> io::Result<()> {
+fn show_file<W: Write>(out: &mut W, file: &[u8]) -> io::Result<()>
+    ensures { OnOk result (Appends (W.contents out.old) (W.contents out.new) (file_shown file.now)) }
+{
     let mut rows = [0u32; 256];
     let size = boxfile::room_of(file);
     match boxfile::read_box(file, &mut rows[..size]) {
@@ -27,47 +38,54 @@ fn show_file<W: Write>(out: &mut W, file: &[u8]) -> io::Result<()> {
     }
 }
 
-fn show_place<W: Write>(out: &mut W, offset: u32, size: u32) -> io::Result<()> {
-    write!(out, "at")?;
-    lines::write_number(out, offset)?;
-    lines::write_number(out, size)?;
-    lines::end_line(out)
+fn show_place<W: Write>(out: &mut W, offset: u32, size: u32) -> io::Result<()>
+    ensures { OnOk result (Appends (W.contents out.old) (W.contents out.new) (numbers_line (codes "at") (offset ∷ size ∷ []))) }
+{
+    lines::write_line(out, "at", &[offset, size])
+}
+
+fn show_fetched<W: Write>(out: &mut W, answer: Fetched) -> io::Result<()>
+    ensures { OnOk result (Appends (W.contents out.old) (W.contents out.new) (reply_line (codes "at") (said_fetched answer))) }
+{
+    match answer {
+        Fetched::Lies { offset, size } => show_place(out, offset, size),
+        Fetched::Unfetched(e) => lines::write_refused(out, e),
+    }
 }
 
 // Where a record lies, and the box in the part of the catalogue that is handed back.
-fn show_record<W: Write>(out: &mut W, catalogue: &[u8], index: u32) -> io::Result<()> {
-    write!(out, "record")?;
-    lines::write_number(out, index)?;
-    lines::end_line(out)?;
-    match catalogue::fetch_status(catalogue, index) {
-        Fetched::Lies { offset, size } => show_place(out, offset, size)?,
-        Fetched::Unfetched(e) => lines::write_refused(out, e)?,
-    }
+fn show_record<W: Write>(out: &mut W, catalogue: &[u8], index: u32) -> io::Result<()>
+    ensures { OnOk result (Appends (W.contents out.old) (W.contents out.new) (record_shown catalogue.now index)) }
+{
+    lines::write_line(out, "record", &[index])?;
+    show_fetched(out, catalogue::fetch_status(catalogue, index))?;
     show_file(out, catalogue::fetch(catalogue, index))
 }
 
 // The records of a catalogue that has three at most; the last index is past them.
-fn show_records<W: Write>(out: &mut W, catalogue: &[u8]) -> io::Result<()> {
+fn show_records<W: Write>(out: &mut W, catalogue: &[u8]) -> io::Result<()>
+    ensures { OnOk result (Appends (W.contents out.old) (W.contents out.new) (records_shown catalogue.now)) }
+{
     for index in 0..4 {
         show_record(out, catalogue, index)?;
     }
     Ok(())
 }
 
-fn show_added<W: Write>(out: &mut W, answer: Told) -> io::Result<()> {
+fn show_added<W: Write>(out: &mut W, answer: Told) -> io::Result<()>
+    ensures { OnOk result (Appends (W.contents out.old) (W.contents out.new) (reply_line (codes "added") (said_told answer))) }
+{
     match answer {
-        Told::Number(index) => {
-            write!(out, "added")?;
-            lines::write_number(out, index)?;
-            lines::end_line(out)
-        }
+        Told::Number(index) => lines::write_line(out, "added", &[index]),
         Told::Declined(e) => lines::write_refused(out, e),
     }
 }
 
-fn show_written<W: Write>(out: &mut W, answer: Written) -> io::Result<()> {
+fn show_written<W: Write>(out: &mut W, answer: Written) -> io::Result<()>
+    ensures { OnOk result (Appends (W.contents out.old) (W.contents out.new) (reply_line (codes "done") (said_written answer))) }
+{
     match answer {
-        Written::Done => writeln!(out, "done"),
+        Written::Done => lines::write_line(out, "done", &[]),
         Written::Declined(e) => lines::write_refused(out, e),
     }
 }

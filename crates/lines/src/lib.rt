@@ -3,7 +3,7 @@
 
 ghost use Rattle.std.specs.Prelude.{◌≡◌, ◌≤◌, min, length, take, OnOk, [], ◌∷◌};
 ghost use Rattle.std.specs.Io.KnownBytes.{Appends, Consumes};
-ghost use Rattle.lines.specs.Lines.{number_text, refused_line};
+ghost use Rattle.lines.specs.Lines.{number_text, numbers_line, refused_line};
 
 use refusals::Refusal;
 use std::io::{self, Read, Write};
@@ -28,13 +28,22 @@ pub fn end_line<W: Write>(out: &mut W) -> io::Result<()>
     writeln!(out)
 }
 
+// A word, some numbers, and the line's end.
+pub fn write_line<W: Write>(out: &mut W, word: &str, numbers: &[u32]) -> io::Result<()>
+    ensures { OnOk result (Appends (W.contents out.old) (W.contents out.new) (numbers_line word.now numbers.now)) }
+{
+    write!(out, "{word}")?;
+    for number in numbers {
+        write_number(out, *number)?;
+    }
+    end_line(out)
+}
+
 // The line of a refusal.
 pub fn write_refused<W: Write>(out: &mut W, e: Refusal) -> io::Result<()>
     ensures { OnOk result (Appends (W.contents out.old) (W.contents out.new) (refused_line e)) }
 {
-    write!(out, "refused")?;
-    write_number(out, refusals::number_of(e))?;
-    end_line(out)
+    write_line(out, "refused", &[refusals::number_of(e)])
 }
 
 // Fills the buffer from the input, and gives how many bytes it has then: all that fit, or those before the input ends or a read fails.

@@ -2,7 +2,9 @@
 // Then it writes the inverse of some values that are given here.
 #![tactic(auto)]
 
-ghost use Rattle.std.specs.Prelude.{◌≡◌, ◌≤◌, length};
+ghost use Rattle.std.specs.Prelude.{◌≡◌, ◌≤◌, length, OnOk};
+ghost use Rattle.std.specs.Io.KnownBytes.{Appends};
+ghost use Rattle.spectra.specs.Printed.{value_text, spectrum_text, table_text};
 ghost use Rattle.spectra.specs.Reading.{line_end, width_of, digit_of, digits_of};
 
 use refusals::Written;
@@ -58,11 +60,15 @@ fn read_digits(text: &[u8], table: &mut [u8])
     }
 }
 
-fn write_value<W: Write>(out: &mut W, v: i32) -> io::Result<()> {
+fn write_value<W: Write>(out: &mut W, v: i32) -> io::Result<()>
+    ensures { OnOk result (Appends (W.contents out.old) (W.contents out.new) (value_text v)) }
+{
     write!(out, " {v}")
 }
 
-fn write_spectrum<W: Write>(out: &mut W, values: &[i32]) -> io::Result<()> {
+fn write_spectrum<W: Write>(out: &mut W, values: &[i32]) -> io::Result<()>
+    ensures { OnOk result (Appends (W.contents out.old) (W.contents out.new) (spectrum_text values.now)) }
+{
     write!(out, "spectrum")?;
     for value in values {
         write_value(out, *value)?;
@@ -70,7 +76,9 @@ fn write_spectrum<W: Write>(out: &mut W, values: &[i32]) -> io::Result<()> {
     lines::end_line(out)
 }
 
-fn write_table<W: Write>(out: &mut W, table: &[u8]) -> io::Result<()> {
+fn write_table<W: Write>(out: &mut W, table: &[u8]) -> io::Result<()>
+    ensures { OnOk result (Appends (W.contents out.old) (W.contents out.new) (table_text table.now)) }
+{
     write!(out, "function ")?;
     for value in table {
         write!(out, "{value}")?;

@@ -1,0 +1,24 @@
+-- The rows that are shown are those that the call left.
+use Rattle.std.proofs.Common.{◌≡◌, List, ℕ, [], ◌∷◌, length, ap, ◌∙◌, subst, OnOk, length-take-le}
+use Rattle.std.specs.Io.KnownBytes.{Appends}
+use Rattle.boolean.proofs.Lists.{part_is}
+use Rattle.boxfile.specs.declared.BoxFile.TheVariants.{Read, Declined}
+use Rattle.fetched.specs.Printed.{box_line}
+use Rattle.fetched.proofs.Printed.{file_is}
+use Rattle.fetched.proofs.show_file.Goals as goal
+
+pub returns-in-Read : goal.returns-in-Read
+returns-in-Read g c =
+    let lent = length-take-le c.room_of-size.result _ c.room_of-size.ensures.1 in
+    let rows = part_is c.read_box.new.rows _ c.room_of-size.result (c.read_box.auto.rows ∙ lent) in
+    subst (λ (t : List ℕ). OnOk c.show_box.result (Appends (g.W.Write.contents c.args.out.now) (g.W.Write.contents c.show_box.new.out) t))
+    (ap (box_line (c.in-Read.n ∷ c.in-Read.m ∷ [])) rows
+    ∙ file_is c.args.file.now _ c.read_box.new.rows (Read c.in-Read.n c.in-Read.m) (lent ∙ c.room_of-size.ensures.0) c.in-Read.ensures)
+    c.show_box.ensures
+
+pub returns-in-Declined : goal.returns-in-Declined
+returns-in-Declined g c =
+    let lent = length-take-le c.room_of-size.result _ c.room_of-size.ensures.1 in
+    subst (λ (t : List ℕ). OnOk c.write_refused.result (Appends (g.W.Write.contents c.args.out.now) (g.W.Write.contents c.write_refused.new.out) t))
+    (file_is c.args.file.now _ c.read_box.new.rows (Declined c.in-Declined.e) (lent ∙ c.room_of-size.ensures.0) c.in-Declined.ensures)
+    c.write_refused.ensures
