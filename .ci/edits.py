@@ -37,7 +37,7 @@ UNFIT = SHAPE + (
     "stopped at the step limit",
 )
 # The goals that say what a function returns, and what a loop of it keeps, by the prover's names and by those that our proofs give them.
-OUTCOME = re.compile(r"returns(-.+)?|loop-(holds|again)(-\d+)?|.+-(init|preserved)(-\d+)?")
+OUTCOME = re.compile(r"returns(-.+)?|loop[-_](holds|again)([-_]\d+)?|.+-(init|preserved)(-\d+)?")
 NOT_SHOWN = "what differs could not be computed"
 OTHER_TEST = "the test has another form"
 ERROR = re.compile(r"^(\S+): error: `([^`]*)`: ")

@@ -4,9 +4,13 @@
 A `&mut` parameter has its `.new` in an `ensures` (DECISIONS 108), of a private function too: what no contract names may be left with any content,
 and a wrong program lives there. A function that returns something has an `ensures`.
 
+What a program writes is compared with the file stdout beside it. So nothing is asked of its `main`, nor of a function of a program that writes to an
+output of any type and gives no more than whether that went well; where such a function has an `ensures`, it names the output as it is left.
+
 usage: lent.py CRATES      (crates/)
 """
 import pathlib
+import re
 import sys
 
 import sources
@@ -33,7 +37,21 @@ def unnamed(function):
     return [name for name in lent(function) if name not in named]
 
 
+WRITES = sources.tokens("io::Result<()>")
+OUTPUT = re.compile(r"[A-Z]\d?$")  # the name of a type that the caller picks
+
+
+def only_writes(function, programs):
+    """Whether a function of a program only writes to outputs, with no contract; or is `main`."""
+    if function.crate not in programs or function.gives not in ([], WRITES) or "ensures" in function.clauses:
+        return False
+    types = dict(zip(function.takes, function.types))
+    return function.name == "main" or all(OUTPUT.match(types[name][-1]) for name in lent(function))
+
+
 def faults(functions, worked_in=frozenset()):
+    programs = {function.crate for function in functions if function.name == "main"}
+    functions = [function for function in functions if not only_writes(function, programs)]
     found, left = [], {(f"{function.crate}::{function.name}", name) for function in functions for name in unnamed(function)}
     found += [f"{whole} is said to work in {name}, and its contract names it, or it is gone" for whole, name in sorted(worked_in - left)]
     for function in functions:

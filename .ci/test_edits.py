@@ -98,11 +98,11 @@ class Held(unittest.TestCase):
     # ---- which error counts
     def test_an_outcome_counts_though_it_is_not_first(self):
         unfit = AT + "`add-c`: `rw`: no occurrence of `c`"
-        for goal in ("returns", "returns-3", "returns-then-c-ne0", "loop-holds", "loop-again-2", "loop-c-preserved", "loop-c-init-2"):
+        for goal in ("returns", "returns-3", "returns-then-c-ne0", "loop-holds", "loop_again_2", "loop-c-preserved", "loop-c-init-2"):
             self.assertEqual(self.faults([unfit, SWEEP.replace("loop-again", goal), PLACE] + REFUSED), (2, []))
 
     def test_no_other_goal_counts_after_an_error_that_is_no_fact(self):
-        for goal in ("next-requires", "loop-less", "loop-c-smaller", "returned", "sweep_spec"):
+        for goal in ("next-requires", "loop_less", "loop-c-smaller", "returned", "sweep_spec"):
             self.one_fault("no fact", [AT + "`add-c`: `rw`: no occurrence of `c`", SWEEP.replace("loop-again", goal), PLACE] + REFUSED)
 
     def test_a_first_error_in_another_goal_counts(self):

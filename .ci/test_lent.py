@@ -64,6 +64,18 @@ class Lent(unittest.TestCase):
     def test_a_reply_without_a_contract(self):
         self.one_fault("fn main() {}", "fn main() -> u32 { 1 }", "packing::main returns something")
 
+    def test_what_a_program_writes(self):
+        shows = "fn show<W: Write>(out: &mut W, n: u32) -> io::Result<()> { end_line(out) }\nfn main(rt: HostRuntime) -> io::Result<()> { show(&mut rt.stdout(), 1) }"
+        self.assertEqual(faults(RIGHT.replace("fn main() {}", shows)), [])
+        for old, new in (
+            ("out: &mut W", "out: &mut [u8]"),
+            ("io::Result<()> { end", "io::Result<u32> { end"),
+            ("io::Result<()> { end", "io::Result<()> ensures { result ≡ n } { end"),
+            ("fn main", "fn other"),
+        ):
+            found = faults(RIGHT.replace("fn main() {}", shows.replace(old, new)))
+            self.assertIn("packing::show is lent out, and no `ensures` says what it holds afterwards", found)
+
 
 if __name__ == "__main__":
     unittest.main()

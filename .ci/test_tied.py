@@ -164,6 +164,12 @@ class Tied(unittest.TestCase):
         renamed["crates/linear/src/lib.rt"] = renamed["crates/linear/src/lib.rt"].replace("rank n", "order n").replace("distance n n", "order n")
         self.assertEqual(len(self.found(files=renamed)), 1)
 
+    def test_what_a_program_prints_is_before_no_reader(self):
+        files = FILES | {"crates/shown/specs/Printed.antt": "use Rattle.linear.specs.Laws.{rank}\n\nabbrev pub line : (c : ℕ) → ℕ\nline c = rank c\n"}
+        row = "\n## `shown`\n\n| definition | what breaks |\n|---|---|\n| `line` | {} |\n"
+        self.assertEqual(self.found(PAGE + row.format("the program alone, no call: its stdout is compared"), files), [])
+        self.assertEqual(len(self.found(PAGE + row.format("`least_within`"), files)), 1)
+
     def test_a_field_of_the_same_name_is_no_use(self):
         field = changed("crates/linear/src/lib.rt", "result ≡ distance n n", "(of result).rank ≡ result.rank")
         self.assertEqual(self.found(files=field), [])

@@ -4,7 +4,8 @@
 A definition that must be believed is one of any file of `specs/` but `Work`. Its row, in the table of its crate, names what ties it: statements of
 `claims`, or lists of worked lines. A name there in backquotes is a statement, a worked list, a definition that must be believed or a field of one;
 what has `/` or `::` in it is looked up by `names.py`. A row without a statement or a worked list says "behind the calls" (or "no call", of a program).
-What is said to be behind the calls stands in no statement, in no contract of a call or an export, and in no definition that one of these has.
+What is said to be behind the calls stands in no statement, in no contract of a call or an export, and in no definition that one of these has; a
+definition of what a program prints ("alone, no call") is none of these.
 
 usage: tied.py ROOT
 """
@@ -19,6 +20,7 @@ import specs
 
 STATED = (*names.STATEMENTS, "Tied")
 BEHIND, NO_CALL, UNTIED = "behind the calls", "no call", "NOTHING"
+PRINTED = f"alone, {NO_CALL}"
 NESTED = re.compile(r"^ +(?:(?:unfoldable|abbrev) pub|pub (?:record|data)) ([^\s:({]+)", re.M)
 STARTS = re.compile(r"^ *(?:(?:unfoldable|abbrev) )?pub (?:(?:unfoldable|abbrev|record|data) )?([^\s:({]+)")
 FIELD = re.compile(r"^ +(?:pub )?([^\s:(){}]+) :", re.M)
@@ -166,7 +168,8 @@ def row_faults(held, crate, defined, tie):
 def behind_faults(held, listed):
     """Definitions that are said to be behind the calls, and stand before a reader of a statement or of a call."""
     behind = {name for _, defined, tie in listed for name in defined if tie.startswith(BEHIND)}
-    return sorted(f"{word} is said to be {BEHIND}, and {user} has it" for user, name, word in held.users(behind) if name not in behind)
+    apart = behind | {name for _, defined, tie in listed for name in defined if PRINTED in tie}
+    return sorted(f"{word} is said to be {BEHIND}, and {user} has it" for user, name, word in held.users(behind) if name not in apart)
 
 
 def faults(page, files):

@@ -1,7 +1,7 @@
 """Sweeps in parts: a figure over all combinations within a limit, on several cores or machines, watched, stopped and taken up again.
 
 A part is one call of the proved library, over the combinations from `first` to `last`; two parts are merged by the library too. The theorem
-parts-whole says that parts which together cover 1 to 2^m - 1, merged in any order, give the figure and the witness of the plain call. This
+parts_whole says that parts which together cover 1 to 2^m - 1, merged in any order, give the figure and the witness of the plain call. This
 file is not proved. It hands out the parts, and before it answers it looks whether those that were merged cover 1 to 2^m - 1, which is what
 the theorem asks for.
 """

@@ -187,7 +187,7 @@ class Page(unittest.TestCase):
     def test_theorems_come_from_the_table(self):
         for module in (page, pictures):
             source = pathlib.Path(module.__file__).read_text(encoding="utf-8")
-            self.assertNotRegex(source, r"[a-z]+-(reported|falls|rises)")
+            self.assertNotRegex(source, r"[a-z]+_(reported|falls|rises)")
 
 
 def declared(selector, name, among=page.STYLE):
