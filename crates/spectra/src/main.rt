@@ -4,7 +4,7 @@
 
 ghost use Rattle.std.specs.Prelude.{◌≡◌, ◌≤◌, length, OnOk};
 ghost use Rattle.std.specs.Io.KnownBytes.{Appends};
-ghost use Rattle.spectra.specs.Printed.{value_text, spectrum_text, table_text};
+ghost use Rattle.spectra.specs.Printed.{value_text, spectrum_text, table_text, function_shown, spectrum_shown, table_shown, line_shown, lines_shown, values_shown};
 ghost use Rattle.spectra.specs.Reading.{line_end, width_of, digit_of, digits_of};
 
 use refusals::Written;
@@ -87,7 +87,9 @@ fn write_table<W: Write>(out: &mut W, table: &[u8]) -> io::Result<()>
 }
 
 // The function that has the values, or the refusal.
-fn show_function<W: Write>(out: &mut W, n: u32, values: &[i32]) -> io::Result<()> {
+fn show_function<W: Write>(out: &mut W, n: u32, values: &[i32]) -> io::Result<()>
+    ensures { OnOk result (Appends (W.contents out.old) (W.contents out.new) (function_shown n values.now)) }
+{
     let mut table = [0u8; 256];
     let size = lines::smaller(values.len(), 256);
     match walsh::inverse_spectrum(n, values, &mut table[..size]) {
@@ -97,13 +99,17 @@ fn show_function<W: Write>(out: &mut W, n: u32, values: &[i32]) -> io::Result<()
 }
 
 // A spectrum, and the function that has it.
-fn show_spectrum<W: Write>(out: &mut W, n: u32, values: &[i32]) -> io::Result<()> {
+fn show_spectrum<W: Write>(out: &mut W, n: u32, values: &[i32]) -> io::Result<()>
+    ensures { OnOk result (Appends (W.contents out.old) (W.contents out.new) (spectrum_shown n values.now)) }
+{
     write_spectrum(out, values)?;
     show_function(out, n, values)
 }
 
 // The spectrum of a truth table and the function that has it, or the refusal.
-fn show_table<W: Write>(out: &mut W, table: &[u8]) -> io::Result<()> {
+fn show_table<W: Write>(out: &mut W, table: &[u8]) -> io::Result<()>
+    ensures { OnOk result (Appends (W.contents out.old) (W.contents out.new) (table_shown (width_of (length table.now)) table.now)) }
+{
     let mut values = [0i32; 256];
     let size = lines::smaller(table.len(), 256);
     let n = width_of(table.len());
@@ -114,14 +120,18 @@ fn show_table<W: Write>(out: &mut W, table: &[u8]) -> io::Result<()> {
 }
 
 // Writes the answer for a line of digits. More than 512 of them are refused as 512 are.
-fn show_line<W: Write>(out: &mut W, text: &[u8]) -> io::Result<()> {
+fn show_line<W: Write>(out: &mut W, text: &[u8]) -> io::Result<()>
+    ensures { OnOk result (Appends (W.contents out.old) (W.contents out.new) (line_shown text.now)) }
+{
     let mut table = [0u8; 512];
     let length = lines::smaller(text.len(), 512);
     read_digits(text, &mut table[..length]);
     show_table(out, &table[..length])
 }
 
-fn show_lines<W: Write>(out: &mut W, text: &[u8]) -> io::Result<()> {
+fn show_lines<W: Write>(out: &mut W, text: &[u8]) -> io::Result<()>
+    ensures { OnOk result (Appends (W.contents out.old) (W.contents out.new) (lines_shown text.now)) }
+{
     let mut from = 0;
     while from < text.len() {
         let end = line_end(text, from);
@@ -133,7 +143,9 @@ fn show_lines<W: Write>(out: &mut W, text: &[u8]) -> io::Result<()> {
 
 // Document 01's cases 4, 5 and 6, in the values of document 02's Request 9; values that no sum could hold, a value above half of the
 // inputs, the doubled values of case 4, and a width and a length that are refused.
-fn show_values<W: Write>(out: &mut W) -> io::Result<()> {
+fn show_values<W: Write>(out: &mut W) -> io::Result<()>
+    ensures { OnOk result (Appends (W.contents out.old) (W.contents out.new) (values_shown)) }
+{
     show_function(out, 2, &[1i32, 1, 1, -1])?;
     show_function(out, 2, &[1i32, 1, 1, 1])?;
     show_function(out, 1, &[0i32, 0])?;
