@@ -70,8 +70,8 @@ box_shown n m rows =
     ++ (changes_shown n m rows ++ (degree_shown n m rows ++ first_shown n m rows))))
 
 -- the lines of the box in a file for which so many rows are lent, or the line of the refusal
-unfoldable pub file_shown : (file : List ℕ) (room : ℕ) → List ℕ
-file_shown file room =
+unfoldable pub box_file_shown : (file : List ℕ) (room : ℕ) → List ℕ
+box_file_shown file room =
     shown_reply (λ widths rows. box_shown (at widths 0) (at widths 1) rows) refused_text
     (reply_after (first (file_checks file room)) (at file 0 ∷ at file 1 ∷ [])) (file_rows file (at file 0))
 
@@ -83,4 +83,4 @@ file_end bytes = 2 + min (4 * room_of bytes) (length bytes - 2)
 unfoldable pub boxes_shown : (most : ℕ) (bytes : List ℕ) → List ℕ
 boxes_shown zero bytes = []
 boxes_shown (suc k) bytes =
-    cond (leb 2 (length bytes)) (file_shown (take (file_end bytes) bytes) (room_of bytes) ++ boxes_shown k (drop (file_end bytes) bytes)) []
+    cond (leb 2 (length bytes)) (box_file_shown (take (file_end bytes) bytes) (room_of bytes) ++ boxes_shown k (drop (file_end bytes) bytes)) []

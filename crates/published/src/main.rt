@@ -10,7 +10,7 @@ ghost use Rattle.refusals.specs.Table.{said_verdict};
 ghost use Rattle.lines.specs.Lines.{figures_line};
 ghost use Rattle.differential.specs.Calls.{largest_cell_reply};
 ghost use Rattle.avalanche.specs.Calls.{said_largest_change};
-ghost use Rattle.published.specs.Printed.{nonlinearity_shown, changes_shown, verdict_text, tests_shown, degree_shown, refused_shown, and_refused_shown, second_shown, and_second_shown, first_shown, box_shown, file_shown, boxes_shown};
+ghost use Rattle.published.specs.Printed.{nonlinearity_shown, changes_shown, verdict_text, tests_shown, degree_shown, refused_shown, and_refused_shown, second_shown, and_second_shown, first_shown, box_shown, box_file_shown, boxes_shown};
 
 use algebraic::DegreeFound;
 use avalanche::LargestChange;
@@ -161,7 +161,7 @@ fn show_box<W: Write>(out: &mut W, n: u32, m: u32, rows: &[u32]) -> io::Result<(
 // One box file, of a box of `size` rows.
 fn show_file<W: Write>(out: &mut W, file: &[u8], size: usize) -> io::Result<()>
     requires { size ≤ 256 }
-    ensures { OnOk result (Appends (W.contents out.old) (W.contents out.new) (file_shown file.now size)) }
+    ensures { OnOk result (Appends (W.contents out.old) (W.contents out.new) (box_file_shown file.now size)) }
 {
     let mut rows = [0u32; 256];
     match boxfile::read_box(file, &mut rows[..size]) {

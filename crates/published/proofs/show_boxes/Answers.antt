@@ -4,7 +4,7 @@ use Rattle.std.specs.Io.KnownBytes.{Appends}
 use Rattle.std.proofs.KnownBytes.{Appends-nil, Appends-trans}
 use Rattle.boolean.proofs.Lists.{upper_part}
 use Rattle.boxfile.specs.File.{room_of}
-use Rattle.published.specs.Printed.{file_shown, boxes_shown}
+use Rattle.published.specs.Printed.{box_file_shown, boxes_shown}
 use Rattle.published.proofs.Printed.{file_then, no_boxes}
 use Rattle.published.proofs.show_boxes.Goals as goal
 
@@ -17,7 +17,7 @@ loop-from-preserved g c =
     let from = c.loop-from.from in
     let done = c.loop-from.invariant.1 in
     let most = c.loop-from.invariant.3 in
-    let file = file_shown (take (from + 2 + c.smaller.result - from) (drop from bytes)) c.room_of-size.result in
+    let file = box_file_shown (take (from + 2 + c.smaller.result - from) (drop from bytes)) c.room_of-size.result in
     let rest = boxes_shown (most - 1) (drop (from + 2 + c.smaller.result) bytes) in
     let parted : boxes_shown most (drop from bytes) ≡ file ++ rest =
     file_then bytes from c.room_of-size.result c.smaller.result most
