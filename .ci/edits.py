@@ -165,7 +165,8 @@ def function_fault(crate, name, lines, found):
 
 def law_fault(name, found):
     """What is wrong with the refusal of a law, or None. A law may stand in specs/ too; a goal of a function is none."""
-    own = [message for file, law, message in found if law == name and re.search("/(proofs|specs)/", file) and not OF_FUNCTION.search(file)]
+    of_function = re.compile("/proofs/.+" + OF_FUNCTION.pattern)  # one that stands in proofs/ itself is a lemma's file
+    own = [message for file, law, message in found if law == name and re.search("/(proofs|specs)/", file) and not of_function.search(file)]
     return first_fault(own) if own else "no error is in its proof"
 
 

@@ -169,6 +169,9 @@ class Held(unittest.TestCase):
     def test_a_goal_of_a_function_is_no_law(self):
         self.one_fault("no error", ["./proofs/sweep/Proof.antt:3:1: error: `least`: expected `a`, but this is `b`"], LAW)
 
+    def test_a_law_in_a_file_named_as_that_of_a_function(self):
+        self.assertEqual(self.faults(["./proofs/Answers.antt:3:1: error: `least`: expected `a`, but this is `b`"], LAW), (1, []))
+
     # ---- edits
     def test_an_edit_that_names_nothing_fails(self):
         self.one_fault("names nothing", [SWEEP], "file: src/lib.rt\nold: w = 0\nnew: w = 1\n")

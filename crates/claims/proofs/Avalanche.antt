@@ -1,7 +1,7 @@
 -- Document 02 §13: the dynamic distance of order (i, n) is 0 exactly when (2^n − 2d)² = 2^n, with d the nonlinearity within the limit i;
 -- and
 -- neither at an odd n.
-use Prim.Native.Nat.{ℕ, ◌-◌, ◌*◌, ◌%◌, ◌^◌}
+use Prim.Native.Nat.{ℕ, ◌^◌}
 use mathlib.Core.Path.{◌≡◌, sym, ◌∙◌, subst}
 use mathlib.Core.Logic.Iff
 use mathlib.Core.Logic.{◌↔◌}
@@ -10,7 +10,6 @@ use native.Mathlib.Omega.{arith}
 use Rattle.boolean.specs.Functions.{Bent, component}
 use Rattle.boolean.specs.Selection.{shown}
 use Rattle.boolean.proofs.Components.{whole_within}
-use Rattle.boolean.proofs.Counts.{pow_square}
 use Rattle.boolean.proofs.Digits.{component_lt}
 use Rattle.refusals.specs.Table.{Box, first, figures}
 use Rattle.refusals.specs.declared.Checked.TheVariants.{Accepted}
@@ -25,10 +24,7 @@ use Rattle.avalanche.proofs.Theorems.{distance_reported}
 use Rattle.claims.specs.Statements.{ChangesEvenly, gap_squared, MaximumAvalanche, AllEven, AllBent}
 use Rattle.claims.proofs.Evenly.{evenly_bent}
 use Rattle.claims.proofs.Reported.{covering}
-
--- no power of two with an odd exponent is a square
-odd_gap : (n d : ℕ) → n % 2 ≡ 1 → ¬ (gap_squared n d ≡ 2 ^ n)
-odd_gap n d o e = let t = pow_square n (2 ^ n - 2 * d) e in omega (arith, t.1, o)
+use Rattle.claims.proofs.Odd.{odd_gap}
 
 -- "a box whose combinations all change evenly under every nonzero input change is the same thing as a box whose combinations are all bent"
 all_evenly_bent : {n m : ℕ} {rows : List ℕ} → Box n m rows → (i : ℕ) → AllEven n m rows i ↔ AllBent n m rows i

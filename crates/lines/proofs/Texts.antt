@@ -2,7 +2,7 @@
 use Rattle.std.proofs.Common.{◌≡◌, ℕ, List, ◌++◌, ap, ◌∙◌, subst, OnOk, Result, Option, Ok, Err}
 use Rattle.std.proofs.KnownBytes.{Appends-trans}
 use Rattle.std.specs.Io.KnownBytes.{Appends}
-use Rattle.refusals.specs.Table.{Check, first, Reply, figures, refusal, reply_after, after, Wrote}
+use Rattle.refusals.specs.Table.{Check, first, Reply, reply_after, after, Wrote}
 use Rattle.refusals.specs.declared.Checked.{Checked}
 use Rattle.refusals.specs.declared.Checked.TheVariants.{Accepted, Refused}
 use Rattle.lines.specs.Lines.{shown_reply}

@@ -4,7 +4,13 @@
 // and with fewer inputs nothing is written after the first addition, since the second one is refused.
 #![tactic(auto)]
 
-ghost use Rattle.std.specs.Prelude.{◌≤◌};
+ghost use Rattle.std.specs.Prelude.{◌≤◌, OnOk, [], codes, length};
+ghost use Rattle.std.specs.Io.KnownBytes.{Appends};
+ghost use Rattle.refusals.specs.Table.{said_verdict};
+ghost use Rattle.lines.specs.Lines.{figures_line};
+ghost use Rattle.differential.specs.Calls.{largest_cell_reply};
+ghost use Rattle.avalanche.specs.Calls.{said_largest_change};
+ghost use Rattle.published.specs.Printed.{nonlinearity_shown, changes_shown, verdict_text, tests_shown, degree_shown, refused_shown, and_refused_shown, second_shown, and_second_shown, first_shown, box_shown, box_file_shown, boxes_shown};
 
 use algebraic::DegreeFound;
 use avalanche::LargestChange;
@@ -14,43 +20,38 @@ use linear::LeastPair;
 use refusals::{Verdict, Written};
 use std::io::{self, Write};
 
-fn show_nonlinearity<W: Write>(out: &mut W, n: u32, m: u32, rows: &[u32]) -> io::Result<()> {
+fn show_nonlinearity<W: Write>(out: &mut W, n: u32, m: u32, rows: &[u32]) -> io::Result<()>
+    ensures { OnOk result (Appends (W.contents out.old) (W.contents out.new) (nonlinearity_shown n m rows.now)) }
+{
     match linear::nonlinearity(n, m, rows, m) {
         LeastPair::Reached { count, c, w, b } => {
-            write!(out, "nonlinearity")?;
-            lines::write_number(out, count)?;
-            lines::write_number(out, c)?;
-            lines::write_number(out, w)?;
-            lines::write_number(out, b)?;
-            lines::end_line(out)
+            lines::write_line(out, "nonlinearity", &[count, c, w, b])
         }
         LeastPair::Declined(e) => lines::write_refused(out, e),
     }
 }
 
-fn show_largest_cell<W: Write>(out: &mut W, n: u32, m: u32, rows: &[u32]) -> io::Result<()> {
-    let answer = differential::largest_cell(n, m, rows);
-    let LargestCell::Reached { count, a, beta } = answer else {
-        return Ok(());
-    };
-    write!(out, "xor")?;
-    lines::write_number(out, count)?;
-    lines::write_number(out, a)?;
-    lines::write_number(out, beta)?;
-    lines::end_line(out)
+fn show_largest_cell<W: Write>(out: &mut W, n: u32, m: u32, rows: &[u32]) -> io::Result<()>
+    ensures { OnOk result (Appends (W.contents out.old) (W.contents out.new) (figures_line (codes "xor") (largest_cell_reply n m rows.now))) }
+{
+    match differential::largest_cell(n, m, rows) {
+        LargestCell::Reached { count, a, beta } => lines::write_line(out, "xor", &[count, a, beta]),
+        LargestCell::Declined(_) => Ok(()),
+    }
 }
 
-fn show_change<W: Write>(out: &mut W, answer: LargestChange) -> io::Result<()> {
-    let LargestChange::Reached { figure, c, s } = answer else {
-        return Ok(());
-    };
-    lines::write_number(out, figure)?;
-    lines::write_number(out, c)?;
-    lines::write_number(out, s)?;
-    lines::end_line(out)
+fn show_change<W: Write>(out: &mut W, answer: LargestChange) -> io::Result<()>
+    ensures { OnOk result (Appends (W.contents out.old) (W.contents out.new) (figures_line [] (said_largest_change answer))) }
+{
+    match answer {
+        LargestChange::Reached { figure, c, s } => lines::write_line(out, "", &[figure, c, s]),
+        LargestChange::Declined(_) => Ok(()),
+    }
 }
 
-fn show_changes<W: Write>(out: &mut W, n: u32, m: u32, rows: &[u32]) -> io::Result<()> {
+fn show_changes<W: Write>(out: &mut W, n: u32, m: u32, rows: &[u32]) -> io::Result<()>
+    ensures { OnOk result (Appends (W.contents out.old) (W.contents out.new) (changes_shown n m rows.now)) }
+{
     write!(out, "autocorrelation")?;
     show_change(out, avalanche::autocorrelation(n, m, rows, m))?;
     write!(out, "sac")?;
@@ -59,32 +60,44 @@ fn show_changes<W: Write>(out: &mut W, n: u32, m: u32, rows: &[u32]) -> io::Resu
     show_change(out, avalanche::dynamic_distance(n, m, rows, 2, 1))
 }
 
-fn show_verdict<W: Write>(out: &mut W, answer: Verdict) -> io::Result<()> {
+fn show_verdict<W: Write>(out: &mut W, answer: Verdict) -> io::Result<()>
+    ensures { OnOk result (Appends (W.contents out.old) (W.contents out.new) (verdict_text (said_verdict answer))) }
+{
     match answer {
-        Verdict::Yes => lines::write_number(out, 1)?,
-        Verdict::No => lines::write_number(out, 0)?,
-        Verdict::Undecided(e) => lines::write_refused(out, e)?,
+        Verdict::Yes => lines::write_line(out, "", &[1]),
+        Verdict::No => lines::write_line(out, "", &[0]),
+        Verdict::Undecided(e) => {
+            lines::write_refused(out, e)?;
+            lines::end_line(out)
+        }
     }
-    lines::end_line(out)
 }
 
-fn show_degree<W: Write>(out: &mut W, n: u32, m: u32, rows: &[u32]) -> io::Result<()> {
-    let answer = algebraic::degree(n, m, rows, m);
-    let DegreeFound::Reached { degree, c } = answer else {
-        return Ok(());
-    };
-    write!(out, "degree")?;
-    lines::write_number(out, degree)?;
-    lines::write_number(out, c)?;
-    lines::end_line(out)?;
+fn show_tests<W: Write>(out: &mut W, n: u32, m: u32, rows: &[u32]) -> io::Result<()>
+    ensures { OnOk result (Appends (W.contents out.old) (W.contents out.new) (tests_shown n m rows.now)) }
+{
     write!(out, "complete")?;
     show_verdict(out, avalanche::is_complete(n, m, rows))?;
     write!(out, "bijective")?;
     show_verdict(out, algebraic::is_bijective(n, m, rows))
 }
 
+fn show_degree<W: Write>(out: &mut W, n: u32, m: u32, rows: &[u32]) -> io::Result<()>
+    ensures { OnOk result (Appends (W.contents out.old) (W.contents out.new) (degree_shown n m rows.now)) }
+{
+    match algebraic::degree(n, m, rows, m) {
+        DegreeFound::Reached { degree, c } => {
+            lines::write_line(out, "degree", &[degree, c])?;
+            show_tests(out, n, m, rows)
+        }
+        DegreeFound::Declined(_) => Ok(()),
+    }
+}
+
 // The nonlinearity of the rows that stand after an addition to column m + 1, which a box of m outputs has not.
-fn show_refused<W: Write>(out: &mut W, n: u32, m: u32, rows: &[u32]) -> io::Result<()> {
+fn show_refused<W: Write>(out: &mut W, n: u32, m: u32, rows: &[u32]) -> io::Result<()>
+    ensures { OnOk result (Appends (W.contents out.old) (W.contents out.new) (refused_shown n m rows.now)) }
+{
     let mut new = [0u32; 256];
     let size = lines::smaller(rows.len(), 256);
     match columns::add_to_column(n, m, rows, m % 65536 + 1, 0, 0, &mut new[..size]) {
@@ -96,13 +109,17 @@ fn show_refused<W: Write>(out: &mut W, n: u32, m: u32, rows: &[u32]) -> io::Resu
     }
 }
 
-fn show_and_refuse<W: Write>(out: &mut W, n: u32, m: u32, rows: &[u32]) -> io::Result<()> {
+fn show_and_refuse<W: Write>(out: &mut W, n: u32, m: u32, rows: &[u32]) -> io::Result<()>
+    ensures { OnOk result (Appends (W.contents out.old) (W.contents out.new) (and_refused_shown n m rows.now)) }
+{
     show_nonlinearity(out, n, m, rows)?;
     show_refused(out, n, m, rows)
 }
 
 // After inputs 1 and 3 are added to column m.
-fn show_second<W: Write>(out: &mut W, n: u32, m: u32, rows: &[u32]) -> io::Result<()> {
+fn show_second<W: Write>(out: &mut W, n: u32, m: u32, rows: &[u32]) -> io::Result<()>
+    ensures { OnOk result (Appends (W.contents out.old) (W.contents out.new) (second_shown n m rows.now)) }
+{
     let mut new = [0u32; 256];
     let size = lines::smaller(rows.len(), 256);
     match columns::add_to_column(n, m, rows, m, 5, 0, &mut new[..size]) {
@@ -111,13 +128,17 @@ fn show_second<W: Write>(out: &mut W, n: u32, m: u32, rows: &[u32]) -> io::Resul
     }
 }
 
-fn show_and_add<W: Write>(out: &mut W, n: u32, m: u32, rows: &[u32]) -> io::Result<()> {
+fn show_and_add<W: Write>(out: &mut W, n: u32, m: u32, rows: &[u32]) -> io::Result<()>
+    ensures { OnOk result (Appends (W.contents out.old) (W.contents out.new) (and_second_shown n m rows.now)) }
+{
     show_nonlinearity(out, n, m, rows)?;
     show_second(out, n, m, rows)
 }
 
 // After input 1 and the constant 1 are added to column 1.
-fn show_first<W: Write>(out: &mut W, n: u32, m: u32, rows: &[u32]) -> io::Result<()> {
+fn show_first<W: Write>(out: &mut W, n: u32, m: u32, rows: &[u32]) -> io::Result<()>
+    ensures { OnOk result (Appends (W.contents out.old) (W.contents out.new) (first_shown n m rows.now)) }
+{
     let mut new = [0u32; 256];
     let size = lines::smaller(rows.len(), 256);
     match columns::add_to_column(n, m, rows, 1, 1, 1, &mut new[..size]) {
@@ -126,11 +147,10 @@ fn show_first<W: Write>(out: &mut W, n: u32, m: u32, rows: &[u32]) -> io::Result
     }
 }
 
-fn show_box<W: Write>(out: &mut W, n: u32, m: u32, rows: &[u32]) -> io::Result<()> {
-    write!(out, "box")?;
-    lines::write_number(out, n)?;
-    lines::write_number(out, m)?;
-    lines::end_line(out)?;
+fn show_box<W: Write>(out: &mut W, n: u32, m: u32, rows: &[u32]) -> io::Result<()>
+    ensures { OnOk result (Appends (W.contents out.old) (W.contents out.new) (box_shown n m rows.now)) }
+{
+    lines::write_line(out, "box", &[n, m])?;
     show_nonlinearity(out, n, m, rows)?;
     show_largest_cell(out, n, m, rows)?;
     show_changes(out, n, m, rows)?;
@@ -141,6 +161,7 @@ fn show_box<W: Write>(out: &mut W, n: u32, m: u32, rows: &[u32]) -> io::Result<(
 // One box file, of a box of `size` rows.
 fn show_file<W: Write>(out: &mut W, file: &[u8], size: usize) -> io::Result<()>
     requires { size ≤ 256 }
+    ensures { OnOk result (Appends (W.contents out.old) (W.contents out.new) (box_file_shown file.now size)) }
 {
     let mut rows = [0u32; 256];
     match boxfile::read_box(file, &mut rows[..size]) {
@@ -149,7 +170,9 @@ fn show_file<W: Write>(out: &mut W, file: &[u8], size: usize) -> io::Result<()>
     }
 }
 
-fn show_boxes<W: Write>(out: &mut W, bytes: &[u8]) -> io::Result<()> {
+fn show_boxes<W: Write>(out: &mut W, bytes: &[u8]) -> io::Result<()>
+    ensures { OnOk result (Appends (W.contents out.old) (W.contents out.new) (boxes_shown (length bytes.now) bytes.now)) }
+{
     let mut from = 0;
     while from + 2 <= bytes.len() {
         let size = boxfile::room_of(&bytes[from..]);

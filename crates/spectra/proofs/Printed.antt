@@ -1,5 +1,5 @@
 -- What is shown of values, of a table and of a text is what is shown of the calls' answers and of what they left, line by line.
-use Rattle.std.proofs.Common.{◌≡◌, ◌≢◌, ℕ, suc, ◌+◌, ◌-◌, ◌<◌, min, Bool, true, false, List, [], ◌∷◌, ◌++◌, eqb, length, take, drop, ℤ, ◌^◌, refl, sym, ap, ◌∙◌, subst, arith, drop-cons, append-nil}
+use Rattle.std.proofs.Common.{◌≡◌, ℕ, suc, ◌+◌, ◌-◌, ◌<◌, min, Bool, true, false, List, [], ◌∷◌, ◌++◌, eqb, length, take, drop, ℤ, ◌^◌, refl, sym, ap, ◌∙◌, subst, arith, drop-cons, append-nil}
 use lib.Seq.{drop-drop}
 use Rattle.std.specs.List.{flat_map}
 use Rattle.boolean.specs.Functions.{at, value_at, spectrum, inverse}

@@ -21,9 +21,6 @@ decreases-loop-s values list largest k₀ s₀ k s = length list - k
 starts : (s : tie.Start invariant-loop-s decreases-loop-s) → Passing s.args.values.now s.args.list.now s.args.largest 0
 starts s = passing_none s.args.values.now s.args.list.now s.args.largest s.requires.1 s.requires.2
 
-shared_slice_read_s : tie.Need-bounds-list-0 invariant-loop-s decreases-loop-s
-shared_slice_read_s c = passing_inside (starts c.before.before)
-
 loop-holds : tie.Need-loop-s-init invariant-loop-s decreases-loop-s
 loop-holds c = (starts c.before.before, refl)
 
@@ -80,5 +77,5 @@ returns c =
 pub first_listed_spec : {M : Type 1} → statement M
 first_listed_spec =
     tie.close
-    (tie.spec invariant-loop-s decreases-loop-s shared_slice_read_s loop-holds cast_magnitude mul_magnitude shared_slice_copy_out_magnitude
+    (tie.spec invariant-loop-s decreases-loop-s (λ c. passing_inside (starts c.before.before)) loop-holds cast_magnitude mul_magnitude shared_slice_copy_out_magnitude
     (λ c κs. search rules) add_k mul_s shared_slice_read_s_2 loop_less loop-again returns)

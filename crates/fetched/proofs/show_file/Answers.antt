@@ -1,5 +1,5 @@
 -- The rows that are shown are those that the call left.
-use Rattle.std.proofs.Common.{◌≡◌, List, ℕ, [], ◌∷◌, length, ap, ◌∙◌, subst, OnOk, length-take-le}
+use Rattle.std.proofs.Common.{List, ℕ, [], ◌∷◌, ap, ◌∙◌, subst, OnOk, length-take-le}
 use Rattle.std.specs.Io.KnownBytes.{Appends}
 use Rattle.boolean.proofs.Lists.{part_is}
 use Rattle.boxfile.specs.declared.BoxFile.TheVariants.{Read, Declined}

@@ -1,5 +1,5 @@
 -- One more record follows those before.
-use Rattle.std.proofs.Common.{rules, sym, subst, ◌+◌}
+use Rattle.std.proofs.Common.{rules, sym, subst}
 use Rattle.std.proofs.KnownBytes.{Appends-nil, Appends-trans}
 use Rattle.std.specs.Io.KnownBytes.{Appends}
 use Rattle.boolean.specs.Sums.{each, list_below, list_from}

@@ -1,5 +1,5 @@
 -- The table that is shown is what the call left.
-use Rattle.std.proofs.Common.{length, ap, ◌∙◌, length-take-le}
+use Rattle.std.proofs.Common.{ap, ◌∙◌, length-take-le}
 use Rattle.boolean.proofs.Lists.{part_is}
 use Rattle.refusals.specs.declared.Written.TheVariants.{Done, Declined}
 use Rattle.lines.proofs.Texts.{same_text}

@@ -1,8 +1,7 @@
 -- The answer for one more line follows those before, and behind the text's end there is no line.
-use Rattle.std.proofs.Common.{◌≡◌, ℕ, List, length, drop, take, ◌++◌, ◌+◌, ◌-◌, ◌≤◌, sym, ap, ◌∙◌, subst, arith, append_assoc, append-nil, drop_of_length-le}
+use Rattle.std.proofs.Common.{◌≡◌, ℕ, List, length, drop, take, ◌++◌, ◌+◌, ◌-◌, ◌≤◌, sym, ap, ◌∙◌, subst, arith, append_assoc, drop_of_length-le}
 use Rattle.std.specs.Io.KnownBytes.{Appends}
 use Rattle.std.proofs.KnownBytes.{Appends-trans}
-use Rattle.spectra.specs.Reading.{line_end}
 use Rattle.spectra.specs.Printed.{line_shown, lines_shown}
 use Rattle.spectra.proofs.Printed.{line_then, no_lines}
 use Rattle.spectra.proofs.show_lines.Goals as goal
@@ -17,9 +16,12 @@ loop-from-preserved g c =
     let rest = lines_shown (drop (c.line_end-end.result + 1) text) in
     let parted : lines_shown (drop from text) ≡ line ++ rest =
     subst (λ (e : ℕ). lines_shown (drop from text) ≡ line_shown (take (e - from) (drop from text)) ++ lines_shown (drop (e + 1) text)) (sym end)
-    (line_then text from (omega arith)) in
-    (omega arith, done ++ line, Appends-trans _ _ _ _ _ c.loop-from.invariant.2 c.in_ok-show_line.ensures,
-    c.loop-from.invariant.3 ∙ ap (λ (l : List ℕ). done ++ l) parted ∙ sym (append_assoc done line rest))
+    (line_then text from (omega arith)) in (
+      omega arith,
+      done ++ line,
+      Appends-trans _ _ _ _ _ c.loop-from.invariant.2 c.in_ok-show_line.ensures,
+      c.loop-from.invariant.3 ∙ ap (λ (l : List ℕ). done ++ l) parted ∙ sym (append_assoc done line rest),
+    )
 
 pub returns : goal.returns
 returns g c =

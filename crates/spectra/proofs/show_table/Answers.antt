@@ -1,9 +1,8 @@
 -- The values that are shown are what the call left.
-use Rattle.std.proofs.Common.{ℕ, length, ap, ◌∙◌, length-take-le}
+use Rattle.std.proofs.Common.{ℕ, ap, ◌∙◌, length-take-le}
 use Rattle.boolean.proofs.Lists.{part_is}
 use Rattle.refusals.specs.declared.Written.TheVariants.{Done, Declined}
 use Rattle.lines.proofs.Texts.{same_text}
-use Rattle.spectra.specs.Reading.{width_of}
 use Rattle.spectra.specs.Printed.{spectrum_shown, table_shown}
 use Rattle.spectra.proofs.Printed.{table_is}
 use Rattle.spectra.proofs.show_table.Goals as goal

@@ -1,0 +1,22 @@
+use Rattle.std.proofs.Common.{ℕ, List, [], ◌++◌, refl, ap, subst}
+use Rattle.std.specs.Prelude.{codes}
+use Rattle.std.specs.Io.KnownBytes.{Appends}
+use Rattle.std.proofs.KnownBytes.{Appends-nil}
+use Rattle.refusals.specs.Table.{Reply}
+use Rattle.lines.specs.Lines.{numbers_line, shown_reply}
+use Rattle.lines.proofs.Texts.{then_text, same_text}
+use Rattle.published.specs.Printed.{tests_shown, degree_shown}
+use Rattle.published.proofs.show_degree.Goals as goal
+
+shows : (n m : ℕ) (rows : List ℕ) (said : Reply) → List ℕ
+shows n m rows said = shown_reply (λ xs _. numbers_line (codes "degree") xs ++ tests_shown n m rows) (λ _. []) said rows
+
+pub returns-in_ok-write_line-in-Reached : goal.returns-in_ok-write_line-in-Reached
+unfolding degree_shown shows
+returns-in_ok-write_line-in-Reached g c =
+    same_text _ _ _ _ _ (then_text _ _ _ _ _ _ _ c.in_ok-write_line-in-Reached.ensures refl c.show_tests.ensures)
+    (ap (shows c.args.n c.args.m c.args.rows.now) c.in-Reached.ensures)
+
+pub returns-in-Declined : goal.returns-in-Declined
+unfolding degree_shown shows
+returns-in-Declined g c = subst (Appends _ _) (ap (shows c.args.n c.args.m c.args.rows.now) c.in-Declined.ensures) (Appends-nil _)

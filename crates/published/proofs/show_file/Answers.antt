@@ -1,0 +1,21 @@
+-- The rows that are shown are those that the call left.
+use Rattle.std.proofs.Common.{ap, ◌∙◌, length-take-le}
+use Rattle.boolean.proofs.Lists.{part_is}
+use Rattle.boxfile.specs.declared.BoxFile.TheVariants.{Read, Declined}
+use Rattle.lines.proofs.Texts.{same_text}
+use Rattle.published.specs.Printed.{box_shown}
+use Rattle.published.proofs.Printed.{file_is}
+use Rattle.published.proofs.show_file.Goals as goal
+
+pub returns-in-Read : goal.returns-in-Read
+returns-in-Read g c =
+    let lent = length-take-le c.args.size _ c.requires in
+    let rows = part_is c.read_box.new.rows _ c.args.size (c.read_box.auto.rows ∙ lent) in
+    same_text _ _ _ _ _ c.show_box.ensures
+    (ap (box_shown c.in-Read.n c.in-Read.m) rows
+    ∙ file_is c.args.file.now c.args.size _ c.read_box.new.rows (Read c.in-Read.n c.in-Read.m) lent c.in-Read.ensures)
+
+pub returns-in-Declined : goal.returns-in-Declined
+returns-in-Declined g c =
+    same_text _ _ _ _ _ c.write_refused.ensures
+    (file_is c.args.file.now c.args.size _ c.read_box.new.rows (Declined c.in-Declined.e) (length-take-le c.args.size _ c.requires) c.in-Declined.ensures)
