@@ -41,6 +41,16 @@ esac
 """
 
 
+VERDICT = r"""#!/bin/bash
+[ -d "$TREE/target" ] && there=target || there=no
+echo "${0##*/} $* [$AFTER_CI] $there" >> "$TREE/called"
+if [ "${0##*/}" = rt ]; then
+    echo 'rt: ok; handles allowed: none; must-fail edits: 125 refused; every proof and must-fail edit was done in this run'
+    echo '161 passed, 0 failed'
+    exit "$(cat "$TREE/status")"
+fi
+[ "$SATMEGWO_STATICLIB" != /nowhere ] || { echo 'Run `make` in the root'; exit 1; }
+"""
 ALL = [*(f"lib {name}_c" for name in LIBRARIES), "run boxsheet"]
 
 
@@ -272,6 +282,39 @@ class Make(unittest.TestCase):
         self.assertEqual(self.proofs(well.format(", 2 of them only by a limit, 10 bad")), 1)
         self.assertEqual(self.proofs(well.format(""), 1), 1)
         self.assertEqual(self.proofs("161 passed, 0 failed\n"), 1)
+
+    def verdict(self, status=0):
+        """Runs the whole gate, with a script in place of every command, and gives what it printed and the calls: each with AFTER_CI, and whether target/ is there."""
+        for name in ("rt", "make", "cargo", "python3"):
+            self.program(f"stubs/{name}", VERDICT)
+        for folder in ("tests/wrong", "bench", "rust", "python", "examples"):
+            (self.tree / folder).mkdir(parents=True, exist_ok=True)
+        self.program("tests/wrong/run", "#!/bin/sh\n")
+        self.write("status", f"{status}\n")
+        path = f"{self.tree}/stubs:{self.tree}/bin:{os.environ['PATH']}"
+        env = {**os.environ, "PATH": path, "TREE": str(self.tree), "AFTER_CI": "of the caller"}
+        ran = subprocess.run(".ci/run", cwd=self.tree, env=env, stdout=subprocess.PIPE, stderr=subprocess.DEVNULL, text=True)
+        return ran, self.called()
+
+    def test_the_verdict(self):
+        self.write("target/old", "")
+        for built_before in (False, True):
+            if built_before:
+                self.write("crates/low/out/rlib/low.rlib/format", "")
+                self.write("target/old", "")
+            ran, calls = self.verdict()
+            self.assertEqual(ran.returncode, 0, ran.stdout)
+            self.assertEqual(ran.stdout.splitlines()[-1], "161 passed, 0 failed")
+            self.assertEqual([call for call in calls if call.startswith("rt ")], ["rt ci [] target"])
+            self.assertFalse((self.tree / "target/old").exists())
+            after = "" if built_before else "yes"
+            self.assertIn(f"make shared target/bin/boxsheet [{after}] no", calls)
+            self.assertIn(f"python3 .ci/tries.py . target/must-fail [{after}] no", calls)
+
+    def test_the_verdict_where_the_proofs_fail(self):
+        ran, calls = self.verdict(1)
+        self.assertEqual((ran.returncode, ran.stdout.splitlines()[-1]), (1, "==== proofs failed"))
+        self.assertEqual([call for call in calls if "/tries.py" in call or call.startswith("make")], [])
 
     def test_the_gate_says_which_part_runs(self):
         clock = "[0-2][0-9]:[0-5][0-9]:[0-5][0-9]"
