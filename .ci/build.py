@@ -37,7 +37,7 @@ def build_after_ci(crate):
     if crate.is_static:
         made_of(crate).parent.mkdir(exist_ok=True)
         toolchain = ["--toolchain", kit.folder() / "toolchain", "--backend", "llvm"]
-        called = kit.words(crate, "build", "--jobs", "2", *toolchain, "-o", made_of(crate).absolute())
+        called = kit.words(crate, "build", "--jobs", "2", *toolchain, "-o", made_of(crate))
         return subprocess.run(called, cwd=crate.folder, stdin=subprocess.DEVNULL).returncode == 0
     return made_of(crate).is_file() and not made_of(crate).with_suffix(".stamp").exists()
 

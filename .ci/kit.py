@@ -9,7 +9,7 @@ PARTS = ("src", "specs", "proofs")  # what a check of a crate reads
 
 class Crate:
     def __init__(self, root, name, kind, libraries):
-        self.name, self.is_static, self.folder = name, "staticlib" in kind, pathlib.Path(root) / "crates" / name
+        self.name, self.is_static, self.folder = name, "staticlib" in kind, root / "crates" / name
         self.libraries = libraries  # those that its line names; of the repository or of the kit
         self.below = []  # all of the repository that it is made of, the lowest first
 
@@ -24,7 +24,8 @@ class Crate:
 
 def crates(root):
     """The crates of crates.txt by their names, each after those that it is made of."""
-    lines = re.findall(r"^(\w+)([^:\n]*):([^#\n]*)", (pathlib.Path(root) / "crates.txt").read_text(encoding="utf-8"), re.M)
+    root = pathlib.Path(root).resolve()  # the kit is called in a crate's folder, and in that of a copy
+    lines = re.findall(r"^(\w+)([^:\n]*):([^#\n]*)", (root / "crates.txt").read_text(encoding="utf-8"), re.M)
     listed = {name: Crate(root, name, kind.split(), libraries.split()) for name, kind, libraries in lines}
     found = {}
 

@@ -22,6 +22,7 @@ RT = r"""#!/usr/bin/env bash
 set -e
 crate=${PWD##*/}
 made=crates/$crate/out
+for word in "$@"; do case $word in *=*.rlib) [[ $word = */rlibs/* || -d ${word#*=} ]] ;; esac; done
 cd ../..
 case $0 in */rattle) echo "rattle $1 $crate" ;; *) echo "$1 $crate" ;; esac >> called
 [ ! -e refused ] || exit 1

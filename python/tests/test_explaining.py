@@ -194,11 +194,7 @@ class Theorems(unittest.TestCase):
 
     def test_no_other_name_is_typed_in(self):
         for module in (explaining,):
-<<<<<<< HEAD
-            self.assertNotRegex(inspect.getsource(module), r"[a-z]+_(reported|falls|rises)")
-=======
             self.assertNotRegex(inspect.getsource(module), r"[a-z]+[-_](reported|falls|rises)")
->>>>>>> 11e7084ba62eeca7d18679cf2d26ae7b4b772493
 
     def test_definitions(self):
         self.assertEqual(definitions.combination([3, 1, 4, 0], 3), [0, 1, 0, 0])
