@@ -95,38 +95,43 @@ def check(crate, changes, kept):
     return ran.returncode, ran.stdout.decode(errors="replace")
 
 
-class Tried:
-    """A crate, with the edits whose logs are missing."""
+def seed(crate, to):
+    """Checks a crate as it stands, over what earlier checks left in its out/."""
+    left = crate.folder / "out" / "incremental"
+    linked(left, to) if left.is_dir() else to.mkdir()
+    status, said = check(crate, {}, to)
+    if status != PROVED:
+        raise Failed(f"{crate.name} is not proved as it stands:\n{said[-2000:]}")
 
-    def __init__(self, crate, edits):
-        self.crate, self.edits = crate, edits
-        self.room = None
 
-    def seed(self):
-        """Checks the crate as it stands, over what earlier checks left in its out/."""
-        self.room = pathlib.Path(tempfile.mkdtemp(prefix="satmegwo-seed-"))
-        left = self.crate.folder / "out" / "incremental"
-        linked(left, self.room / "seed") if left.is_dir() else (self.room / "seed").mkdir()
-        status, said = check(self.crate, {}, self.room / "seed")
-        if status != PROVED:
-            raise Failed(f"{self.crate.name} is not proved as it stands:\n{said[-2000:]}")
+def log(crate, edit, begun, own):
+    """What the prover says of a crate with an edit, over what the check of the crate as it stands has kept."""
+    changes = changed(edit.read_text(encoding="utf-8"), lambda file: (crate.folder / file).read_text(encoding="utf-8"))
+    linked(begun, own)
+    try:
+        status, said = check(crate, changes, own)
+    finally:
+        shutil.rmtree(own, ignore_errors=True)
+    if status not in (PROVED, NOT_PROVED, AT_A_LIMIT):
+        raise Failed(f"the check ended with status {status}:\n{said[-2000:]}")
+    return said
 
-    def log(self, edit):
-        """What the prover says of the crate with an edit."""
-        texts = lambda file: (self.crate.folder / file).read_text(encoding="utf-8")
-        changes = changed(edit.read_text(encoding="utf-8"), texts)
-        own = self.room / edit.stem
-        linked(self.room / "seed", own)
+
+def try_all(crate, edits, keep_log):
+    """Tries edits of a crate, one after the other, and gives a line for each that has no log."""
+    faults = []
+    with tempfile.TemporaryDirectory(prefix="satmegwo-seed-") as room:
+        begun = pathlib.Path(room, "seed")
         try:
-            status, said = check(self.crate, changes, own)
-        finally:
-            shutil.rmtree(own, ignore_errors=True)
-        if status not in (PROVED, NOT_PROVED, AT_A_LIMIT):
-            raise Failed(f"the check ended with status {status}:\n{said[-2000:]}")
-        return said
-
-    def clear(self):
-        shutil.rmtree(self.room or "", ignore_errors=True)
+            seed(crate, begun)
+        except (Failed, OSError) as fault:
+            return [f"{crate.name}: {fault}"]
+        for edit in edits:
+            try:
+                keep_log(edit, log(crate, edit, begun, pathlib.Path(room, edit.stem)))
+            except (Failed, OSError) as fault:
+                faults.append(f"{crate.name}/{edit.stem}: {fault}")
+    return faults
 
 
 def build_libraries(crates):
@@ -171,36 +176,18 @@ def forget(folder):
 
 
 def make(lacking, place, kept_at):
-    """Makes the logs that are missing, and gives a line for each that could not be made."""
-    tried = [Tried(crate, edits) for crate, edits in lacking.items()]
+    """Makes the logs that are missing, several crates at a time, and gives a line for each that could not be made."""
+
+    def keep_log(edit, said):
+        with contextlib.suppress(OSError):
+            keep(kept_at[edit], said)
+        keep(place[edit], said)
+
     # the longest first
-    tried.sort(key=lambda it: -sum(file.stat().st_size for file in files_of(it.crate)) * len(it.edits))
-    faults = []
-    build_libraries(it.crate for it in tried)
+    order = sorted(lacking, key=lambda crate: -sum(file.stat().st_size for file in files_of(crate)) * (1 + len(lacking[crate])))
+    build_libraries(order)
     with concurrent.futures.ThreadPoolExecutor(at_once()) as pool:
-        seeds = {pool.submit(it.seed): it for it in tried}
-        logs = {}
-        for done in concurrent.futures.as_completed(seeds):
-            it = seeds[done]
-            try:
-                done.result()
-            except (Failed, OSError) as fault:
-                faults.append(f"{it.crate.name}: {fault}")
-                continue
-            logs.update({pool.submit(it.log, edit): (it.crate.name, edit) for edit in it.edits})
-        for done in concurrent.futures.as_completed(logs):
-            name, edit = logs[done]
-            try:
-                said = done.result()
-            except (Failed, OSError) as fault:
-                faults.append(f"{name}/{edit.stem}: {fault}")
-                continue
-            with contextlib.suppress(OSError):
-                keep(kept_at[edit], said)
-            keep(place[edit], said)
-    for it in tried:
-        it.clear()
-    return faults
+        return [fault for faults in pool.map(lambda crate: try_all(crate, lacking[crate], keep_log), order) for fault in faults]
 
 
 def main():
