@@ -127,6 +127,14 @@ class Tries(unittest.TestCase):
         self.write("crates/low/src/lib.rt", "low as it is unproved\n")
         self.assertIn("low is not proved", self.tries("high", status=1)[0])
 
+    def test_what_a_stopped_run_left_is_removed(self):
+        rooms = [self.top / f"tmp/satmegwo-tries-{number}-seed" for number in (os.getpid(), 2**22 + 1)]  # there is no such process
+        for room in rooms:
+            room.mkdir(parents=True)
+        self.tries("low", TMPDIR=str(self.top / "tmp"))
+        self.assertEqual([room.exists() for room in rooms], [True, False])
+        self.assertEqual(list((self.top / "tmp").iterdir()), rooms[:1])
+
     def test_no_edit_at_all_fails(self):
         self.tries("high_c", status=1)
 

@@ -24,6 +24,7 @@ import time
 import kit
 
 PROVED, NOT_PROVED, AT_A_LIMIT = 0, 1, 3  # the prover's status; any other says nothing of the crate
+ROOM = "satmegwo-tries"  # how the names of its folders among the temporary files begin
 A_CHECK = 3 << 30  # the memory that a check may take, in bytes
 UNUSED = 30 * 24 * 3600  # seconds after which what was kept, and not read since, is removed
 
@@ -84,7 +85,7 @@ def linked(folder, to):
 
 def check(crate, changes, kept):
     """Checks a copy of a crate with these texts in place of its own, over what `kept` holds, and gives the status and what was said."""
-    with tempfile.TemporaryDirectory(prefix="satmegwo-edit-") as room:
+    with tempfile.TemporaryDirectory(prefix=f"{ROOM}-{os.getpid()}-") as room:
         for part in kit.PARTS:
             if (crate.folder / part).is_dir():
                 shutil.copytree(crate.folder / part, f"{room}/{part}")
@@ -120,7 +121,7 @@ def log(crate, edit, begun, own):
 def try_all(crate, edits, keep_log):
     """Tries edits of a crate, one after the other, and gives a line for each that has no log."""
     faults = []
-    with tempfile.TemporaryDirectory(prefix="satmegwo-seed-") as room:
+    with tempfile.TemporaryDirectory(prefix=f"{ROOM}-{os.getpid()}-") as room:
         begun = pathlib.Path(room, "seed")
         try:
             seed(crate, begun)
@@ -167,6 +168,13 @@ def keep(file, text):
     os.replace(new.name, file)
 
 
+def sweep():
+    """Removes the folders that runs which were stopped have left among the temporary files."""
+    for folder in pathlib.Path(tempfile.gettempdir()).glob(f"{ROOM}-*-*"):
+        if not pathlib.Path("/proc", folder.name[len(ROOM) + 1:].partition("-")[0]).exists():
+            shutil.rmtree(folder, ignore_errors=True)
+
+
 def forget(folder):
     """Removes what was kept and not read for long."""
     for file in folder.glob("*"):
@@ -194,6 +202,7 @@ def main():
     if len(sys.argv) < 3:
         sys.exit("usage: tries.py ROOT LOGS [CRATE..]")
     root, logs, began = pathlib.Path(sys.argv[1]).resolve(), pathlib.Path(sys.argv[2]), time.monotonic()
+    sweep()
     version, sums, lacking, place, kept_at = kit.version(), {}, {}, {}, {}
     names = sys.argv[3:] or list(kit.crates(root))
     for crate in (crate for crate in kit.crates(root).values() if crate.name in names):
