@@ -33,7 +33,7 @@ returns-2 : tie.Need-returns-then-here-eq1
 unfolding put_checks
 returns-2 c =
     let a = c.args in
-    found (skip (numbered c.before.before.before) (stop (ap not (sym (taken_at a.self a.place) ∙ eq-eqb _ 1 c.if-here-eq1.true))))
+    found (skip (holds c.in_range.ensures c.if-not-in_range.false-raw) (stop (ap not (sym (taken_at a.self a.place) ∙ eq-eqb _ 1 c.if-here-eq1.true))))
 
 returns-3 : tie.Need-returns
 unfolding put_checks
