@@ -1,13 +1,14 @@
 """Tells an edit that changes the program from one that does not: a parameter that no body reads, there for the contract alone, may be
 handed any argument at all.
 
-A parameter is read where its name stands in the body otherwise than as a whole argument, or as the argument of a parameter that is read. What is
-not found here, as the functions of the kit and the cases of an enum, reads all that it is given.
+A parameter is read where its name stands in the body otherwise than as a whole argument, as in a text that is printed, or as the argument of a
+parameter that is read. What is not found here, as the functions of the kit and the cases of an enum, reads all that it is given.
 """
 import re
 
 import sources
 
+SHOWN = re.compile(r"{(\w+)")  # what a text that is printed names
 REFERENCE = ("&", "mut")
 
 
@@ -94,6 +95,8 @@ class Program:
             is_field = body[at - 1:at] == ["."] or body[at + 1:at + 2] == [":"]
             if word in function.takes and at not in handed and not is_field:
                 yield function.takes.index(word)
+            if word.startswith('"'):
+                yield from (function.takes.index(name) for name in SHOWN.findall(word) if name in function.takes)
 
     def handed(self, key):
         function = self.known[key][1]

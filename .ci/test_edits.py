@@ -244,6 +244,10 @@ class Read(unittest.TestCase):
             self.unread(sources), {"masks::step m", "linear::sweep m", "linear::sweep n", "linear::listing::one n", "linear::listing::two m"}
         )
 
+    def test_what_a_printed_text_names_is_read(self):
+        printed = 'fn show<W: Write>(out: &mut W, v: u32, w: u32) -> R { write!(out, " {v}") }\nfn all(m: u32, n: u32) -> R { show(out, m, n) }\n'
+        self.assertEqual(self.unread({"linear/src/lib.rt": printed}), {"linear::show w", "linear::all n"})
+
     def test_what_is_not_known_reads_all(self):
         self.assertEqual(self.unread({"linear/src/lib.rt": "fn sweep(m: u32, s: S) -> A { u32::count_ones(m); s.put(m); A::Found(s) }\n"}), set())
 
