@@ -2,7 +2,8 @@
 use Rattle.std.specs.Prelude.{ℕ, ◌+◌, ◌*◌, ◌/◌, ◌%◌, ◌^◌, cond, List, [], ◌∷◌, ◌++◌, leb, eqb, length}
 use Rattle.boolean.specs.Sums.{list_below, each}
 use Rattle.boolean.specs.Functions.{at}
-use Rattle.refusals.specs.Table.{Check, ◌unless◌, first, in_range, all_below, box_checks, Reply, figures, refusal, number, Wrote, said_written}
+use Rattle.refusals.specs.Table.{Check, ◌unless◌, first, in_range, all_below, box_checks}
+use Rattle.refusals.specs.Table.{Reply, figures, refusal, number, Wrote, said_written}
 use Rattle.refusals.specs.declared.Checked.{Checked}
 use Rattle.refusals.specs.declared.Written.{Written}
 use Rattle.refusals.specs.declared.Refusal.TheVariants.{FileLength, InputWidth, OutputWidth, Value, WrittenLength}

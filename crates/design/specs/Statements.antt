@@ -6,7 +6,8 @@ use Rattle.boolean.specs.Functions.{at}
 use Rattle.boolean.specs.Statements.{MadeBy}
 use Rattle.refusals.specs.Table.{Check, Reply}
 use Rattle.design.specs.declared.Design.{Design}
-use Rattle.design.specs.Model.{DesignState, swap_checks, design_add_checks, mark_checks, return_checks, swap_inputs, add, set_mark, return_to}
+use Rattle.design.specs.Model.{DesignState, swap_checks, design_add_checks, mark_checks, return_checks}
+use Rattle.design.specs.Model.{swap_inputs, add, set_mark, return_to}
 use Rattle.design.specs.Calls.{DesignBegun, DesignSwapped, DesignAdded, DesignMarked, DesignReturned}
 
 pub data Operation : Type 0 where

@@ -51,7 +51,8 @@ word_byte words size p = at words (p / size % 8 * size + p % size) / 256 ^ (p / 
 
 -- the word of four bytes, each eight columns after the one before
 unfoldable pub four_bytes_at : (bytes : List ℕ) (size q : ℕ) → ℕ
-four_bytes_at bytes size q = at bytes q + 256 * at bytes (q + 8 * size) + 65536 * at bytes (q + 16 * size) + 16777216 * at bytes (q + 24 * size)
+four_bytes_at bytes size q =
+    at bytes q + 256 * at bytes (q + 8 * size) + 65536 * at bytes (q + 16 * size) + 16777216 * at bytes (q + 24 * size)
 
 -- the words of packed bytes
 abbrev pub BytesWords : (bytes : List ℕ) (size : ℕ) (words : List ℕ) → Type 0

@@ -83,4 +83,5 @@ file_end bytes = 2 + min (4 * room_of bytes) (length bytes - 2)
 unfoldable pub boxes_shown : (most : ℕ) (bytes : List ℕ) → List ℕ
 boxes_shown zero bytes = []
 boxes_shown (suc k) bytes =
-    cond (leb 2 (length bytes)) (box_file_shown (take (file_end bytes) bytes) (room_of bytes) ++ boxes_shown k (drop (file_end bytes) bytes)) []
+    cond (leb 2 (length bytes))
+    (box_file_shown (take (file_end bytes) bytes) (room_of bytes) ++ boxes_shown k (drop (file_end bytes) bytes)) []

@@ -10,7 +10,9 @@ ghost use Rattle.refusals.specs.Table.{said_verdict};
 ghost use Rattle.lines.specs.Lines.{figures_line};
 ghost use Rattle.differential.specs.Calls.{largest_cell_reply};
 ghost use Rattle.avalanche.specs.Calls.{said_largest_change};
-ghost use Rattle.published.specs.Printed.{nonlinearity_shown, changes_shown, verdict_text, tests_shown, degree_shown, refused_shown, and_refused_shown, second_shown, and_second_shown, first_shown, box_shown, box_file_shown, boxes_shown};
+ghost use Rattle.published.specs.Printed.{nonlinearity_shown, changes_shown, verdict_text, tests_shown, degree_shown, refused_shown};
+ghost use Rattle.published.specs.Printed.{and_refused_shown, second_shown, and_second_shown, first_shown};
+ghost use Rattle.published.specs.Printed.{box_shown, box_file_shown, boxes_shown};
 
 use algebraic::DegreeFound;
 use avalanche::LargestChange;
@@ -32,7 +34,8 @@ fn show_nonlinearity<W: Write>(out: &mut W, n: u32, m: u32, rows: &[u32]) -> io:
 }
 
 fn show_largest_cell<W: Write>(out: &mut W, n: u32, m: u32, rows: &[u32]) -> io::Result<()>
-    ensures { OnOk result (Appends (W.contents out.old) (W.contents out.new) (figures_line (codes "xor") (largest_cell_reply n m rows.now))) }
+    ensures { OnOk result
+        (Appends (W.contents out.old) (W.contents out.new) (figures_line (codes "xor") (largest_cell_reply n m rows.now))) }
 {
     match differential::largest_cell(n, m, rows) {
         LargestCell::Reached { count, a, beta } => lines::write_line(out, "xor", &[count, a, beta]),

@@ -35,7 +35,10 @@ sign_at (s ∷ ss) c (w ∷ ws) = bit_xor (sign_bit (walsh s.inputs (component s
 -- what the spectra give for component c: 2^(N − 1) less half the product, with the masks and b
 abbrev pub by_spectra : (ss : List Summand) (c : ℕ) → Candidate
 by_spectra ss c =
-    record { figure = 2 ^ (inputs_of ss - 1) - product ss c / 2; witness = c ∷ (peak_places ss c ++ (sign_at ss c (peak_places ss c) ∷ [])) }
+    record {
+      figure = 2 ^ (inputs_of ss - 1) - product ss c / 2;
+      witness = c ∷ (peak_places ss c ++ (sign_at ss c (peak_places ss c) ∷ []));
+    }
 
 -- a larger product
 abbrev pub larger : (ss : List Summand) (c b : ℕ) → Bool

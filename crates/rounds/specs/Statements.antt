@@ -73,8 +73,8 @@ pub record SumBetweenReported (count : ℕ) (handed : List Summand) (i low high 
   pub ws : List ℕ
   pub b : ℕ
   pub reply : sum_between_reply count handed i low high ≡ figures (d ∷ c ∷ (ws ++ (b ∷ [])))
-  pub least : (c' v b' : ℕ) → MaskBetween (outputs_of (first_given count handed)) i low high c' → v < 2 ^ inputs_of (first_given count handed)
-      → b' < 2 → d ≤ sum_distance (first_given count handed) c' v b'
+  pub least : (c' v b' : ℕ) → MaskBetween (outputs_of (first_given count handed)) i low high c'
+      → v < 2 ^ inputs_of (first_given count handed) → b' < 2 → d ≤ sum_distance (first_given count handed) c' v b'
   pub mask : MaskBetween (outputs_of (first_given count handed)) i low high c
   pub fits : MasksFit (first_given count handed) ws
   pub b_high : b < 2

@@ -26,7 +26,8 @@ ghost use Rattle.swaps.specs.Swaps.{raising_reply};
 ghost use Rattle.border.specs.Border.{WroteOut, FiguresOut, status};
 ghost use Rattle.satmegwo.specs.Exports.{cells_checks, read_box_checks, add_record_checks, sheet_checks, version, nearest_checks};
 ghost use Rattle.sheet.specs.Sheet.{sheet_text};
-ghost use Rattle.catalogue.specs.Calls.{check_reply, fetch_reply, catalogue_checks, index_checks, gap_for, gap_index, removed, added, compacted};
+ghost use Rattle.catalogue.specs.Calls.{check_reply, fetch_reply, catalogue_checks, index_checks};
+ghost use Rattle.catalogue.specs.Calls.{gap_for, gap_index, removed, added, compacted};
 ghost use Rattle.packing.specs.Packing.{packed as packedForm, unpacked, pack_checks, unpack_checks};
 
 #[unsafe(no_mangle)]

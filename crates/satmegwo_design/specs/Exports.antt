@@ -19,7 +19,8 @@ unfolding design_read_checks
 read_design_checks s room listed = design_read_checks s room ++ ((WrittenLength unless eqb listed 2) ∷ [])
 
 -- Reading, of every design, by what its checks found: what is returned, and what the array for n and m and that for the rows hold then.
-pub record BoxOut (d : Design) (found : Checked) (old_rows old_figures : List ℕ) (returned : ℕ) (new_rows new_figures : List ℕ) : Type 0 where
+pub record BoxOut (d : Design) (found : Checked) (old_rows old_figures : List ℕ) (returned : ℕ)
+    (new_rows new_figures : List ℕ) : Type 0 where
   pub number : returned ≡ status (reply_after found (d.n ∷ d.m ∷ []))
   pub widths : new_figures ≡ after found (d.n ∷ d.m ∷ []) old_figures
   pub box : new_rows ≡ after found (design_rows d) old_rows

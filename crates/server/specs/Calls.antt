@@ -101,7 +101,8 @@ with_place s place x = replaced s (place - 1) (place_of x)
 -- Putting a box on a place, of every server: what is said, and the server that is left. A refusal leaves it as it was.
 pub record ServerPut (self : Server) (place n m : ℕ) (rows : List ℕ) (said : Reply) (r : Server) : Type 0 where
   pub reply : said ≡ reply_after (first (put_checks (state_of_server self) place n m rows)) []
-  pub server : r ≡ after (first (put_checks (state_of_server self) place n m rows)) (with_place self place (holds (analysis_of n m rows 0))) self
+  pub server : r
+      ≡ after (first (put_checks (state_of_server self) place n m rows)) (with_place self place (holds (analysis_of n m rows 0))) self
 
 -- taking the box off a place, of every server
 pub record ServerWithdrew (self : Server) (place : ℕ) (said : Reply) (r : Server) : Type 0 where

@@ -34,8 +34,8 @@ spectrum_shown n values = spectrum_text values ++ function_shown n values
 -- the lines of a truth table's spectrum and of the function that has it, or of the refusal: 256 values are lent at most
 unfoldable pub table_shown : (n : ℕ) (table : List ℕ) → List ℕ
 table_shown n table =
-    shown_reply (λ _ values. spectrum_shown n values) refused_text (reply_after (first (table_call_checks n table (min (length table) 256))) [])
-    (spectrum n (at table))
+    shown_reply (λ _ values. spectrum_shown n values) refused_text
+    (reply_after (first (table_call_checks n table (min (length table) 256))) []) (spectrum n (at table))
 
 -- the answer for a line of digits: more than 512 of them are refused as 512 are
 unfoldable pub line_shown : (text : List ℕ) → List ℕ

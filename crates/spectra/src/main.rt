@@ -4,7 +4,8 @@
 
 ghost use Rattle.std.specs.Prelude.{◌≡◌, ◌≤◌, length, OnOk};
 ghost use Rattle.std.specs.Io.KnownBytes.{Appends};
-ghost use Rattle.spectra.specs.Printed.{value_text, spectrum_text, table_text, function_shown, spectrum_shown, table_shown, line_shown, lines_shown, values_shown};
+ghost use Rattle.spectra.specs.Printed.{value_text, spectrum_text, table_text, function_shown, spectrum_shown};
+ghost use Rattle.spectra.specs.Printed.{table_shown, line_shown, lines_shown, values_shown};
 ghost use Rattle.spectra.specs.Reading.{line_end, width_of, digit_of, digits_of};
 
 use refusals::Written;
