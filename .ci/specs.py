@@ -4,7 +4,8 @@
 What one must believe stands in `specs/`, in every file but `Work`, which has what functions ask of one another. So no other file of specs
 imports from a `Work`, and no contract of a call or an export in docs/CALLS.md, or of what the sums of boxes call, names what its source imports from one. A definition of two
 arguments or more names them in its signature. No two definitions of all specs share a name, in whatever case its letters are. No line of
-src/ or specs/ has more than 150 characters, but for imports, which the kit writes on one line.
+src/ or specs/ has more than 140 characters, but for two that are named here: an import, and a line that renaming made longer, in files that most
+crates stand on. They are to go with the next change of their files, and none may join them.
 
 usage: specs.py CALLS CRATES      (docs/CALLS.md and crates/)
 """
@@ -14,7 +15,9 @@ import sys
 
 import calls
 
-LONGEST = 150
+LONGEST = 140
+# The most characters of a line in these files.
+LEFT = {"boolean/specs/Functions.antt": 204, "walsh/specs/Calls.antt": 142}
 IMPORT = re.compile(r"^(?:ghost )?use (\S+)\.\{([^}]*)\};?$", re.M)
 FROM_WORK = re.compile(r"specs\.Work$")
 SIGNATURE = re.compile(r"^(?:(?:unfoldable|abbrev) )?pub (?:(?:unfoldable|abbrev) )?([^\s:]+) : (.*)$")
@@ -22,8 +25,9 @@ DEFINED = re.compile(r"^(?:(?:unfoldable|abbrev) )?pub (?:(?:unfoldable|abbrev|r
 OPENS, CLOSES = "({[", ")}]"
 
 
-def long_lines(text):
-    return [number for number, line in enumerate(text.split("\n"), 1) if len(line) > LONGEST and not IMPORT.match(line)]
+def long_lines(text, file=""):
+    most = LEFT.get("/".join(pathlib.Path(file).parts[-3:]), LONGEST)
+    return [number for number, line in enumerate(text.split("\n"), 1) if len(line) > most]
 
 
 def from_work(text):
@@ -107,7 +111,7 @@ def main():
     found, read, homes = [], 0, {}
     for file in sorted(pathlib.Path(sys.argv[2]).glob("*/src/**/*.rt")) + sorted(pathlib.Path(sys.argv[2]).glob("*/specs/**/*.antt")):
         text, read = file.read_text(encoding="utf-8"), read + 1
-        found += [f"{file}:{number}: more than {LONGEST} characters" for number in long_lines(text)]
+        found += [f"{file}:{number}: more than {LONGEST} characters" for number in long_lines(text, file)]
         is_spec = file.suffix == ".antt"
         for name in defined(text) if is_spec else []:
             homes.setdefault(name.lower(), []).append(str(file))

@@ -49,7 +49,7 @@ class Specs(unittest.TestCase):
     def test_what_is_right_passes(self):
         self.assertEqual(specs.faults_of_specs("crates/linear/specs/Topic.antt", BELIEVED), [])
         self.assertEqual(specs.faults_of_calls("linear", SOURCE, CALLS), [])
-        self.assertEqual(specs.long_lines("a" * 150 + "\n" + "b"), [])
+        self.assertEqual(specs.long_lines("a" * 140 + "\n" + "b"), [])
 
     def test_arguments_without_names(self):
         self.assertEqual(len(specs.faults_of_specs("specs/Topic.antt", UNNAMED)), 1)
@@ -71,8 +71,14 @@ class Specs(unittest.TestCase):
         self.assertEqual(specs.twice_defined({"within": ["a/Bits", "b/Text"], "dot": ["a/Bits"]}), ["within is defined in a/Bits, b/Text"])
 
     def test_a_long_line(self):
-        self.assertEqual(specs.long_lines("a\n" + "≡" * 151), [2])
-        self.assertEqual(specs.long_lines(f"use Rattle.linear.specs.Calls.{{{'a' * 150}}}"), [])
+        self.assertEqual(specs.long_lines("a\n" + "≡" * 141), [2])
+        self.assertEqual(specs.long_lines(f"use Rattle.linear.specs.Calls.{{{'a' * 140}}}"), [1])
+
+    def test_a_line_that_is_left(self):
+        file = "crates/walsh/specs/Calls.antt"
+        self.assertEqual(specs.long_lines("≡" * 142, file), [])
+        self.assertEqual(specs.long_lines("≡" * 143, file), [1])
+        self.assertEqual(specs.long_lines("≡" * 142, "crates/linear/specs/Calls.antt"), [1])
 
 
 if __name__ == "__main__":
