@@ -1,5 +1,6 @@
 -- The normal form twice is the table again; the degree, as the call replies it, is the least of the combinations' within the limit, and their first has
 -- it; a wider limit covers more; where it is at most 1 the nonlinearity is 0; and bijective boxes, by their rows.
+use Rattle.std.specs.Prelude.{Ok}
 use mathlib.Core.Path.{◌≡◌, sym, ap, ◌∙◌, subst}
 use mathlib.Core.Logic.Iff
 use mathlib.Core.Logic.{◌↔◌}
@@ -24,7 +25,6 @@ use Rattle.boolean.proofs.Every.{both}
 use Rattle.boolean.proofs.NormalForm.{coefficient_boolean}
 use Rattle.boolean.proofs.Selection.{first_least_chooses, first_ranked}
 use Rattle.refusals.specs.Table.{table_checks, table_call_checks, box_checks, limit_checks, first, figures, as_figure, Table}
-use Rattle.refusals.specs.declared.Checked.TheVariants.{Accepted}
 use Rattle.refusals.proofs.Checks.{found_after, skip, end, passed, accepted_after, box, table, table_accepted, Limited, limited, reply_accepted}
 use Rattle.refusals.proofs.Replies.{figures_accepted, head_same, same_figure, figure_true}
 use Rattle.linear.specs.Nonlinearity.{nonlinearity, nonlinearity_reply}
@@ -53,8 +53,8 @@ module _ (n : ℕ) (values : List ℕ) (t : Table n values) where
   }
 
 -- "the same rule goes back, coefficients being read as truth values.": the second call is accepted, and gives the table again
-pub normal_form_back : (n : ℕ) (values : List ℕ) (room : ℕ) → first (table_call_checks n values room) ≡ Accepted
-    → (first (table_call_checks n (normal_form n (at values)) room) ≡ Accepted) × (normal_form n (at (normal_form n (at values))) ≡ values)
+pub normal_form_back : (n : ℕ) (values : List ℕ) (room : ℕ) → first (table_call_checks n values room) ≡ (Ok tt)
+    → (first (table_call_checks n (normal_form n (at values)) room) ≡ (Ok tt)) × (normal_form n (at (normal_form n (at values))) ≡ values)
 unfolding table_call_checks
 normal_form_back n values room h =
     let t = table n values _ h in
@@ -83,7 +83,7 @@ module _ (n m : ℕ) (rows : List ℕ) (i : ℕ) where
   no_lower c w = first_least_chooses.all (degrees_by degree_of_mask m i) (with_degree n rows c) (in_degrees degree_of_mask m i c w)
 
   -- ---- of an accepted box and limit
-  module _ (accepted : first (limit_checks n m rows i) ≡ Accepted) where
+  module _ (accepted : first (limit_checks n m rows i) ≡ (Ok tt)) where
     accepted_box : Limited n m rows i
     accepted_box = limited n m rows i accepted
 

@@ -17,7 +17,7 @@ ghost use Rattle.algebraic.specs.Calls.{FormCalled, said_degree_found, box_degre
 ghost use Rattle.algebraic.specs.Work.{degree_at, degree_candidate, degree_of_words, degrees_of, HalvesAdded, Echelon};
 ghost use Rattle.algebraic.specs.Work.{WordInserted, BasisGathered, DegreesSwept, threshold_of, FirstBelow};
 
-use refusals::{Checked, Refusal, Verdict, Written};
+use refusals::Refusal;
 
 // The weakest component so far: its degree, its mask, and the threshold that another degree must be below to matter.
 #[derive(Clone, Copy)]
@@ -34,11 +34,11 @@ pub struct Met {
     pub degree: u32,
 }
 
-// The answer of the degree.
+// The degree of a box, and the first combination that has it.
 #[derive(Clone, Copy)]
-pub enum DegreeFound {
-    Reached { degree: u32, c: u32 },
-    Declined(Refusal),
+pub struct FoundDegree {
+    pub degree: u32,
+    pub c: u32,
 }
 
 // A word that is a truth value.
@@ -112,16 +112,14 @@ fn write_form(n: u32, table: &[u8], words: &mut [u32], out: &mut [u8])
 }
 
 // The normal form of a truth table. The same call goes back, coefficients being read as truth values.
-pub fn normal_form(n: u32, table: &[u8], out: &mut [u8]) -> Written
+pub fn normal_form(n: u32, table: &[u8], out: &mut [u8]) -> Result<(), Refusal>
     ensures { FormCalled n table.now out.old result out.new }
 {
-    if let Checked::Refused(e) = refusals::check_table_call(n, table, out.len()) {
-        return Written::Declined(e);
-    }
+    refusals::check_table_call(n, table, out.len())?;
     let mut words = [0u32; 256];
     let size = table.len();
     write_form(n, table, &mut words[..size], out);
-    Written::Done
+    Ok(())
 }
 
 // The ones of an input.
@@ -325,35 +323,27 @@ fn weakest_of(n: u32, m: u32, rows: &[u32], i: u32, words: &mut [u32], inputs: &
 }
 
 // The degree of a box over its combinations of at most i outputs: the least degree of one, with the first that has it.
-pub fn degree(n: u32, m: u32, rows: &[u32], i: u32) -> DegreeFound
+pub fn degree(n: u32, m: u32, rows: &[u32], i: u32) -> Result<FoundDegree, Refusal>
     ensures { said_degree_found result ≡ box_degree_reply n m rows.now i }
 {
-    if let Checked::Refused(e) = refusals::check_limited(n, m, rows, i) {
-        return DegreeFound::Declined(e);
-    }
+    refusals::check_limited(n, m, rows, i)?;
     let mut words = [0u32; 256];
     let mut inputs = [0u8; 256];
     let size = rows.len();
     let found = weakest_of(n, m, rows, i, &mut words[..size], &mut inputs);
-    DegreeFound::Reached {
+    Ok(FoundDegree {
         degree: found.degree,
         c: found.c,
-    }
+    })
 }
 
 // Whether n = m and no two rows are equal.
-pub fn is_bijective(n: u32, m: u32, rows: &[u32]) -> Verdict
+pub fn is_bijective(n: u32, m: u32, rows: &[u32]) -> Result<bool, Refusal>
     ensures { said_verdict result ≡ bijective_reply n m rows.now }
 {
-    if let Checked::Refused(e) = refusals::check_box(n, m, rows) {
-        return Verdict::Undecided(e);
-    }
+    refusals::check_box(n, m, rows)?;
     if n != m {
-        return Verdict::No;
+        return Ok(false);
     }
-    if boolean::rows_distinct(rows) {
-        Verdict::Yes
-    } else {
-        Verdict::No
-    }
+    Ok(boolean::rows_distinct(rows))
 }

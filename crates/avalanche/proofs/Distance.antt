@@ -1,4 +1,5 @@
 -- The dynamic distance: what its accepted checks say, and that it is half of the largest |r(s)|, with the same witness.
+use Rattle.std.specs.Prelude.{Ok}
 use mathlib.Core.Path.{◌≡◌, refl, sym, ap, ◌∙◌}
 use mathlib.Core.Bool.{Bool, true, false}
 use mathlib.Core.List.{List, [], ◌∷◌}
@@ -14,7 +15,6 @@ use Rattle.boolean.proofs.Correlation.{correlation_half}
 use Rattle.boolean.proofs.Kept.{each_cong, each_each}
 use Rattle.boolean.proofs.FirstLargest.{with_figure, first_largest_changed}
 use Rattle.refusals.specs.Table.{first, box_checks, Box}
-use Rattle.refusals.specs.declared.Checked.TheVariants.{Accepted}
 use Rattle.refusals.proofs.Bounds.{range_low}
 use Rattle.refusals.proofs.Checks.{box, passed, accepted_after}
 use Rattle.masks.proofs.Gathering.{part_lies}
@@ -24,7 +24,7 @@ use Rattle.avalanche.specs.Parts.{distance_part_checks}
 use Rattle.avalanche.specs.Statements.{distance_of}
 
 -- ---- the checks
-module _ (n m : ℕ) (rows : List ℕ) (i j : ℕ) (ok : first (distance_checks n m rows i j) ≡ Accepted) where
+module _ (n m : ℕ) (rows : List ℕ) (i j : ℕ) (ok : first (distance_checks n m rows i j) ≡ (Ok tt)) where
   pub distance_box : Box n m rows
   unfolding distance_checks
   distance_box = box n m rows _ ok
@@ -45,7 +45,7 @@ pub record DistanceWithin (n m : ℕ) (rows : List ℕ) (i j low high : ℕ) : T
   pub low_end : 1 ≤ low
   pub high_end : high < 2 ^ m
 
-pub part_accepted : (n m : ℕ) (rows : List ℕ) (i j low high : ℕ) → first (distance_part_checks n m rows i j low high) ≡ Accepted
+pub part_accepted : (n m : ℕ) (rows : List ℕ) (i j low high : ℕ) → first (distance_part_checks n m rows i j low high) ≡ (Ok tt)
     → DistanceWithin n m rows i j low high
 unfolding distance_part_checks
 part_accepted n m rows i j low high h =

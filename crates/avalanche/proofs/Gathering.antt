@@ -1,5 +1,7 @@
 -- The autocorrelation and the dynamic distance by parts: merging the replies of parts, cut anywhere, in any order and grouping, gives the plain call's
 -- reply. It is the law of sweeps in parts (masks, proofs/Gathering), of the changes.
+use Rattle.std.specs.Prelude.{Result, Ok, Err, ⊤}
+use Rattle.refusals.specs.declared.Refusal.{Refusal}
 use mathlib.Core.Path.{◌≡◌, refl, ap, ◌∙◌}
 use mathlib.Core.Bool.{Bool, true}
 use mathlib.Core.List.{List, ◌∷◌, ◌++◌}
@@ -9,8 +11,6 @@ use Rattle.boolean.specs.Selection.{shown, higher, first_largest}
 use Rattle.boolean.specs.Sums.{each}
 use Rattle.boolean.proofs.Selection.{largest, by_largest}
 use Rattle.refusals.specs.Table.{Check, Reply, reply_after, first, limit_checks, in_range}
-use Rattle.refusals.specs.declared.Checked.{Checked}
-use Rattle.refusals.specs.declared.Checked.TheVariants.{Accepted, Refused}
 use Rattle.refusals.proofs.Checks.{limited}
 use Rattle.masks.specs.Parts.{above, part_lines, shown_best, best_between, merged_in_turn}
 use Rattle.masks.specs.Statements.{Cut, Gathered, Covered, replies}
@@ -26,7 +26,7 @@ use Rattle.avalanche.proofs.Ranges.{shown_largest}
 use Rattle.avalanche.proofs.Widest.{blocks}
 
 -- a figure of each component within i and each change within j, by a call's checks, which ask that there is one
-module _ (n m i j : ℕ) (figure : ℕ → ℕ → ℕ) (checks : List Check) (some : first checks ≡ Accepted → (1 ≤ n) × (1 ≤ m) × (1 ≤ i) × (1 ≤ j))
+module _ (n m i j : ℕ) (figure : ℕ → ℕ → ℕ) (checks : List Check) (some : first checks ≡ (Ok tt) → (1 ≤ n) × (1 ≤ m) × (1 ≤ i) × (1 ≤ j))
     (reply : Cut m → Reply)
     (is : (c : Cut m) → reply c ≡ reply_after (first (checks ++ part_lines m c.low c.high))
     (best_between higher m i c.low c.high (changes_of n j figure))) where
@@ -40,12 +40,12 @@ module _ (n m i j : ℕ) (figure : ℕ → ℕ → ℕ) (checks : List Check) (s
   unfolding measured
   all_is = go (first checks) refl
     where
-      go : (k : Checked) → first checks ≡ k → reply_after k (shown_best higher (each (components m i) (changes_of n j figure)))
+      go : (k : Result ⊤ Refusal) → first checks ≡ k → reply_after k (shown_best higher (each (components m i) (changes_of n j figure)))
           ≡ reply_after k (shown (first_largest (measured n m i j figure)))
-      go Accepted e =
+      go (Ok tt) e =
           let l = some e in
-          ap (reply_after Accepted) (shown_largest (each (components m i) (changes_of n j figure)) (measured_first n m i j figure l.0 l.1 l.2 l.3).1)
-      go (Refused r) e = refl
+          ap (reply_after (Ok tt)) (shown_largest (each (components m i) (changes_of n j figure)) (measured_first n m i j figure l.0 l.1 l.2 l.3).1)
+      go (Err r) e = refl
 
   whole_is : {p : ℕ → Bool} {x : Reply} → Gathered above m reply p x → ((k : ℕ) → 1 ≤ k → k < 2 ^ m → p k ≡ true)
       → x ≡ reply_after (first checks) (shown (first_largest (measured n m i j figure)))
@@ -53,7 +53,7 @@ module _ (n m i j : ℕ) (figure : ℕ → ℕ → ℕ) (checks : List Check) (s
 
 -- ---- the autocorrelation
 module _ (n m : ℕ) (rows : List ℕ) (i : ℕ) where
-  limit_some : first (limit_checks n m rows i) ≡ Accepted → (1 ≤ n) × (1 ≤ m) × (1 ≤ i) × (1 ≤ n)
+  limit_some : first (limit_checks n m rows i) ≡ (Ok tt) → (1 ≤ n) × (1 ≤ m) × (1 ≤ i) × (1 ≤ n)
   limit_some ok = let l = limited n m rows i ok in (l.box.n_low, l.box.m_low, l.i_low, l.box.n_low)
 
   -- Merged replies that cover a part, and no other mask, are its reply,
@@ -77,7 +77,7 @@ module _ (n m : ℕ) (rows : List ℕ) (i : ℕ) where
 
 -- ---- the dynamic distance, likewise
 module _ (n m : ℕ) (rows : List ℕ) (i j : ℕ) where
-  order_some : first (distance_checks n m rows i j) ≡ Accepted → (1 ≤ n) × (1 ≤ m) × (1 ≤ i) × (1 ≤ j)
+  order_some : first (distance_checks n m rows i j) ≡ (Ok tt) → (1 ≤ n) × (1 ≤ m) × (1 ≤ i) × (1 ≤ j)
   order_some ok =
       let b = distance_box n m rows i j ok in
       (b.n_low, b.m_low, outputs_low n m rows i j ok, inputs_low n m rows i j ok)

@@ -1,5 +1,6 @@
 -- What the calls over a part of the combinations report: the largest figure of the part's changes and the first of them that has it; and no figure
 -- exactly where no combination within the limit lies in the part.
+use Rattle.std.specs.Prelude.{Ok}
 use mathlib.Core.Path.{◌≡◌, refl, sym, ap, ◌∙◌}
 use mathlib.Core.Logic.{◌↔◌}
 use mathlib.Core.List.{List, [], ◌∷◌, Memᴰ}
@@ -11,7 +12,6 @@ use Rattle.boolean.proofs.Components.{first_mask}
 use Rattle.boolean.proofs.Lists.{some_member, mem_each, in_each}
 use Rattle.boolean.proofs.Selection.{first_largest_chooses, first_ranked}
 use Rattle.refusals.specs.Table.{Reply, figures, first}
-use Rattle.refusals.specs.declared.Checked.TheVariants.{Accepted}
 use Rattle.refusals.proofs.Checks.{reply_accepted}
 use Rattle.masks.specs.Parts.{components_between, shown_best, best_between}
 use Rattle.masks.specs.Statements.{MaskBetween}
@@ -76,7 +76,7 @@ module _ (n m i j low high : ℕ) (figure : ℕ → ℕ → ℕ) where
     )
 
 -- ---- the autocorrelation
-module _ (n m : ℕ) (rows : List ℕ) (i low high : ℕ) (ok : first (part_checks n m rows i low high) ≡ Accepted) where
+module _ (n m : ℕ) (rows : List ℕ) (i low high : ℕ) (ok : first (part_checks n m rows i low high) ≡ (Ok tt)) where
   n_low : 1 ≤ n
   n_low = (limit.part_accepted n m rows i low high ok).limit.box.n_low
 
@@ -92,7 +92,7 @@ module _ (n m : ℕ) (rows : List ℕ) (i low high : ℕ) (ok : first (part_chec
   autocorrelation_between_nothing = nothing_between n m i n low high (correlated n rows) n_low n_low autocorrelation_is
 
 -- ---- the dynamic distance
-module _ (n m : ℕ) (rows : List ℕ) (i j low high : ℕ) (ok : first (distance_part_checks n m rows i j low high) ≡ Accepted) where
+module _ (n m : ℕ) (rows : List ℕ) (i j low high : ℕ) (ok : first (distance_part_checks n m rows i j low high) ≡ (Ok tt)) where
   distance_is : distance_between_reply n m rows i j low high ≡ figures (shown_best higher (part_changes n m i j low high (distance_of n rows)))
   unfolding distance_between best_between
   distance_is = sym (reply_accepted ok (distance_between n m rows i j low high))

@@ -1,6 +1,7 @@
 -- The autocorrelation and the dynamic distance as the calls reply them: the largest figure, the first change that has it, and (1, 1) where it is 0;
 -- a wider limit covers more. The strict avalanche criterion as document 000 defines it, bit independence, and
 -- completeness.
+use Rattle.std.specs.Prelude.{Ok}
 use mathlib.Core.Path.{◌≡◌, sym, ◌∙◌}
 use mathlib.Core.Logic.Iff
 use mathlib.Core.Logic.{◌↔◌}
@@ -13,7 +14,6 @@ use Rattle.boolean.specs.Functions.{MaskWithin, autocorrelation, component, colu
 use Rattle.boolean.specs.Selection.{shown}
 use Rattle.boolean.proofs.Components.{whole_within, within_more}
 use Rattle.refusals.specs.Table.{Box, first, figures, box_checks, limit_checks, as_figure}
-use Rattle.refusals.specs.declared.Checked.TheVariants.{Accepted}
 use Rattle.refusals.proofs.Checks.{limited, reply_accepted}
 use Rattle.refusals.proofs.Replies.{figures_accepted, head_same, same_figure, figure_true}
 use Rattle.avalanche.specs.Avalanche.{correlated, box_autocorrelation, dynamic_distance, complete}
@@ -24,7 +24,7 @@ use Rattle.avalanche.proofs.Distance.{distance_box, outputs_low, inputs_low}
 use Rattle.avalanche.proofs.Reports.{largest_reported}
 
 -- ---- what is reported of an accepted box
-pub autocorrelation_reported : (n m : ℕ) (rows : List ℕ) (i : ℕ) → first (limit_checks n m rows i) ≡ Accepted
+pub autocorrelation_reported : (n m : ℕ) (rows : List ℕ) (i : ℕ) → first (limit_checks n m rows i) ≡ (Ok tt)
     → AutocorrelationReported n m rows i
 unfolding box_autocorrelation
 autocorrelation_reported n m rows i h =
@@ -32,7 +32,7 @@ autocorrelation_reported n m rows i h =
     largest_reported n m i n (correlated n rows) l.box.n_low l.box.m_low l.i_low l.box.n_low
     (sym (reply_accepted h (shown (box_autocorrelation n m rows i))))
 
-pub distance_reported : (n m : ℕ) (rows : List ℕ) (i j : ℕ) → first (distance_checks n m rows i j) ≡ Accepted
+pub distance_reported : (n m : ℕ) (rows : List ℕ) (i j : ℕ) → first (distance_checks n m rows i j) ≡ (Ok tt)
     → DistanceReported n m rows i j
 unfolding dynamic_distance
 distance_reported n m rows i j h =
@@ -68,7 +68,7 @@ module _ (n m : ℕ) (rows : List ℕ) (i j : ℕ) (wider : i ≤ j) (d e : ℕ)
 
 -- ---- the criteria, of a reply
 module _ (n m : ℕ) (rows : List ℕ) (i j d : ℕ) (witness : List ℕ) (e : distance_reply n m rows i j ≡ figures (d ∷ witness)) where
-  said : (first (distance_checks n m rows i j) ≡ Accepted) × ((d ∷ witness) ≡ shown (dynamic_distance n m rows i j))
+  said : (first (distance_checks n m rows i j) ≡ (Ok tt)) × ((d ∷ witness) ≡ shown (dynamic_distance n m rows i j))
   said = figures_accepted (first (distance_checks n m rows i j)) (shown (dynamic_distance n m rows i j)) e
 
   replied_box : Box n m rows

@@ -1,12 +1,13 @@
 -- The calls on input changes: checks and answers.
+use Rattle.refusals.specs.declared.Refusal.{Refusal}
+use Rattle.std.specs.Prelude.{Result, Ok, Err}
+use Rattle.avalanche.specs.declared.FoundChange.{FoundChange}
 use Rattle.std.specs.Prelude.{ℕ, List, [], ◌∷◌, ◌++◌}
 use Rattle.boolean.specs.Selection.{shown}
 use Rattle.refusals.specs.Table.{Check, ◌unless◌, first, in_range, box_checks, limit_checks, Reply, figures, refusal, number, reply_after}
 use Rattle.refusals.specs.Table.{as_figure}
 use Rattle.refusals.specs.declared.Refusal.TheVariants.{Parameter}
 use Rattle.avalanche.specs.Avalanche.{box_autocorrelation, dynamic_distance, complete}
-use Rattle.avalanche.specs.declared.LargestChange.{LargestChange}
-use Rattle.avalanche.specs.declared.LargestChange.TheVariants.{Reached, Declined}
 
 -- the dynamic distance: a box's checks, then the order (i, j)
 unfoldable pub distance_checks : (n m : ℕ) (rows : List ℕ) (i j : ℕ) → List Check
@@ -17,9 +18,9 @@ distance_checks n m rows i j =
     ∷ [])
 
 -- what an answer says: the figure, c and s, or the number of the refusal
-abbrev pub said_largest_change : LargestChange → Reply
-said_largest_change (Reached figure c s) = figures (figure ∷ c ∷ s ∷ [])
-said_largest_change (Declined e) = refusal (number e)
+abbrev pub said_largest_change : Result FoundChange Refusal → Reply
+said_largest_change (Ok found) = figures (found.figure ∷ found.c ∷ found.s ∷ [])
+said_largest_change (Err e) = refusal (number e)
 
 -- what the calls reply: the figure and its witness, yes or no, or the number of the refusal
 abbrev pub autocorrelation_reply : (n m : ℕ) (rows : List ℕ) (i : ℕ) → Reply

@@ -20,7 +20,7 @@ ghost use Rattle.avalanche.specs.Parts.{said_part_change, distance_part_checks, 
 ghost use Rattle.avalanche.specs.Work.{change_candidate, truth_table, correlations, Compared, LargestWithin};
 ghost use Rattle.avalanche.specs.Work.{FirstWithin, Listed, ChangesInside, LargestListed, FirstListed, beaten_at_once};
 
-use refusals::{Checked, Refusal, Verdict};
+use refusals::Refusal;
 
 // The best so far.
 #[derive(Clone, Copy)]
@@ -30,38 +30,23 @@ pub struct FoundChange {
     pub s: u32,
 }
 
-// The answer of the autocorrelation and of the dynamic distance.
-#[derive(Clone, Copy)]
-pub enum LargestChange {
-    Reached { figure: u32, c: u32, s: u32 },
-    Declined(Refusal),
-}
-
-// The answer of the two over a part of the combinations: the same, or that none within the limit lies in the part.
-#[derive(Clone, Copy)]
-pub enum PartChange {
-    Reached { figure: u32, c: u32, s: u32 },
-    Nothing,
-    Declined(Refusal),
-}
-
 // The checks of the dynamic distance: those of a box, then the order (i, j).
-pub fn check_distance(n: u32, m: u32, rows: &[u32], i: u32, j: u32) -> Checked
+#[tactic(auto, unfolding(refusals::specs::Table::first, crate::specs::Calls::distance_checks))]
+pub fn check_distance(n: u32, m: u32, rows: &[u32], i: u32, j: u32) -> Result<(), Refusal>
     ensures { result ≡ first (distance_checks n m rows.now i j) }
 {
-    if let Checked::Refused(e) = refusals::check_box(n, m, rows) {
-        return Checked::Refused(e);
-    }
+    refusals::check_box(n, m, rows)?;
     if !refusals::in_range(1, m, i) {
-        return Checked::Refused(Refusal::Parameter);
+        return Err(Refusal::Parameter);
     }
     if !refusals::in_range(1, n, j) {
-        return Checked::Refused(Refusal::Parameter);
+        return Err(Refusal::Parameter);
     }
-    Checked::Accepted
+    Ok(())
 }
 
 // The checks of the dynamic distance over a part: the plain call's, then that the part lies from 1 to 2^m − 1.
+#[tactic(auto, unfolding(refusals::specs::Table::first, crate::specs::Parts::distance_part_checks))]
 pub fn check_distance_part(
     n: u32,
     m: u32,
@@ -70,12 +55,10 @@ pub fn check_distance_part(
     j: u32,
     low: u32,
     high: u32,
-) -> Checked
+) -> Result<(), Refusal>
     ensures { result ≡ first (distance_part_checks n m rows.now i j low high) }
 {
-    if let Checked::Refused(e) = check_distance(n, m, rows, i, j) {
-        return Checked::Refused(e);
-    }
+    check_distance(n, m, rows, i, j)?;
     masks::check_part(m, low, high)
 }
 
@@ -447,19 +430,12 @@ fn all_complete(n: u32, m: u32, rows: &[u32]) -> bool
 }
 
 // The largest |r(s)| over the combinations of at most i outputs and all s from 1.
-pub fn autocorrelation(n: u32, m: u32, rows: &[u32], i: u32) -> LargestChange
+pub fn autocorrelation(n: u32, m: u32, rows: &[u32], i: u32) -> Result<FoundChange, Refusal>
     ensures { said_largest_change result ≡ autocorrelation_reply n m rows.now i }
 {
-    if let Checked::Refused(e) = refusals::check_limited(n, m, rows, i) {
-        return LargestChange::Declined(e);
-    }
+    refusals::check_limited(n, m, rows, i)?;
     let masks = (boolean::power_of_two(m) - 1) as u32;
-    let found = largest_correlation(n, m, rows, i, n, 1, masks);
-    LargestChange::Reached {
-        figure: found.figure,
-        c: found.c,
-        s: found.s,
-    }
+    Ok(largest_correlation(n, m, rows, i, n, 1, masks))
 }
 
 // The autocorrelation over the combinations of at most i outputs whose masks lie from `first` to `last`: a part of a sweep.
@@ -470,22 +446,15 @@ pub fn autocorrelation_between(
     i: u32,
     first: u32,
     last: u32,
-) -> PartChange
+) -> Result<Option<FoundChange>, Refusal>
     ensures { said_part_change result ≡ autocorrelation_between_reply n m rows.now i first last }
 {
-    if let Checked::Refused(e) = linear::check_part(n, m, rows, i, first, last) {
-        return PartChange::Declined(e);
-    }
+    linear::check_part(n, m, rows, i, first, last)?;
     let start = masks::first_mask(i, first as u64);
     if (last as u64) < start {
-        return PartChange::Nothing;
+        return Ok(None);
     }
-    let widest = largest_correlation(n, m, rows, i, n, start as u32, last);
-    PartChange::Reached {
-        figure: widest.figure,
-        c: widest.c,
-        s: widest.s,
-    }
+    Ok(Some(largest_correlation(n, m, rows, i, n, start as u32, last)))
 }
 
 // The dynamic distance of order (i, j) over the combinations whose masks lie from `first` to `last`: a part of a sweep.
@@ -497,75 +466,66 @@ pub fn dynamic_distance_between(
     j: u32,
     first: u32,
     last: u32,
-) -> PartChange
+) -> Result<Option<FoundChange>, Refusal>
     ensures { said_part_change result ≡ distance_between_reply n m rows.now i j first last }
 {
-    if let Checked::Refused(e) = check_distance_part(n, m, rows, i, j, first, last) {
-        return PartChange::Declined(e);
-    }
+    check_distance_part(n, m, rows, i, j, first, last)?;
     let start = masks::first_mask(i, first as u64);
     if (last as u64) < start {
-        return PartChange::Nothing;
+        return Ok(None);
     }
     let widest = largest_correlation(n, m, rows, i, j, start as u32, last);
-    PartChange::Reached {
+    Ok(Some(FoundChange {
         figure: widest.figure / 2,
         c: widest.c,
         s: widest.s,
-    }
+    }))
 }
 
 // Two parts' answers of one of these calls as one: the larger figure, then the fewer outputs, then the smaller mask; a refusal stays one.
-pub fn merge_changes(x: PartChange, y: PartChange) -> PartChange
+pub fn merge_changes(
+    x: Result<Option<FoundChange>, Refusal>,
+    y: Result<Option<FoundChange>, Refusal>,
+) -> Result<Option<FoundChange>, Refusal>
     ensures { said_part_change result ≡ merged_reply above (said_part_change x) (said_part_change y) }
 {
-    match x {
-        PartChange::Declined(e) => PartChange::Declined(e),
-        PartChange::Nothing => y,
-        PartChange::Reached { figure, c, s: _ } => match y {
-            PartChange::Declined(e) => PartChange::Declined(e),
-            PartChange::Nothing => x,
-            PartChange::Reached {
-                figure: other,
-                c: mask,
-                s: _,
-            } => {
-                if masks::is_sooner(figure, other, mask, c) {
-                    y
-                } else {
-                    x
-                }
-            }
-        },
+    let Some(first) = x? else {
+        return y;
+    };
+    let Some(second) = y? else {
+        return x;
+    };
+    if masks::is_sooner(first.figure, second.figure, second.c, first.c) {
+        y
+    } else {
+        x
     }
 }
 
 // The dynamic distance of order (i, j), as document 01 doubles it: half of the largest |r(s)|.
-pub fn dynamic_distance(n: u32, m: u32, rows: &[u32], i: u32, j: u32) -> LargestChange
+pub fn dynamic_distance(
+    n: u32,
+    m: u32,
+    rows: &[u32],
+    i: u32,
+    j: u32,
+) -> Result<FoundChange, Refusal>
     ensures { said_largest_change result ≡ distance_reply n m rows.now i j }
 {
-    if let Checked::Refused(e) = check_distance(n, m, rows, i, j) {
-        return LargestChange::Declined(e);
-    }
+    check_distance(n, m, rows, i, j)?;
     let masks = (boolean::power_of_two(m) - 1) as u32;
     let found = largest_correlation(n, m, rows, i, j, 1, masks);
-    LargestChange::Reached {
+    Ok(FoundChange {
         figure: found.figure / 2,
         c: found.c,
         s: found.s,
-    }
+    })
 }
 
 // Whether every input bit changes every column at some input.
-pub fn is_complete(n: u32, m: u32, rows: &[u32]) -> Verdict
+pub fn is_complete(n: u32, m: u32, rows: &[u32]) -> Result<bool, Refusal>
     ensures { said_verdict result ≡ complete_reply n m rows.now }
 {
-    if let Checked::Refused(e) = refusals::check_box(n, m, rows) {
-        return Verdict::Undecided(e);
-    }
-    if all_complete(n, m, rows) {
-        Verdict::Yes
-    } else {
-        Verdict::No
-    }
+    refusals::check_box(n, m, rows)?;
+    Ok(all_complete(n, m, rows))
 }

@@ -1,9 +1,9 @@
 -- What C is given in place of an answer: a number, and an array that is lent for the figures.
+use Rattle.std.specs.Prelude.{Result, Ok, Err, ⊤}
+use Rattle.refusals.specs.declared.Refusal.{Refusal}
 use Rattle.std.specs.Prelude.{ℕ, true, false, List, [], eqb, length, ◌≡◌}
 use Rattle.refusals.specs.Table.{Check, Reply, figures, refusal, number, first, reply_after, after}
 use Rattle.refusals.specs.declared.Refusal.TheVariants.{WrittenLength}
-use Rattle.refusals.specs.declared.Checked.{Checked}
-use Rattle.refusals.specs.declared.Checked.TheVariants.{Accepted, Refused}
 
 -- what an exported function returns: 0, or the number of the refusal
 unfoldable pub status : Reply → ℕ
@@ -31,6 +31,6 @@ pub record FiguresOut (reply : Reply) (old : List ℕ) (returned : ℕ) (new : L
   pub content : new ≡ figures_after (lent reply (length old)) old
 
 -- what is returned where that array has another length, and the checks before it found this
-abbrev pub room_number : Checked → ℕ
-room_number Accepted = number WrittenLength
-room_number (Refused e) = number e
+abbrev pub room_number : Result ⊤ Refusal → ℕ
+room_number (Ok tt) = number WrittenLength
+room_number (Err e) = number e

@@ -5,15 +5,16 @@ ghost use Rattle.std.specs.Prelude.{◌≡◌};
 ghost use Rattle.refusals.specs.Table.{said_written, figures as given};
 ghost use Rattle.border.specs.Border.{status, FiguresOut, room_number};
 
-use refusals::{Checked, Refusal, Written};
+use refusals::Refusal;
 
 // The number of a call that only writes.
-pub fn status_of(answer: Written) -> u32
+#[tactic(auto, unfolding(crate::specs::Border::status))]
+pub fn status_of(answer: Result<(), Refusal>) -> u32
     ensures { result ≡ status (said_written answer) }
 {
     match answer {
-        Written::Done => 0,
-        Written::Declined(e) => refusals::number_of(e),
+        Ok(()) => 0,
+        Err(e) => refusals::number_of(e),
     }
 }
 
@@ -29,11 +30,11 @@ pub fn give(found: &[u32], figures: &mut [u32]) -> u32
 }
 
 // The number to return where the array for the figures has another length: the checks before it go first.
-pub fn number_for_room(found: Checked) -> u32
+pub fn number_for_room(found: Result<(), Refusal>) -> u32
     ensures { result ≡ room_number found }
 {
     match found {
-        Checked::Accepted => refusals::number_of(Refusal::WrittenLength),
-        Checked::Refused(e) => refusals::number_of(e),
+        Ok(()) => refusals::number_of(Refusal::WrittenLength),
+        Err(e) => refusals::number_of(e),
     }
 }

@@ -1,4 +1,5 @@
 -- The rows of a file as a list, and the box of a file that is accepted. Assumes nothing.
+use Rattle.std.specs.Prelude.{Ok}
 use mathlib.Core.Path.{◌≡◌}
 use mathlib.Core.List.{List, []}
 use Prim.Native.Nat.{ℕ, ◌+◌, ◌*◌, ◌^◌, ◌≤◌, ◌<◌}
@@ -6,7 +7,6 @@ use borrow.Author.Tests.{eq-eqb, eqb-true, leb-true}
 use lib.ListN.{length}
 use Rattle.boolean.specs.Functions.{at}
 use Rattle.refusals.specs.Table.{first, box_checks, Box}
-use Rattle.refusals.specs.declared.Checked.TheVariants.{Accepted}
 use Rattle.refusals.proofs.Checks.{passed, accepted, box}
 use Rattle.boolean.proofs.Lists.{length_list_below, get_or_list_below}
 use Rattle.boxfile.specs.File.{row_at, file_rows, read_checks, file_checks, file_found}
@@ -25,14 +25,14 @@ pub record Whole (file : List ℕ) (room : ℕ) : Type 0 where
   pub size : length file ≡ 2 + 4 * 2 ^ at file 0
   pub room_is : room ≡ 2 ^ at file 0
 
-pub whole : (file : List ℕ) (room : ℕ) → first (file_checks file room) ≡ Accepted → Whole file room
+pub whole : (file : List ℕ) (room : ℕ) → first (file_checks file room) ≡ (Ok tt) → Whole file room
 unfolding file_checks read_checks
 whole file room h =
     let p = passed (file_checks file room) h in
     record { two = leb-true 2 (length file) p.0; size = eqb-true _ _ p.1.1.1.0; room_is = eqb-true _ _ p.1.1.1.1.1.0 }
 
 -- the box of an accepted file is accepted
-pub box_of_file : (file : List ℕ) → file_found file ≡ Accepted → Box (at file 0) (at file 1) (file_rows file (at file 0))
+pub box_of_file : (file : List ℕ) → file_found file ≡ (Ok tt) → Box (at file 0) (at file 1) (file_rows file (at file 0))
 unfolding file_found file_checks read_checks
 box_of_file file h =
     let n = at file 0 in

@@ -1,14 +1,14 @@
 -- A box file: n, m in a byte each, then the rows, four bytes each, low byte first.
+use Rattle.std.specs.Prelude.{Ok, Err}
+use Rattle.refusals.specs.declared.BoxWidths.{BoxWidths}
+use Rattle.std.specs.Prelude.{Result, ⊤}
+use Rattle.refusals.specs.declared.Refusal.{Refusal}
 use Rattle.std.specs.Prelude.{ℕ, ◌+◌, ◌*◌, ◌/◌, ◌%◌, ◌^◌, cond, List, [], ◌∷◌, ◌++◌, leb, eqb, length}
 use Rattle.boolean.specs.Sums.{list_below, each}
 use Rattle.boolean.specs.Functions.{at}
 use Rattle.refusals.specs.Table.{Check, ◌unless◌, first, in_range, all_below, box_checks}
 use Rattle.refusals.specs.Table.{Reply, figures, refusal, number, Wrote, said_written}
-use Rattle.refusals.specs.declared.Checked.{Checked}
-use Rattle.refusals.specs.declared.Written.{Written}
 use Rattle.refusals.specs.declared.Refusal.TheVariants.{FileLength, InputWidth, OutputWidth, Value, WrittenLength}
-use Rattle.boxfile.specs.declared.BoxFile.{BoxFile}
-use Rattle.boxfile.specs.declared.BoxFile.TheVariants.{Read, Declined}
 
 -- row x, from its four bytes
 unfoldable pub row_at : (file : List ℕ) (x : ℕ) → ℕ
@@ -36,12 +36,12 @@ unfolding read_checks
 file_checks file room = (FileLength unless leb 2 (length file)) ∷ read_checks file (at file 0) (at file 1) room
 
 -- what the answer says: n and m, or the number of the refusal
-abbrev pub said_box_file : BoxFile → Reply
-said_box_file (Read n m) = figures (n ∷ m ∷ [])
-said_box_file (Declined e) = refusal (number e)
+abbrev pub said_box_file : Result BoxWidths Refusal → Reply
+said_box_file (Ok widths) = figures (widths.n ∷ widths.m ∷ [])
+said_box_file (Err e) = refusal (number e)
 
 -- the outcome of a call of `boxfile::read_box`
-abbrev pub ReadCalled : (file lent : List ℕ) (answer : BoxFile) (left : List ℕ) → Type 0
+abbrev pub ReadCalled : (file lent : List ℕ) (answer : Result BoxWidths Refusal) (left : List ℕ) → Type 0
 ReadCalled file lent answer left =
     Wrote (file_checks file (length lent)) (at file 0 ∷ at file 1 ∷ []) (file_rows file (at file 0)) lent (said_box_file answer) left
 
@@ -53,7 +53,7 @@ room_of file = cond (in_range 1 8 (at file 0)) (2 ^ at file 0) 0
 abbrev pub alone_checks : (file : List ℕ) → List Check
 alone_checks file = file_checks file (2 ^ at file 0)
 
-unfoldable pub file_found : (file : List ℕ) → Checked
+unfoldable pub file_found : (file : List ℕ) → Result ⊤ Refusal
 unfolding file_checks
 file_found file = first (alone_checks file)
 
@@ -71,5 +71,5 @@ unfoldable pub write_checks : (n m : ℕ) (rows : List ℕ) (room : ℕ) → Lis
 write_checks n m rows room = box_checks n m rows ++ ((WrittenLength unless eqb room (2 + 4 * 2 ^ n)) ∷ [])
 
 -- the outcome of a call of `boxfile::write_box`
-abbrev pub WriteCalled : (n m : ℕ) (rows lent : List ℕ) (answer : Written) (left : List ℕ) → Type 0
+abbrev pub WriteCalled : (n m : ℕ) (rows lent : List ℕ) (answer : Result ⊤ Refusal) (left : List ℕ) → Type 0
 WriteCalled n m rows lent answer left = Wrote (write_checks n m rows (length lent)) [] (file_of n m rows) lent (said_written answer) left

@@ -9,14 +9,7 @@ ghost use Rattle.refusals.specs.Table.{first, all_below};
 ghost use Rattle.boxfile.specs.File.{row_at, file_rows, read_checks, file_checks, ReadCalled, room_of, file_found};
 ghost use Rattle.boxfile.specs.File.{row_bytes, write_checks, WriteCalled};
 
-use refusals::{Checked, Refusal, Written};
-
-// The answer of reading a file: the widths of its box.
-#[derive(Clone, Copy)]
-pub enum BoxFile {
-    Read { n: u32, m: u32 },
-    Declined(Refusal),
-}
+use refusals::{BoxWidths, Refusal};
 
 // The number that two bytes make, low byte first.
 pub fn two_bytes(file: &[u8], place: usize) -> u32
@@ -78,51 +71,51 @@ fn write_rows(file: &[u8], n: u32, rows: &mut [u32])
 }
 
 // The checks that follow once n and m have been read.
-fn check_read(file: &[u8], n: u32, m: u32, room: usize) -> Checked
+#[tactic(auto, unfolding(refusals::specs::Table::first, crate::specs::File::read_checks))]
+fn check_read(file: &[u8], n: u32, m: u32, room: usize) -> Result<(), Refusal>
     ensures { result ≡ first (read_checks file.now n m room) }
 {
     if !refusals::in_range(1, 8, n) {
-        return Checked::Refused(Refusal::InputWidth);
+        return Err(Refusal::InputWidth);
     }
     if !refusals::in_range(1, 32, m) {
-        return Checked::Refused(Refusal::OutputWidth);
+        return Err(Refusal::OutputWidth);
     }
     let size = boolean::power_of_two(n);
     if file.len() != 2 + 4 * size {
-        return Checked::Refused(Refusal::FileLength);
+        return Err(Refusal::FileLength);
     }
     if !rows_below(file, n, size, boolean::power_of_two(m)) {
-        return Checked::Refused(Refusal::Value);
+        return Err(Refusal::Value);
     }
     if room != size {
-        return Checked::Refused(Refusal::WrittenLength);
+        return Err(Refusal::WrittenLength);
     }
-    Checked::Accepted
+    Ok(())
 }
 
 // The checks of a file.
-pub fn check_file(file: &[u8], room: usize) -> Checked
+#[tactic(auto, unfolding(refusals::specs::Table::first, crate::specs::File::file_checks))]
+pub fn check_file(file: &[u8], room: usize) -> Result<(), Refusal>
     ensures { result ≡ first (file_checks file.now room) }
 {
     if file.len() < 2 {
-        return Checked::Refused(Refusal::FileLength);
+        return Err(Refusal::FileLength);
     }
     check_read(file, boolean::wide(file[0]), boolean::wide(file[1]), room)
 }
 
 // Reads a box from the bytes of its file: the widths are the answer, and the rows go to the lent array.
-pub fn read_box(file: &[u8], rows: &mut [u32]) -> BoxFile
+pub fn read_box(file: &[u8], rows: &mut [u32]) -> Result<BoxWidths, Refusal>
     ensures { ReadCalled file.now rows.old result rows.new }
 {
-    if let Checked::Refused(e) = check_file(file, rows.len()) {
-        return BoxFile::Declined(e);
-    }
+    check_file(file, rows.len())?;
     let n = boolean::wide(file[0]);
     write_rows(file, n, rows);
-    BoxFile::Read {
+    Ok(BoxWidths {
         n,
         m: boolean::wide(file[1]),
-    }
+    })
 }
 
 // How many rows the file's n asks for; 0 where there is no n, or none that a box has, and the room then does not matter.
@@ -140,7 +133,7 @@ pub fn room_of(file: &[u8]) -> usize
 }
 
 // The checks of a file that is not read yet: its rows have the room that they take.
-pub fn check_alone(file: &[u8]) -> Checked
+pub fn check_alone(file: &[u8]) -> Result<(), Refusal>
     ensures { result ≡ file_found file.now }
 {
     let rows = room_of(file);
@@ -171,27 +164,24 @@ fn put_rows(rows: &[u32], file: &mut [u8])
 }
 
 // The checks of writing.
-fn check_write(n: u32, m: u32, rows: &[u32], room: usize) -> Checked
+#[tactic(auto, unfolding(refusals::specs::Table::first, crate::specs::File::write_checks))]
+fn check_write(n: u32, m: u32, rows: &[u32], room: usize) -> Result<(), Refusal>
     ensures { result ≡ first (write_checks n m rows.now room) }
 {
-    if let Checked::Refused(e) = refusals::check_box(n, m, rows) {
-        return Checked::Refused(e);
-    }
+    refusals::check_box(n, m, rows)?;
     if room != 2 + 4 * rows.len() {
-        return Checked::Refused(Refusal::WrittenLength);
+        return Err(Refusal::WrittenLength);
     }
-    Checked::Accepted
+    Ok(())
 }
 
 // Writes the file of a box to the lent array.
-pub fn write_box(n: u32, m: u32, rows: &[u32], file: &mut [u8]) -> Written
+pub fn write_box(n: u32, m: u32, rows: &[u32], file: &mut [u8]) -> Result<(), Refusal>
     ensures { WriteCalled n m rows.now file.old result file.new }
 {
-    if let Checked::Refused(e) = check_write(n, m, rows, file.len()) {
-        return Written::Declined(e);
-    }
+    check_write(n, m, rows, file.len())?;
     file[0] = n as u8;
     file[1] = m as u8;
     put_rows(rows, file);
-    Written::Done
+    Ok(())
 }

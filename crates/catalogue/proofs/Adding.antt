@@ -1,4 +1,5 @@
 -- Adding: what its checks find, and what a file that goes into a gap leaves. Assumes nothing.
+use Rattle.std.specs.Prelude.{Ok, Err}
 use Prim.Native.Nat.{ℕ, ◌+◌, ◌-◌, ◌*◌, ◌≤◌, ◌<◌}
 use mathlib.Core.Path.{◌≡◌, refl, sym, ap, ap₂, ◌∙◌, subst}
 use mathlib.Core.Bool.{Bool, true, false}
@@ -10,7 +11,6 @@ use lib.Seq.{sets, take-take, length-take-le}
 use Rattle.refusals.specs.Table.{first}
 use Rattle.refusals.specs.declared.Refusal.{Refusal}
 use Rattle.refusals.specs.declared.Refusal.TheVariants.{Catalogue, NoRoom}
-use Rattle.refusals.specs.declared.Checked.TheVariants.{Accepted, Refused}
 use Rattle.refusals.proofs.Checks.{found_after, skip, stop, end, first_passed, first_refused, passed, accepted_before, accepted_after}
 use Rattle.boxfile.specs.File.{file_found}
 use Rattle.catalogue.specs.declared.Gap.{Gap}
@@ -27,40 +27,40 @@ use Rattle.boolean.proofs.Every.{zeros_are}
 
 module _ (b file : List ℕ) where
   -- a file that is offered: the catalogue is valid and the file accepted
-  pub offered : valid b ≡ true → file_found file ≡ Accepted → first (offered_checks b file) ≡ Accepted
+  pub offered : valid b ≡ true → file_found file ≡ (Ok tt) → first (offered_checks b file) ≡ (Ok tt)
   unfolding offered_checks file_found
   offered whole good = first_passed Catalogue (valid b) _ whole ∙ good
 
-  pub offered_whole : first (offered_checks b file) ≡ Accepted → valid b ≡ true
+  pub offered_whole : first (offered_checks b file) ≡ (Ok tt) → valid b ≡ true
   unfolding offered_checks
   offered_whole ok = (passed (offered_checks b file) ok).0
 
-  pub offered_good : first (offered_checks b file) ≡ Accepted → file_found file ≡ Accepted
+  pub offered_good : first (offered_checks b file) ≡ (Ok tt) → file_found file ≡ (Ok tt)
   unfolding offered_checks file_found
   offered_good ok = sym (first_passed Catalogue (valid b) _ (offered_whole ok)) ∙ ok
 
   -- what adding finds
-  pub add_refused : {e : Refusal} → first (offered_checks b file) ≡ Refused e → first (add_checks b file) ≡ Refused e
+  pub add_refused : {e : Refusal} → first (offered_checks b file) ≡ Err e → first (add_checks b file) ≡ Err e
   unfolding add_checks
   add_refused h = first_refused (offered_checks b file) _ h
 
-  module _ (ok : first (offered_checks b file) ≡ Accepted) where
-    pub add_full : 64 ≤ count b → first (add_checks b file) ≡ Refused NoRoom
+  module _ (ok : first (offered_checks b file) ≡ (Ok tt)) where
+    pub add_full : 64 ≤ count b → first (add_checks b file) ≡ Err NoRoom
     unfolding add_checks
     add_full h = sym (found_after (offered_checks b file) ok (stop (le-ltb (count b) 64 h)))
 
-    pub add_nowhere : count b < 64 → gap_for b file ≡ Nowhere → first (add_checks b file) ≡ Refused NoRoom
+    pub add_nowhere : count b < 64 → gap_for b file ≡ Nowhere → first (add_checks b file) ≡ Err NoRoom
     unfolding add_checks
     add_nowhere h e = sym (found_after (offered_checks b file) ok (skip (lt-ltb (count b) 64 h) (stop (ap is_gap e))))
 
-    pub add_accepted : {index start : ℕ} → count b < 64 → gap_for b file ≡ Starts index start → first (add_checks b file) ≡ Accepted
+    pub add_accepted : {index start : ℕ} → count b < 64 → gap_for b file ≡ Starts index start → first (add_checks b file) ≡ (Ok tt)
     unfolding add_checks
     add_accepted h e = sym (found_after (offered_checks b file) ok (skip (lt-ltb (count b) 64 h) (skip (ap is_gap e) end)))
 
   -- what an accepted addition says
   pub record Accepts : Type 0 where
     pub whole : valid b ≡ true
-    pub good : file_found file ≡ Accepted
+    pub good : file_found file ≡ (Ok tt)
     pub few : count b < 64
     pub index : ℕ
     pub start : ℕ
@@ -70,7 +70,7 @@ module _ (b file : List ℕ) where
   is_gap_lem (Starts i s) h = (i, s, refl)
   is_gap_lem Nowhere h = absurd (let z : ◌≡◌ {A = Bool} false true = h in let y : ◌≡◌ {A = ℕ} 0 1 = cc in omega arith)
 
-  pub accepts : first (add_checks b file) ≡ Accepted → Accepts
+  pub accepts : first (add_checks b file) ≡ (Ok tt) → Accepts
   unfolding add_checks
   accepts h =
       let ok = accepted_before (offered_checks b file) _ h in

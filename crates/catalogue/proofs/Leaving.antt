@@ -1,4 +1,5 @@
 -- What the writing calls leave: records that fit, so that the buffer is a valid catalogue with them. Assumes nothing.
+use Rattle.std.specs.Prelude.{Ok}
 use Prim.Native.Nat.{ℕ, suc, ◌+◌, ◌≤◌, ◌<◌}
 use mathlib.Core.Path.{◌≡◌, refl, sym, ap, ◌∙◌, subst}
 use mathlib.Core.Bool.{Bool, true, false}
@@ -11,7 +12,6 @@ use lib.Dec.{leb}
 use lib.ListN.{length, take, drop, length-append, take-append-drop}
 use lib.Seq.{split_at}
 use Rattle.refusals.specs.Table.{is_accepted}
-use Rattle.refusals.specs.declared.Checked.TheVariants.{Accepted}
 use Rattle.refusals.proofs.Checks.{passed}
 use Rattle.boxfile.specs.File.{file_checks, alone_checks, file_found}
 use Rattle.catalogue.specs.declared.Gap.{Gap}
@@ -24,7 +24,7 @@ use Rattle.catalogue.proofs.Bodies.{ends, fits_rest, fits_join, fits_lower}
 use Rattle.catalogue.proofs.Adding.{Accepts, gap_found}
 
 -- A file that is accepted has a byte.
-pub accepted_some : (file : List ℕ) → file_found file ≡ Accepted → 0 < length file
+pub accepted_some : (file : List ℕ) → file_found file ≡ (Ok tt) → 0 < length file
 unfolding file_found file_checks
 accepted_some file h = let t = leb-true 2 (length file) (passed (alone_checks file) h).0 in omega arith
 

@@ -1,4 +1,5 @@
 -- The gap that a file is put into is the lowest: its bytes are free, and so many free bytes lie nowhere lower. Assumes nothing.
+use Rattle.std.specs.Prelude.{Ok}
 use Prim.Native.Nat.{ℕ, zero, suc, ◌+◌, ◌-◌, ◌≤◌, ◌<◌}
 use mathlib.Core.Path.{◌≡◌, refl, sym, ap, ◌∙◌, subst}
 use mathlib.Core.Bool.{Bool, true, false}
@@ -10,7 +11,6 @@ use lib.Dec.{leb}
 use lib.ListN.{length, get_or, take, drop, length-drop}
 use lib.Seq.{get_or-drop}
 use Rattle.refusals.specs.Table.{first}
-use Rattle.refusals.specs.declared.Checked.TheVariants.{Accepted}
 use Rattle.refusals.proofs.Checks.{found, skip, end, is_accepted_lem}
 use Rattle.catalogue.specs.declared.Gap.{Gap}
 use Rattle.catalogue.specs.declared.Gap.TheVariants.{Starts, Nowhere}
@@ -159,7 +159,7 @@ gap_free b file t =
             omega (arith, w.0, s.0, same, fits_begin (t.start + length file) (length b) (drop g.before (records b)) g.room j n)
 
 -- Where a record is removed its bytes are free.
-pub removed_free : (b : List ℕ) (index : ℕ) → first (index_checks b index) ≡ Accepted
+pub removed_free : (b : List ℕ) (index : ℕ) → first (index_checks b index) ≡ (Ok tt)
     → Free (removed b index) (record_at b index).start (length (record_at b index).bytes)
 removed_free b index h =
     let i = indexed b index h in

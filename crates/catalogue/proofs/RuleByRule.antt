@@ -1,4 +1,5 @@
 -- The computing test holds exactly of the buffers that keep the rules. Assumes nothing.
+use Rattle.std.specs.Prelude.{Ok}
 use Prim.Native.Nat.{ℕ, zero, suc, ◌+◌, ◌-◌, ◌*◌, ◌≤◌, ◌<◌}
 use mathlib.Core.Path.{◌≡◌, refl, sym, ap, ◌∙◌, subst}
 use mathlib.Core.Logic.{◌↔◌}
@@ -17,7 +18,6 @@ use Rattle.boolean.specs.Functions.{at}
 use Rattle.boolean.proofs.Lists.{length_list_below, get_or_list_below}
 use Rattle.boolean.proofs.Every.{both_true}
 use Rattle.refusals.proofs.Bounds.{below_at, below_true}
-use Rattle.refusals.specs.declared.Checked.TheVariants.{Accepted}
 use Rattle.refusals.proofs.Checks.{is_accepted_lem}
 use Rattle.boxfile.specs.File.{file_found}
 use Rattle.catalogue.specs.Format.{Place, part, all_zero, accepted, count, place_at, places, stand, valid}
@@ -107,7 +107,7 @@ module _ (b : List ℕ) (h : valid b ≡ true) where
   ends_inside : (k : ℕ) → k < count b → offset b k + size b k ≤ length b
   ends_inside k l = subst (λ (p : Place). p.offset + p.size ≤ length b) (is k l) (stand_here b d 258 (places b) v.standing_all k (long k l)).0
 
-  file : (k : ℕ) → k < count b → file_found (part (offset b k) (size b k) b) ≡ Accepted
+  file : (k : ℕ) → k < count b → file_found (part (offset b k) (size b k) b) ≡ (Ok tt)
   unfolding accepted
   file k l = is_accepted_lem _ (subst (λ (p : Place). accepted (part p.offset p.size b) ≡ true) (is k l) (stand_here b d 258 (places b) v.standing_all k (long k l)).1)
 

@@ -1,4 +1,5 @@
 -- What a customer may rely on of a catalogue, from what a call's checks find. Assumes nothing.
+use Rattle.std.specs.Prelude.{Result, Ok, Err, ⊤}
 use Prim.Native.Nat.{ℕ, zero, suc, ◌+◌, ◌-◌, ◌≤◌, ◌<◌, zero-le}
 use mathlib.Core.Path.{◌≡◌, refl, sym, ap, ap₂, ◌∙◌, subst}
 use mathlib.Core.Bool.{Bool, true, false, ◌&&◌, true≢false}
@@ -17,8 +18,6 @@ use Rattle.boolean.proofs.Every.{both, both_true}
 use Rattle.refusals.specs.Table.{first, Box}
 use Rattle.refusals.specs.declared.Refusal.{Refusal}
 use Rattle.refusals.specs.declared.Refusal.TheVariants.{NoRoom}
-use Rattle.refusals.specs.declared.Checked.{Checked}
-use Rattle.refusals.specs.declared.Checked.TheVariants.{Accepted, Refused}
 use Rattle.refusals.proofs.Checks.{passed, found, skip, end, is_accepted_lem, after_accepted, after_refused}
 use Rattle.boxfile.specs.File.{file_found, file_rows}
 use Rattle.boxfile.proofs.FileRows.{box_of_file}
@@ -39,18 +38,18 @@ use Rattle.catalogue.proofs.LowestGap.{Reaches, free_reached, gap_free, removed_
 -- ---- Each accepted writing call leaves a valid catalogue, with exactly the records that its equation names.
 
 -- removing keeps the others in order
-pub removed_leaves : (b : List ℕ) (index : ℕ) → first (index_checks b index) ≡ Accepted → Holds (removed b index) (without index (records b))
+pub removed_leaves : (b : List ℕ) (index : ℕ) → first (index_checks b index) ≡ (Ok tt) → Holds (removed b index) (without index (records b))
 removed_leaves b index h = let i = indexed b index h in leaves_removed b i.whole index (cut_at b index i.below)
 
-pub added_leaves : (b file : List ℕ) → first (add_checks b file) ≡ Accepted → Holds (added b file) (added_at (gap_for b file) file (records b))
+pub added_leaves : (b file : List ℕ) → first (add_checks b file) ≡ (Ok tt) → Holds (added b file) (added_at (gap_for b file) file (records b))
 added_leaves b file h = leaves_added b file (accepts b file h)
 
-pub compacted_leaves : (b : List ℕ) → first (catalogue_checks b) ≡ Accepted → Holds (compacted b) (without_gaps 258 (records b))
+pub compacted_leaves : (b : List ℕ) → first (catalogue_checks b) ≡ (Ok tt) → Holds (compacted b) (without_gaps 258 (records b))
 unfolding catalogue_checks
 compacted_leaves b h = leaves_compacted b (passed (catalogue_checks b) h).0
 
 -- compaction keeps the files, and their order
-pub compacted_files : (b : List ℕ) → first (catalogue_checks b) ≡ Accepted → map (λ (r : Item). r.bytes) (records (compacted b)) ≡ map (λ (r : Item). r.bytes) (records b)
+pub compacted_files : (b : List ℕ) → first (catalogue_checks b) ≡ (Ok tt) → map (λ (r : Item). r.bytes) (records (compacted b)) ≡ map (λ (r : Item). r.bytes) (records b)
 compacted_files b h = ap (map (λ (r : Item). r.bytes)) (compacted_leaves b h).holds ∙ without_gaps_bytes 258 (records b)
 
 -- a buffer of zeros of an allowed length is a catalogue of no records: it is built from none
@@ -61,16 +60,16 @@ zeros_empty size low high =
     subst (λ (b : List ℕ). Holds b []) (replicate-append-replicate 258 (size - 258) 0 ∙ ap (λ (n : ℕ). replicate n 0) z) (leaves size [] zero-le low high)
 
 -- ---- Removing clears the record's bytes: they are in no record any more, and such bytes are zero.
-pub removed_clears : (b : List ℕ) (index : ℕ) → first (index_checks b index) ≡ Accepted
+pub removed_clears : (b : List ℕ) (index : ℕ) → first (index_checks b index) ≡ (Ok tt)
     → (i : ℕ) → (record_at b index).start ≤ i → i < (record_at b index).start + length (record_at b index).bytes → at (removed b index) i ≡ 0
 removed_clears b index h i low high =
     let free = removed_free b index h in
     (rules (removed b index) (removed_leaves b index h).whole).between i (omega (arith, free.above)) (omega (arith, free.inside)) (λ k l w. free.none k i l w low high)
 
 -- ---- The gap of a removed record serves again: an accepted file that is no longer than the record is added, and no higher than where the record lay.
-pub removed_serves : (b file : List ℕ) (index : ℕ) → first (index_checks b index) ≡ Accepted → file_found file ≡ Accepted
+pub removed_serves : (b file : List ℕ) (index : ℕ) → first (index_checks b index) ≡ (Ok tt) → file_found file ≡ (Ok tt)
     → length file ≤ length (record_at b index).bytes
-    → (first (add_checks (removed b index) file) ≡ Accepted) × (gap_start (gap_for (removed b index) file) ≤ (record_at b index).start)
+    → (first (add_checks (removed b index) file) ≡ (Ok tt)) × (gap_start (gap_for (removed b index) file) ≤ (record_at b index).start)
 removed_serves b file index h good short = by (gap_for (removed b index) file) refl
   where
     start : ℕ
@@ -88,7 +87,7 @@ removed_serves b file index h good short = by (gap_for (removed b index) file) r
         omega (arith, length_records (removed b index), ap length left.holds, fewer_left b i.whole index (cut_at b index i.below))
 
     by : (g : Gap) → gap_for (removed b index) file ≡ g
-        → (first (add_checks (removed b index) file) ≡ Accepted) × (gap_start (gap_for (removed b index) file) ≤ start)
+        → (first (add_checks (removed b index) file) ≡ (Ok tt)) × (gap_start (gap_for (removed b index) file) ≤ start)
     by (Starts i s) e = (
       add_accepted (removed b index) file (offered (removed b index) file left.whole good) room e,
       subst (λ (g : Gap). gap_start g ≤ start) (sym e) (subst (Reaches start) e reached),
@@ -97,11 +96,11 @@ removed_serves b file index h good short = by (gap_for (removed b index) file) r
 
 -- ---- Fetching hands back the part of the lent catalogue that the directory's place of that index names, not a copy; refused, an empty part.
 module _ (lent part : Bor (List ℕ)) (index : ℕ) (handed : Handed lent index part) where
-  pub fetched_part : first (index_checks lent.now index) ≡ Accepted → PartOf lent (item_at lent.now (place_at lent.now index)) part
+  pub fetched_part : first (index_checks lent.now index) ≡ (Ok tt) → PartOf lent (item_at lent.now (place_at lent.now index)) part
   fetched_part h =
       subst (λ (item : Item). PartOf lent item part) (sym (after_accepted h (record_at lent.now index) no_item) ∙ (indexed lent.now index h).is) handed
 
-  pub fetched_none : {e : Refusal} → first (index_checks lent.now index) ≡ Refused e → PartOf lent no_item part
+  pub fetched_none : {e : Refusal} → first (index_checks lent.now index) ≡ Err e → PartOf lent no_item part
   fetched_none h = subst (λ (item : Item). PartOf lent item part) (sym (after_refused h (record_at lent.now index) no_item)) handed
 
 -- ---- A fetched record is a box file that is accepted, and its box is one that every call takes.
@@ -111,19 +110,19 @@ fits_accepted pos size [] f k h = absurd (not-suc-le-zero h)
 fits_accepted pos size (r ∷ rs) f zero h = f.1
 fits_accepted pos size (r ∷ rs) f (suc k) h = fits_accepted (r.start + length r.bytes) size rs f.2 k (le_of_suc-le-suc h)
 
-pub fetched_accepted : (b : List ℕ) (index : ℕ) → first (index_checks b index) ≡ Accepted → file_found (record_at b index).bytes ≡ Accepted
+pub fetched_accepted : (b : List ℕ) (index : ℕ) → first (index_checks b index) ≡ (Ok tt) → file_found (record_at b index).bytes ≡ (Ok tt)
 unfolding record_at accepted
 fetched_accepted b index h =
     let i = indexed b index h in
     is_accepted_lem _ (fits_accepted 258 (length b) (records b) (records_fit b i.whole) index (omega (arith, length_records b, i.below)))
 
-pub fetched_box : (b : List ℕ) (index : ℕ) → first (index_checks b index) ≡ Accepted →
+pub fetched_box : (b : List ℕ) (index : ℕ) → first (index_checks b index) ≡ (Ok tt) →
     let file = (record_at b index).bytes in
     Box (at file 0) (at file 1) (file_rows file (at file 0))
 fetched_box b index h = box_of_file (record_at b index).bytes (fetched_accepted b index h)
 
 -- ---- Adding, where it is accepted.
-module _ (b file : List ℕ) (h : first (add_checks b file) ≡ Accepted) where
+module _ (b file : List ℕ) (h : first (add_checks b file) ≡ (Ok tt)) where
   t : Accepts b file
   t = accepts b file h
 
@@ -149,7 +148,7 @@ module _ (b file : List ℕ) (h : first (add_checks b file) ≡ Accepted) where
       ∙ ap (λ (s : ℕ). record { start = s; bytes = file }) (sym (ap gap_start t.gap))
 
   -- and that index is one that the catalogue has
-  pub added_fetched : first (index_checks (added b file) (gap_index (gap_for b file))) ≡ Accepted
+  pub added_fetched : first (index_checks (added b file) (gap_index (gap_for b file))) ≡ (Ok tt)
   unfolding index_checks
   added_fetched =
       let rs = records b in
@@ -185,7 +184,7 @@ module _ (b file : List ℕ) (h : first (add_checks b file) ≡ Accepted) where
   added_lowest p f = subst (λ (g : Gap). gap_start g ≤ p) (sym t.gap) (subst (Reaches p) t.gap (free_reached b t.whole file p (accepted_some file t.good) f))
 
 -- ---- 14, where the catalogue and the file are accepted: 64 records stand, or so many free bytes lie nowhere.
-pub no_room : (b file : List ℕ) → first (offered_checks b file) ≡ Accepted → first (add_checks b file) ≡ Refused NoRoom → (count b ≡ 64) ⊎ ((p : ℕ) → Free b p (length file) → ⊥)
+pub no_room : (b file : List ℕ) → first (offered_checks b file) ≡ (Ok tt) → first (add_checks b file) ≡ Err NoRoom → (count b ≡ 64) ⊎ ((p : ℕ) → Free b p (length file) → ⊥)
 no_room b file ok h = by (ltb (count b) 64) refl (gap_for b file) refl
   where
     by : (t : Bool) → ltb (count b) 64 ≡ t → (g : Gap) → gap_for b file ≡ g → (count b ≡ 64) ⊎ ((p : ℕ) → Free b p (length file) → ⊥)
@@ -195,7 +194,7 @@ no_room b file ok h = by (ltb (count b) 64) refl (gap_for b file) refl
     by true e Nowhere f = inr (λ p free. subst (Reaches p) f (free_reached b (offered_whole b file ok) file p (accepted_some file (offered_good b file ok)) free))
 
 -- ---- Right after compaction an accepted file is added exactly if fewer than 64 records stand and the free bytes in all are enough; else the answer is 14.
-pub add_after_compaction : (b file : List ℕ) → first (offered_checks b file) ≡ Accepted
+pub add_after_compaction : (b file : List ℕ) → first (offered_checks b file) ≡ (Ok tt)
     → first (add_checks (compacted b) file) ≡ room_found (ltb (count b) 64 && leb (258 + bytes_taken (records b) + length file) (length b))
 unfolding gap_for
 add_after_compaction b file ok = by (ltb (count b) 64) refl (lowest (length file) (length c) 0 258 (records c)) refl
@@ -209,7 +208,7 @@ add_after_compaction b file ok = by (ltb (count b) 64) refl (lowest (length file
     left : Holds c (without_gaps 258 (records b))
     left = leaves_compacted b whole
 
-    still : first (offered_checks c file) ≡ Accepted
+    still : first (offered_checks c file) ≡ (Ok tt)
     still = offered c file left.whole (offered_good b file ok)
 
     same_count : count c ≡ count b
@@ -230,29 +229,22 @@ add_after_compaction b file ok = by (ltb (count b) 64) refl (lowest (length file
         ∙ ap₂ (λ (x y : Bool). room_found (x && y)) (sym e) (sym (ap is_gap h) ∙ gap)
 
 -- ---- The same in words: "right after it, adding an accepted file fails only with 64 records or too few free bytes in all."
-room_iff : (t : Bool) → (room_found t ≡ Accepted) ↔ (t ≡ true)
+room_iff : (t : Bool) → (room_found t ≡ Ok tt) ↔ (t ≡ true)
 room_iff true = (λ h. refl, λ h. refl)
-room_iff false = (λ h. absurd (not_refused (sym h)), λ h. absurd (true≢false (sym h)))
-  where
-    is_accepted_lem : Checked → Bool
-    is_accepted_lem Accepted = true
-    is_accepted_lem (Refused e) = false
+room_iff false = (λ h. cc, λ h. cc)
 
-    not_refused : Accepted ≡ Refused NoRoom → ⊥
-    not_refused h = true≢false (ap is_accepted_lem h)
-
-room_or_none : (t : Bool) → (room_found t ≡ Accepted) ⊎ (room_found t ≡ Refused NoRoom)
+room_or_none : (t : Bool) → (room_found t ≡ (Ok tt)) ⊎ (room_found t ≡ Err NoRoom)
 room_or_none true = inl refl
 room_or_none false = inr refl
 
-pub added_after_compaction : (b file : List ℕ) → first (offered_checks b file) ≡ Accepted
-    → ((first (add_checks (compacted b) file) ≡ Accepted) ↔ ((count b < 64) × (258 + bytes_taken (records b) + length file ≤ length b)))
-    × ((first (add_checks (compacted b) file) ≡ Accepted) ⊎ (first (add_checks (compacted b) file) ≡ Refused NoRoom))
+pub added_after_compaction : (b file : List ℕ) → first (offered_checks b file) ≡ (Ok tt)
+    → ((first (add_checks (compacted b) file) ≡ (Ok tt)) ↔ ((count b < 64) × (258 + bytes_taken (records b) + length file ≤ length b)))
+    × ((first (add_checks (compacted b) file) ≡ (Ok tt)) ⊎ (first (add_checks (compacted b) file) ≡ Err NoRoom))
 added_after_compaction b file ok =
     let few = ltb (count b) 64 in
     let room = leb (258 + bytes_taken (records b) + length file) (length b) in
-    subst (λ (k : Checked). ((k ≡ Accepted) ↔ ((count b < 64) × (258 + bytes_taken (records b) + length file ≤ length b))) ×
-    ((k ≡ Accepted) ⊎ (k ≡ Refused NoRoom)))
+    subst (λ (k : Result ⊤ Refusal). ((k ≡ (Ok tt)) ↔ ((count b < 64) × (258 + bytes_taken (records b) + length file ≤ length b))) ×
+    ((k ≡ (Ok tt)) ⊎ (k ≡ Err NoRoom)))
     (sym (add_after_compaction b file ok)) (
       (
         λ h. let t = both few room ((room_iff (few && room)).0 h) in (ltb-true (count b) 64 t.0, leb-true _ (length b) t.1),

@@ -1,26 +1,25 @@
 -- What the calls on a catalogue reply, and what they leave.
+use Rattle.catalogue.specs.declared.Extent.{Extent}
+use Rattle.std.specs.Prelude.{Ok, Err}
+use Rattle.std.specs.Prelude.{Result, ⊤}
+use Rattle.refusals.specs.declared.Refusal.{Refusal}
 use Rattle.std.specs.Prelude.{ℕ, ◌+◌, ◌≡◌, Bool, true, false, List, [], ◌∷◌, ◌++◌, ltb, leb, get_or, length, take, drop}
 use Rattle.std.specs.Borrow.{Bor}
 use Rattle.refusals.specs.Table.{Check, ◌unless◌, first, Reply, figures, refusal, number, reply_after, after, Wrote, said_written}
 use Rattle.refusals.specs.declared.Refusal.TheVariants.{Catalogue, NoRoom, NoRecord}
-use Rattle.refusals.specs.declared.Written.{Written}
 use Rattle.boxfile.specs.File.{file_checks, alone_checks}
 use Rattle.catalogue.specs.declared.Gap.{Gap}
 use Rattle.catalogue.specs.declared.Gap.TheVariants.{Starts, Nowhere}
-use Rattle.catalogue.specs.declared.Told.{Told}
-use Rattle.catalogue.specs.declared.Told.TheVariants.{Number, Declined}
-use Rattle.catalogue.specs.declared.Fetched.{Fetched}
-use Rattle.catalogue.specs.declared.Fetched.TheVariants.{Lies, Unfetched}
 use Rattle.catalogue.specs.Format.{Item, count, records, valid, build, records_start}
 
 -- what the answers say: one number, or where a record lies and its length; or the number of the refusal
-abbrev pub said_told : Told → Reply
-said_told (Number n) = figures (n ∷ [])
-said_told (Declined e) = refusal (number e)
+abbrev pub said_told : Result ℕ Refusal → Reply
+said_told (Ok n) = figures (n ∷ [])
+said_told (Err e) = refusal (number e)
 
-abbrev pub said_fetched : Fetched → Reply
-said_fetched (Lies offset size) = figures (offset ∷ size ∷ [])
-said_fetched (Unfetched e) = refusal (number e)
+abbrev pub said_fetched : Result Extent Refusal → Reply
+said_fetched (Ok extent) = figures (extent.offset ∷ extent.size ∷ [])
+said_fetched (Err e) = refusal (number e)
 
 -- the check of a catalogue, which every call makes first
 unfoldable pub catalogue_checks : List ℕ → List Check
@@ -67,7 +66,7 @@ abbrev pub removed : (b : List ℕ) (index : ℕ) → List ℕ
 removed b index = build (length b) (without index (records b))
 
 -- the outcome of a call of `catalogue::remove`
-abbrev pub RemoveCalled : (b : List ℕ) (index : ℕ) (answer : Written) (left : List ℕ) → Type 0
+abbrev pub RemoveCalled : (b : List ℕ) (index : ℕ) (answer : Result ⊤ Refusal) (left : List ℕ) → Type 0
 RemoveCalled b index answer left = Wrote (index_checks b index) [] (removed b index) b (said_written answer) left
 
 -- Adding. The lowest gap of `need` bytes, from a position on: the gap before the next record, or else one behind it; k is that record's
@@ -111,7 +110,7 @@ abbrev pub added : (b file : List ℕ) → List ℕ
 added b file = build (length b) (added_at (gap_for b file) file (records b))
 
 -- the outcome of a call of `catalogue::add`: the new record's index, and the catalogue with it
-abbrev pub AddCalled : (b file : List ℕ) (answer : Told) (left : List ℕ) → Type 0
+abbrev pub AddCalled : (b file : List ℕ) (answer : Result ℕ Refusal) (left : List ℕ) → Type 0
 AddCalled b file answer left = Wrote (add_checks b file) (gap_index (gap_for b file) ∷ []) (added b file) b (said_told answer) left
 
 -- Compacting: the records from a position on, without gaps.
@@ -123,5 +122,5 @@ abbrev pub compacted : List ℕ → List ℕ
 compacted b = build (length b) (without_gaps records_start (records b))
 
 -- the outcome of a call of `catalogue::compact`
-abbrev pub CompactCalled : (b : List ℕ) (answer : Written) (left : List ℕ) → Type 0
+abbrev pub CompactCalled : (b : List ℕ) (answer : Result ⊤ Refusal) (left : List ℕ) → Type 0
 CompactCalled b answer left = Wrote (catalogue_checks b) [] (compacted b) b (said_written answer) left

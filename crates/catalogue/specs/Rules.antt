@@ -1,7 +1,7 @@
 -- Document 02 §7, the rules of a catalogue one by one. `valid` is the test that computes; it holds exactly of the buffers that keep these.
+use Rattle.std.specs.Prelude.{Ok}
 use Rattle.std.specs.Prelude.{ℕ, ◌+◌, ◌*◌, ◌≤◌, ◌<◌, ◌≡◌, List, length}
 use Rattle.boolean.specs.Functions.{at}
-use Rattle.refusals.specs.declared.Checked.TheVariants.{Accepted}
 use Rattle.boxfile.specs.File.{file_found}
 use Rattle.catalogue.specs.Format.{part, count, place_at}
 
@@ -26,7 +26,7 @@ pub record Rules (b : List ℕ) : Type 0 where
   -- the places in use are sorted by offset
   pub sorted : (j k : ℕ) → j < k → k < count b → offset b j ≤ offset b k
   -- each record is a box file that is accepted
-  pub files : (k : ℕ) → k < count b → file_found (part (offset b k) (size b k) b) ≡ Accepted
+  pub files : (k : ℕ) → k < count b → file_found (part (offset b k) (size b k) b) ≡ (Ok tt)
   -- records lie at 258 or above, and end inside the buffer
   pub above : (k : ℕ) → k < count b → 258 ≤ offset b k
   pub inside : (k : ℕ) → k < count b → offset b k + size b k ≤ length b

@@ -1,9 +1,9 @@
 -- What the theorems beside the contracts say; no contract needs it.
+use Rattle.std.specs.Prelude.{Result, Ok, Err, ⊤}
+use Rattle.refusals.specs.declared.Refusal.{Refusal}
 use Rattle.std.specs.Prelude.{ℕ, ◌+◌, ◌≤◌, ◌<◌, ◌≡◌, Bool, true, false, List, [], ◌∷◌, ◌++◌, length, replicate}
 use Rattle.boolean.specs.Functions.{at}
 use Rattle.refusals.specs.declared.Refusal.TheVariants.{NoRoom}
-use Rattle.refusals.specs.declared.Checked.{Checked}
-use Rattle.refusals.specs.declared.Checked.TheVariants.{Accepted, Refused}
 use Rattle.catalogue.specs.declared.Gap.{Gap}
 use Rattle.catalogue.specs.declared.Gap.TheVariants.{Starts, Nowhere}
 use Rattle.catalogue.specs.Format.{Item, accepted, count, records, valid, records_start}
@@ -40,9 +40,9 @@ bytes_taken [] = 0
 bytes_taken (r ∷ rs) = length r.bytes + bytes_taken rs
 
 -- what adding an accepted file finds right after compaction: room, or none
-abbrev pub room_found : Bool → Checked
-room_found true = Accepted
-room_found false = Refused NoRoom
+abbrev pub room_found : Bool → Result ⊤ Refusal
+room_found true = (Ok tt)
+room_found false = Err NoRoom
 
 -- ---- an example, byte by byte: in each place of the directory stand two numbers of which no two bytes are equal
 -- the file of a box with one input and one output, whose rows are 0 and 1: ten bytes

@@ -9,23 +9,16 @@ ghost use Rattle.catalogue.specs.Work.{place_from, slid_down, slid_up, closed, o
 ghost use Rattle.catalogue.specs.Calls.{said_told, said_fetched, check_reply, index_checks, Handed, fetch_reply, RemoveCalled};
 ghost use Rattle.catalogue.specs.Calls.{lowest, offered_checks, AddCalled, compacted, CompactCalled};
 
-use refusals::{Checked, Refusal, Written};
+use refusals::Refusal;
 
 // Where the first record may begin: behind the count and the directory of 64 places.
 const RECORDS_START: usize = 258;
 
-// The answer of a call that gives one number.
+// Where a record lies in the catalogue, and its length.
 #[derive(Clone, Copy)]
-pub enum Told {
-    Number(u32),
-    Declined(Refusal),
-}
-
-// The answer of the call that says where a record lies.
-#[derive(Clone, Copy)]
-pub enum Fetched {
-    Lies { offset: u32, size: u32 },
-    Unfetched(Refusal),
+pub struct Extent {
+    pub offset: u32,
+    pub size: u32,
 }
 
 // A gap between the records: the index that a record there has, and its start.
@@ -58,7 +51,7 @@ fn record_stands(b: &[u8], end: usize, offset: usize, size: usize) -> bool
     if !refusals::values_below(&b[end..offset], 1) {
         return false;
     }
-    if let Checked::Refused(_) = boxfile::check_alone(&b[offset..past]) {
+    if let Err(_) = boxfile::check_alone(&b[offset..past]) {
         return false;
     }
     true
@@ -105,49 +98,47 @@ fn is_valid(b: &[u8]) -> bool
 }
 
 // Checks a catalogue: the number of its records.
-pub fn check(catalogue: &[u8]) -> Told
+pub fn check(catalogue: &[u8]) -> Result<u32, Refusal>
     ensures { said_told result ≡ check_reply catalogue.now }
 {
     if !is_valid(catalogue) {
-        return Told::Declined(Refusal::Catalogue);
+        return Err(Refusal::Catalogue);
     }
-    Told::Number(word_at(catalogue, 0) as u32)
+    Ok(word_at(catalogue, 0) as u32)
 }
 
 // The checks of a call that names a record.
-fn check_index(b: &[u8], index: u32) -> Checked
+fn check_index(b: &[u8], index: u32) -> Result<(), Refusal>
     ensures { result ≡ first (index_checks b.now index) }
 {
     if !is_valid(b) {
-        return Checked::Refused(Refusal::Catalogue);
+        return Err(Refusal::Catalogue);
     }
     if word_at(b, 0) <= index as usize {
-        return Checked::Refused(Refusal::NoRecord);
+        return Err(Refusal::NoRecord);
     }
-    Checked::Accepted
+    Ok(())
 }
 
 // Where a record lies, its index from 0 in the directory's order.
-pub fn fetch_status(catalogue: &[u8], index: u32) -> Fetched
+pub fn fetch_status(catalogue: &[u8], index: u32) -> Result<Extent, Refusal>
     ensures { said_fetched result ≡ fetch_reply catalogue.now index }
 {
-    if let Checked::Refused(e) = check_index(catalogue, index) {
-        return Fetched::Unfetched(e);
-    }
+    check_index(catalogue, index)?;
     let k = index as usize;
     let offset = word_at(catalogue, 4 * k + 2);
     let size = word_at(catalogue, 4 * k + 4);
-    Fetched::Lies {
+    Ok(Extent {
         offset: offset as u32,
         size: size as u32,
-    }
+    })
 }
 
 // The part of the catalogue that is the record; the empty part at its start where the call is refused.
 pub fn fetch<'a>(catalogue: &'a [u8], index: u32) -> &'a [u8]
     ensures { Handed catalogue.entry index result }
 {
-    if let Checked::Refused(_) = check_index(catalogue, index) {
+    if let Err(_) = check_index(catalogue, index) {
         return &catalogue[0..0];
     }
     let k = index as usize;
@@ -244,19 +235,17 @@ fn open_place(b: &mut [u8], n: usize, k: usize, offset: usize, size: usize)
 }
 
 // Removes a record: its bytes are cleared and its place is taken out of the directory.
-pub fn remove(catalogue: &mut [u8], index: u32) -> Written
+pub fn remove(catalogue: &mut [u8], index: u32) -> Result<(), Refusal>
     ensures { RemoveCalled catalogue.old index result catalogue.new }
 {
-    if let Checked::Refused(e) = check_index(catalogue, index) {
-        return Written::Declined(e);
-    }
+    check_index(catalogue, index)?;
     let k = index as usize;
     let n = word_at(catalogue, 0);
     let offset = word_at(catalogue, 4 * k + 2);
     let size = word_at(catalogue, 4 * k + 4);
     clear(catalogue, offset, size);
     close_place(catalogue, n, k);
-    Written::Done
+    Ok(())
 }
 
 // The lowest gap that is long enough.
@@ -282,34 +271,32 @@ fn find_gap(b: &[u8], n: usize, need: usize) -> Gap
 }
 
 // The checks of a catalogue and of a file that is offered to it.
-pub fn check_offered(buffer: &[u8], file: &[u8]) -> Checked
+pub fn check_offered(buffer: &[u8], file: &[u8]) -> Result<(), Refusal>
     ensures { result ≡ first (offered_checks buffer.now file.now) }
 {
     if !is_valid(buffer) {
-        return Checked::Refused(Refusal::Catalogue);
+        return Err(Refusal::Catalogue);
     }
     boxfile::check_alone(file)
 }
 
 // Adds a box file at the start of the lowest gap that is long enough: its index is the answer.
-pub fn add(catalogue: &mut [u8], file: &[u8]) -> Told
+pub fn add(catalogue: &mut [u8], file: &[u8]) -> Result<u32, Refusal>
     ensures { AddCalled catalogue.old file.now result catalogue.new }
 {
-    if let Checked::Refused(e) = check_offered(catalogue, file) {
-        return Told::Declined(e);
-    }
+    check_offered(catalogue, file)?;
     let n = word_at(catalogue, 0);
     if 64 <= n {
-        return Told::Declined(Refusal::NoRoom);
+        return Err(Refusal::NoRoom);
     }
     let size = file.len();
     let gap = find_gap(catalogue, n, size);
     let Gap::Starts { index, start } = gap else {
-        return Told::Declined(Refusal::NoRoom);
+        return Err(Refusal::NoRoom);
     };
     open_place(catalogue, n, index, start, size);
     copy_in(catalogue, start, file);
-    Told::Number(index as u32)
+    Ok(index as u32)
 }
 
 // Moves the records down to start at 258 without gaps.
@@ -330,13 +317,13 @@ fn pack(b: &mut [u8], n: usize)
 }
 
 // Compacts a catalogue: the records start at 258 without gaps, their order and bytes the same.
-pub fn compact(catalogue: &mut [u8]) -> Written
+pub fn compact(catalogue: &mut [u8]) -> Result<(), Refusal>
     ensures { CompactCalled catalogue.old result catalogue.new }
 {
     if !is_valid(catalogue) {
-        return Written::Declined(Refusal::Catalogue);
+        return Err(Refusal::Catalogue);
     }
     let n = word_at(catalogue, 0);
     pack(catalogue, n);
-    Written::Done
+    Ok(())
 }

@@ -1,5 +1,6 @@
 -- One reply has one answer: no two answers of a call say the same. (Of the sum of boxes, whose answer has masks past the number given
 -- too, it is `one_answer` in rounds/proofs/Answers.) Assumes nothing.
+use Rattle.std.specs.Prelude.{Ok, Err}
 use Prim.Native.Nat.{ℕ}
 use mathlib.Core.Path.{◌≡◌, refl, sym, ap}
 use native.Mathlib.Omega.{arith}
@@ -7,9 +8,7 @@ use Rattle.refusals.proofs.Numbers.{number_one}
 use Rattle.refusals.proofs.Replies.{no_figures}
 use Rattle.claims.specs.Statements.{OneToOne}
 use Rattle.refusals.specs.Table.{said_written}
-use Rattle.refusals.specs.declared.Written.TheVariants as written
 use Rattle.refusals.specs.Table.{said_verdict}
-use Rattle.refusals.specs.declared.Verdict.TheVariants as verdict
 use Rattle.linear.specs.Calls.{said_least_pair}
 use Rattle.linear.specs.declared.LeastPair.TheVariants as least_pair
 use Rattle.differential.specs.Calls.{said_largest_cell}
@@ -36,21 +35,21 @@ use Rattle.server.specs.Calls.{said_asked}
 use Rattle.server.specs.declared.Asked.TheVariants as asked
 
 pub one_written : OneToOne said_written
-one_written written.Done written.Done h = refl
-one_written written.Done (written.Declined f) h = absurd (no_figures h)
-one_written (written.Declined e) written.Done h = absurd (no_figures (sym h))
-one_written (written.Declined e) (written.Declined f) h = ap written.Declined (number_one e f (cc))
+one_written (Ok tt) (Ok tt) h = refl
+one_written (Ok tt) (Err f) h = absurd (no_figures h)
+one_written (Err e) (Ok tt) h = absurd (no_figures (sym h))
+one_written (Err e) (Err f) h = ap Err (number_one e f (cc))
 
 pub one_verdict : OneToOne said_verdict
 one_verdict verdict.Yes verdict.Yes h = refl
 one_verdict verdict.Yes verdict.No h = let z : ◌≡◌ {A = ℕ} 0 1 = cc in absurd (omega arith)
-one_verdict verdict.Yes (verdict.Undecided f) h = absurd (no_figures h)
+one_verdict verdict.Yes (Err f) h = absurd (no_figures h)
 one_verdict verdict.No verdict.Yes h = let z : ◌≡◌ {A = ℕ} 0 1 = cc in absurd (omega arith)
 one_verdict verdict.No verdict.No h = refl
-one_verdict verdict.No (verdict.Undecided f) h = absurd (no_figures h)
-one_verdict (verdict.Undecided e) verdict.Yes h = absurd (no_figures (sym h))
-one_verdict (verdict.Undecided e) verdict.No h = absurd (no_figures (sym h))
-one_verdict (verdict.Undecided e) (verdict.Undecided f) h = ap verdict.Undecided (number_one e f (cc))
+one_verdict verdict.No (Err f) h = absurd (no_figures h)
+one_verdict (Err e) verdict.Yes h = absurd (no_figures (sym h))
+one_verdict (Err e) verdict.No h = absurd (no_figures (sym h))
+one_verdict (Err e) (Err f) h = ap Err (number_one e f (cc))
 
 pub one_least_pair : OneToOne said_least_pair
 one_least_pair (least_pair.Reached a b c d) (least_pair.Reached a' b' c' d') h = cc

@@ -1,6 +1,7 @@
 -- Document 02 §13: the dynamic distance of order (i, n) is 0 exactly when (2^n − 2d)² = 2^n, with d the nonlinearity within the limit i;
 -- and
 -- neither at an odd n.
+use Rattle.std.specs.Prelude.{Ok}
 use Prim.Native.Nat.{ℕ, ◌^◌}
 use mathlib.Core.Path.{◌≡◌, sym, ◌∙◌, subst}
 use mathlib.Core.Logic.Iff
@@ -12,7 +13,6 @@ use Rattle.boolean.specs.Selection.{shown}
 use Rattle.boolean.proofs.Components.{whole_within}
 use Rattle.boolean.proofs.Digits.{component_lt}
 use Rattle.refusals.specs.Table.{Box, first, figures}
-use Rattle.refusals.specs.declared.Checked.TheVariants.{Accepted}
 use Rattle.refusals.proofs.Checks.{box}
 use Rattle.refusals.proofs.Replies.{figures_accepted, same_figure}
 use Rattle.linear.specs.Nonlinearity.{nonlinearity_reply}
@@ -35,7 +35,7 @@ all_evenly_bent {n} {m} {rows} sound i =
 
 -- of a reply that has the distance e
 module _ (n m : ℕ) (rows : List ℕ) (i e d : ℕ) (v w : List ℕ) (told : distance_reply n m rows i n ≡ figures (e ∷ v)) where
-  accepted : first (distance_checks n m rows i n) ≡ Accepted
+  accepted : first (distance_checks n m rows i n) ≡ (Ok tt)
   accepted = (figures_accepted (first (distance_checks n m rows i n)) (shown (dynamic_distance n m rows i n)) told).0
 
   accepted_box : Box n m rows

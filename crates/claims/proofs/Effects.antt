@@ -1,6 +1,7 @@
 -- What an addition XORs to the rows of a box: its term where it is accepted, and else nothing. Whether it is accepted does not depend on
 -- the
 -- rows of the box, so the rows after a list are the rows XORed with the effects.
+use Rattle.std.specs.Prelude.{Result, Ok, Err, ⊤}
 use mathlib.Core.Path.{◌≡◌, refl, sym, ap, ◌∙◌}
 use mathlib.Core.Bool.{cond}
 use mathlib.Core.List.{List, [], ◌∷◌, ◌++◌}
@@ -15,8 +16,6 @@ use Rattle.boolean.specs.Bits.{affine}
 use Rattle.boolean.specs.Functions.{at}
 use Rattle.boolean.proofs.Xor.{xor_assoc}
 use Rattle.refusals.specs.Table.{Box, Check, ◌unless◌, in_range, first, box_checks, after, is_accepted}
-use Rattle.refusals.specs.declared.Checked.{Checked}
-use Rattle.refusals.specs.declared.Checked.TheVariants.{Accepted, Refused}
 use Rattle.refusals.specs.declared.Refusal.{Refusal}
 use Rattle.refusals.specs.declared.Refusal.TheVariants.{Parameter, WrittenLength}
 use Rattle.refusals.proofs.Bounds.{range_true}
@@ -34,7 +33,7 @@ own_checks n m a =
     ∷ []
 
 -- what the checks find on any box
-unfoldable pub own_checked : ℕ → ℕ → Addition → Checked
+unfoldable pub own_checked : ℕ → ℕ → Addition → Result ⊤ Refusal
 own_checked n m a = first (own_checks n m a)
 
 pub checked_own : {n m : ℕ} {rows : List ℕ} → Box n m rows → (a : Addition) → addition_checked n m rows a ≡ own_checked n m a
@@ -42,7 +41,7 @@ unfolding addition_checked addition_checks own_checked
 checked_own {n} {m} {rows} box a = first_append (box_checks n m rows) (own_checks n m a) (box_accepted n m rows box)
 
 -- they accept what fits
-pub own_accepted : {n m : ℕ} {a : Addition} → Fits n m a → own_checked n m a ≡ Accepted
+pub own_accepted : {n m : ℕ} {a : Addition} → Fits n m a → own_checked n m a ≡ (Ok tt)
 unfolding own_checked
 own_accepted {n} {m} {a} t =
     accepted (own_checks n m a) (
@@ -53,7 +52,7 @@ own_accepted {n} {m} {a} t =
       ),
     )
 
-pub fits_accepted : {n m : ℕ} {rows : List ℕ} → Box n m rows → {a : Addition} → Fits n m a → addition_checked n m rows a ≡ Accepted
+pub fits_accepted : {n m : ℕ} {rows : List ℕ} → Box n m rows → {a : Addition} → Fits n m a → addition_checked n m rows a ≡ (Ok tt)
 fits_accepted box {a} t = checked_own box a ∙ own_accepted t
 
 -- ---- what one addition XORs to the row at x: its affine function at its column
@@ -66,7 +65,7 @@ effect n m a x = cond (is_accepted (own_checked n m a)) (term a x) 0
 
 pub effect_fits : {n m : ℕ} {a : Addition} → Fits n m a → (x : ℕ) → effect n m a x ≡ term a x
 unfolding effect
-effect_fits {a = a} t x = ap (λ (k : Checked). cond (is_accepted k) (term a x) 0) (own_accepted t)
+effect_fits {a = a} t x = ap (λ (k : Result ⊤ Refusal). cond (is_accepted k) (term a x) 0) (own_accepted t)
 
 -- and of a list
 unfoldable pub effects : ℕ → ℕ → List Addition → ℕ → ℕ
@@ -86,11 +85,11 @@ pub row_standing : {n m : ℕ} {rows : List ℕ} → Box n m rows → (a : Addit
     → at (standing_rows n m rows a) x ≡ bit_xor (at rows x) (effect n m a x)
 unfolding standing_rows effect added_row
 row_standing {n} {m} {rows} box a x l =
-    ap (λ (k : Checked). at (after k (rows_with a rows) rows) x) (checked_own box a) ∙ go (own_checked n m a)
+    ap (λ (k : Result ⊤ Refusal). at (after k (rows_with a rows) rows) x) (checked_own box a) ∙ go (own_checked n m a)
   where
-    go : (k : Checked) → at (after k (rows_with a rows) rows) x ≡ bit_xor (at rows x) (cond (is_accepted k) (term a x) 0)
-    go Accepted = row_added a.column a.mask a.constant rows x (omega (arith, box.size))
-    go (Refused e) = sym (xor_zero_r (at rows x))
+    go : (k : Result ⊤ Refusal) → at (after k (rows_with a rows) rows) x ≡ bit_xor (at rows x) (cond (is_accepted k) (term a x) 0)
+    go (Ok tt) = row_added a.column a.mask a.constant rows x (omega (arith, box.size))
+    go (Err e) = sym (xor_zero_r (at rows x))
 
 pub after_keeps_box : {n m : ℕ} (list : List Addition) {rows : List ℕ} → Box n m rows → Box n m (rows_after_all n m rows list)
 unfolding rows_after_all
@@ -107,12 +106,12 @@ row_after {n} {m} (a ∷ list) {rows} box x l =
     ∙ xor_assoc (at rows x) (effect n m a x) (effects n m list x)
 
 -- on rows that are no box nothing is accepted
-pub no_box_after : (n m : ℕ) (rows : List ℕ) (list : List Addition) {e : Refusal} → first (box_checks n m rows) ≡ Refused e
+pub no_box_after : (n m : ℕ) (rows : List ℕ) (list : List Addition) {e : Refusal} → first (box_checks n m rows) ≡ Err e
     → rows_after_all n m rows list ≡ rows
 unfolding rows_after_all standing_rows addition_checked addition_checks
 no_box_after n m rows [] h = refl
 no_box_after n m rows (a ∷ list) h =
-    ap (λ (k : Checked). rows_after_all n m (after k (rows_with a rows) rows) list)
+    ap (λ (k : Result ⊤ Refusal). rows_after_all n m (after k (rows_with a rows) rows) list)
     (first_refused (box_checks n m rows) (own_checks n m a) h)
     ∙ no_box_after n m rows list h
 

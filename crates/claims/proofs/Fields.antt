@@ -1,5 +1,7 @@
 -- What stands in which field: of a design and of a server that calls made, of the text of a sheet, and of what a number says. Assumes
 -- nothing.
+use Rattle.std.specs.Prelude.{Result, Ok, Err, ⊤}
+use Rattle.refusals.specs.declared.Refusal.{Refusal}
 use Prim.Native.Nat.{ℕ, zero, suc, ◌+◌, ◌^◌, ◌≤◌}
 use mathlib.Core.Path.{◌≡◌, refl, sym, ap, ◌∙◌}
 use mathlib.Core.List.{List, [], ◌∷◌, ◌++◌, map}
@@ -8,8 +10,6 @@ use lib.ListN.{length, take, drop}
 use lib.Seq.{sets-eq}
 use Rattle.refusals.specs.Table.{Box, Check, first, Reply, figures, refusal, reply_after, after, box_checks}
 use Rattle.refusals.specs.Statements.{TableLine, Answers}
-use Rattle.refusals.specs.declared.Checked.{Checked}
-use Rattle.refusals.specs.declared.Checked.TheVariants.{Accepted, Refused}
 use Rattle.refusals.proofs.Checks.{box, after_accepted}
 use Rattle.refusals.proofs.FilledRows.{filled_rows}
 use Rattle.refusals.proofs.Replies.{no_figures, figures_accepted}
@@ -30,16 +30,16 @@ use Rattle.claims.proofs.Returning.{numbered}
 
 -- ---- a design
 -- the state that refused checks leave
-refused_after : {A : Type 0} (found : Checked) (given : List ℕ) (k : ℕ) → reply_after found given ≡ refusal k → (result old : A)
+refused_after : {A : Type 0} (found : Result ⊤ Refusal) (given : List ℕ) (k : ℕ) → reply_after found given ≡ refusal k → (result old : A)
     → after found result old ≡ old
-refused_after Accepted given k h result old = absurd (no_figures h)
-refused_after (Refused e) given k h result old = refl
+refused_after (Ok tt) given k h result old = absurd (no_figures h)
+refused_after (Err e) given k h result old = refl
 
 module _ (n m : ℕ) (rows : List ℕ) (said : Reply) (d : Design) (begun : DesignBegun n m rows said d) where
   pub begun_box : said ≡ figures [] → (d.n ≡ n) × (d.m ≡ m) × (take (2 ^ n) d.rows ≡ rows)
   unfolding begin new_design design_of
   begun_box done =
-      let accepted : first (box_checks n m rows) ≡ Accepted = (figures_accepted (first (box_checks n m rows)) [] (sym begun.reply ∙ done)).0 in
+      let accepted : first (box_checks n m rows) ≡ (Ok tt) = (figures_accepted (first (box_checks n m rows)) [] (sym begun.reply ∙ done)).0 in
       let e : d ≡ design_of (new_design n m rows) = begun.whole ∙ ap design_of (sym (after_accepted accepted (new_design n m rows) no_box)) in
       let b : Box n m rows = box n m rows [] accepted in
       (ap (λ (x : Design). x.n) e, ap (λ (x : Design). x.m) e, ap (λ (x : Design). take (2 ^ n) x.rows) e ∙ filled_rows n rows b.size)

@@ -3,6 +3,7 @@
 -- `avalanche::merge_changes` and `rounds::merge_sums` make one answer of the answers of two parts. A designer may cut 1 to 2^m − 1 as he likes, run the parts where and when he likes, some of them twice, and merge in
 -- any order: what comes out is the reply of the plain call, over every combination within its limit. It is document 01's "Combinations may
 -- be visited in any order without effect on any answer" of calls that each visit some of them.
+use Rattle.std.specs.Prelude.{Ok}
 use Prim.Native.Nat.{ℕ, ◌^◌, ◌≤◌, ◌<◌}
 use mathlib.Core.Path.{◌≡◌, refl}
 use mathlib.Core.Logic.{◌↔◌}
@@ -10,7 +11,6 @@ use mathlib.Core.Bool.{Bool, true}
 use mathlib.Core.List.{List, [], ◌∷◌, ◌++◌}
 use lib.Dec.{ltb}
 use Rattle.refusals.specs.Table.{Reply, figures, first}
-use Rattle.refusals.specs.declared.Checked.TheVariants.{Accepted}
 use Rattle.refusals.specs.Statements.{◌unless_that◌, Answers, Between, box_lines, limit_lines}
 use Rattle.refusals.proofs.Means.{answers}
 use lib.ListN.{length}
@@ -77,7 +77,7 @@ sum_nonlinearity_between_call count handed i low high = answers (sum_part_call c
 
 -- ---- [parts.2] What a part's figures are. Where a combination k within the limit lies in the part: the best of the combinations of the part, and the
 -- first witness that has it, "by c, fewest ones first, then by value" and on as in the plain call.
-module _ (n m : ℕ) (rows : List ℕ) (i low high : ℕ) (accepted : first (part_checks n m rows i low high) ≡ Accepted) where
+module _ (n m : ℕ) (rows : List ℕ) (i low high : ℕ) (accepted : first (part_checks n m rows i low high) ≡ (Ok tt)) where
   pub nonlinearity_of_part : (k : ℕ) → MaskBetween m i low high k → NonlinearityBetweenReported n m rows i low high
   nonlinearity_of_part = pair_reports.between_reported n m rows i low high accepted
 
@@ -92,7 +92,7 @@ module _ (n m : ℕ) (rows : List ℕ) (i low high : ℕ) (accepted : first (par
   autocorrelation_of_nothing = change_reports.autocorrelation_between_nothing n m rows i low high accepted
 
 -- [parts.2] the dynamic distance likewise
-module _ (n m : ℕ) (rows : List ℕ) (i j low high : ℕ) (accepted : first (distance_part_checks n m rows i j low high) ≡ Accepted) where
+module _ (n m : ℕ) (rows : List ℕ) (i j low high : ℕ) (accepted : first (distance_part_checks n m rows i j low high) ≡ (Ok tt)) where
   pub distance_of_part : (k : ℕ) → MaskBetween m i low high k → DistanceBetweenReported n m rows i j low high
   distance_of_part = change_reports.distance_between_reported n m rows i j low high accepted
 
@@ -101,7 +101,7 @@ module _ (n m : ℕ) (rows : List ℕ) (i j low high : ℕ) (accepted : first (d
   distance_of_nothing = change_reports.distance_between_nothing n m rows i j low high accepted
 
 -- [parts.2] and the sum
-module _ (count : ℕ) (handed : List Summand) (i low high : ℕ) (accepted : first (sum_part_checks count handed i low high) ≡ Accepted) where
+module _ (count : ℕ) (handed : List Summand) (i low high : ℕ) (accepted : first (sum_part_checks count handed i low high) ≡ (Ok tt)) where
   pub sum_of_part : (k : ℕ) → MaskBetween (outputs_of (first_given count handed)) i low high k → SumBetweenReported count handed i low high
   sum_of_part = sum_reports.between_reported count handed i low high accepted
 

@@ -1,4 +1,5 @@
 -- Demand 3: the bound, and what is reported again of the rows that stand after column additions.
+use Rattle.std.specs.Prelude.{Ok}
 use mathlib.Core.Path.{◌≡◌, refl, sym, ap, ap₂, ◌∙◌, subst}
 use mathlib.Core.Logic.{◌↔◌}
 use mathlib.Core.List.{List, [], ◌∷◌}
@@ -14,7 +15,6 @@ use Rattle.boolean.proofs.Digits.{bit_lt, affine_times, component_lt}
 use Rattle.boolean.proofs.Distances.{distance_cong, distance_shift}
 use Rattle.boolean.proofs.Xor.{xor_cancel}
 use Rattle.refusals.specs.Table.{Box, figures, first, limit_checks}
-use Rattle.refusals.specs.declared.Checked.TheVariants.{Accepted}
 use Rattle.refusals.proofs.Checks.{Limited, limited, limit_accepted, reply_accepted}
 use Rattle.refusals.proofs.Replies.{figures_accepted, same_figures}
 use Rattle.linear.specs.Nonlinearity.{nonlinearity, nonlinearity_reply}
@@ -74,7 +74,7 @@ standing_keeps_nonlinearity n m rows box a i i_low =
     (λ fits. addition_keeps_nonlinearity n m rows box a fits i i_low) refl
 
 -- the rows that stand after a list are accepted, and have the same nonlinearity
-additions_keep : (n m : ℕ) (rows : List ℕ) (i : ℕ) → first (limit_checks n m rows i) ≡ Accepted → (additions : List Addition)
+additions_keep : (n m : ℕ) (rows : List ℕ) (i : ℕ) → first (limit_checks n m rows i) ≡ (Ok tt) → (additions : List Addition)
     → ReportedAgain n m (rows_after_all n m rows additions) i (nonlinearity n m rows i).figure
 unfolding rows_after_all
 additions_keep n m rows i accepted [] =
@@ -96,7 +96,7 @@ additions_keep n m rows i accepted (a ∷ additions) =
 
 -- ---- of a reply that has the figure d
 module _ (n m : ℕ) (rows : List ℕ) (i d : ℕ) (witness : List ℕ) (reported : nonlinearity_reply n m rows i ≡ figures (d ∷ witness)) where
-  said : (first (limit_checks n m rows i) ≡ Accepted) × ((nonlinearity n m rows i).figure ≡ d)
+  said : (first (limit_checks n m rows i) ≡ (Ok tt)) × ((nonlinearity n m rows i).figure ≡ d)
   said = linear.figure_told n m rows i reported
 
   pub at_least : (c w b : ℕ) → IsPair n m i c w b → d ≤ distance n (component rows c) w b

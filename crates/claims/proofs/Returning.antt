@@ -1,5 +1,7 @@
 -- What an exported call returns and leaves, by the lines of its table: from its checks, or from what the call says that it wraps. Assumes
 -- nothing.
+use Rattle.std.specs.Prelude.{Result, Ok, Err, ⊤}
+use Rattle.refusals.specs.declared.Refusal.{Refusal}
 use Prim.Native.Nat.{ℕ, ◌-◌, ◌^◌, ◌≤◌, ◌<◌}
 use mathlib.Core.Path.{◌≡◌, refl, sym, ap, ◌∙◌, subst}
 use mathlib.Core.Logic.{◌⊎◌, inl, inr, ⊎_elim}
@@ -11,8 +13,6 @@ use lib.Dec.{eqb}
 use lib.ListN.{length, get_or}
 use Rattle.refusals.specs.Table.{Check, first, Reply, figures, refusal, number, reply_after, after, box_checks, limit_checks, Wrote}
 use Rattle.refusals.specs.Statements.{TableLine, ◌unless_that◌, FirstMet, NoneMet, Answers, Writes, Between, box_lines}
-use Rattle.refusals.specs.declared.Checked.{Checked}
-use Rattle.refusals.specs.declared.Checked.TheVariants.{Accepted, Refused}
 use Rattle.refusals.proofs.Means.{Means, end, line, append, accepted_by, answers, box_means, range, same, less, at_most}
 use Rattle.refusals.proofs.Replies.{no_figures}
 use Rattle.differential.specs.XorTable.{largest_cells}
@@ -51,21 +51,21 @@ pub check_box_out : (n m : ℕ) (rows : List ℕ) → ReturnsNumber (status (rep
 check_box_out n m rows = numbered (reply_after (first (box_checks n m rows)) []) [] _ _ (answers (calls.box_call 32 n m rows) []) refl
 
 -- whatever figures are said beside it
-status_any : (k : Checked) (given : List ℕ) → status (reply_after k []) ≡ status (reply_after k given)
+status_any : (k : Result ⊤ Refusal) (given : List ℕ) → status (reply_after k []) ≡ status (reply_after k given)
 unfolding status
-status_any Accepted given = refl
-status_any (Refused e) given = refl
+status_any (Ok tt) given = refl
+status_any (Err e) given = refl
 
 -- ---- an array, by the checks
 module _ {A : Type 0} {result old new : List A} {lines : List TableLine} where
-  leaves : (k : Checked) (given : List ℕ) {returned : ℕ} → Answers (reply_after k given) given lines → returned ≡ status (reply_after k given)
+  leaves : (k : Result ⊤ Refusal) (given : List ℕ) {returned : ℕ} → Answers (reply_after k given) given lines → returned ≡ status (reply_after k given)
       → new ≡ after k result old → Returns returned lines result old new
-  leaves Accepted given a e c = record {
+  leaves (Ok tt) given a e c = record {
     number = numbered (figures given) given lines _ a e;
     result_left = λ n. c;
     nothing_changed = λ k f. absurd (no_figures ((a.refused_exactly k).1 f));
   }
-  leaves (Refused r) given a e c = record {
+  leaves (Err r) given a e c = record {
     number = numbered (refusal (number r)) given lines _ a e;
     result_left = λ n. absurd (no_figures (sym (a.figures_exactly.1 n)));
     nothing_changed = λ k f. c;
@@ -219,10 +219,10 @@ five_in : (taken : Bool) (p : Place) → length (progress_figures (progress_in (
 five_in true p = five_shown (more (analysis_in p)) p
 five_in false p = refl
 
-five_asked : (k : Checked) (p : Place) → length (progress_figures (progress_after k (spot_in p))) ≡ 5
+five_asked : (k : Result ⊤ Refusal) (p : Place) → length (progress_figures (progress_after k (spot_in p))) ≡ 5
 unfolding spot_in
-five_asked Accepted p = five_in (eqb p.taken 1) p
-five_asked (Refused e) p = refl
+five_asked (Ok tt) p = five_in (eqb p.taken 1) p
+five_asked (Err e) p = refl
 
 five : (s : Server) (place : ℕ) (said : Progress) → ServerTold s place said → length (progress_figures said) ≡ 5
 unfolding ask
@@ -236,19 +236,19 @@ shown_in : (left : Bool) (a : Analysis) → progress_reply (progress_of left a.f
 shown_in true a = refl
 shown_in false a = refl
 
-shown_asked : (k : Checked) (x : Spot) → progress_reply (progress_after k x) ≡ reply_after k (progress_figures (progress_after k x))
-shown_asked Accepted empty = refl
-shown_asked Accepted (holds a) = shown_in (more a) a
-shown_asked (Refused e) empty = refl
-shown_asked (Refused e) (holds a) = refl
+shown_asked : (k : Result ⊤ Refusal) (x : Spot) → progress_reply (progress_after k x) ≡ reply_after k (progress_figures (progress_after k x))
+shown_asked (Ok tt) empty = refl
+shown_asked (Ok tt) (holds a) = shown_in (more a) a
+shown_asked (Err e) empty = refl
+shown_asked (Err e) (holds a) = refl
 
-other_figures : (k : Checked) (given : List ℕ) (lines : List TableLine) → Answers (reply_after k []) [] lines → Answers (reply_after k given) given lines
-other_figures Accepted given lines a = record {
+other_figures : (k : Result ⊤ Refusal) (given : List ℕ) (lines : List TableLine) → Answers (reply_after k []) [] lines → Answers (reply_after k given) given lines
+other_figures (Ok tt) given lines a = record {
   figures_exactly = (λ e. a.figures_exactly.0 refl, λ n. refl);
   refused_exactly = λ k. (λ e. absurd (no_figures e), λ f. absurd (no_figures ((a.refused_exactly k).1 f)));
   one_of_them = inl refl;
 }
-other_figures (Refused r) given lines a = record {
+other_figures (Err r) given lines a = record {
   figures_exactly = (λ e. absurd (no_figures (sym e)), λ n. absurd (no_figures (sym (a.figures_exactly.1 n))));
   refused_exactly = a.refused_exactly;
   one_of_them = inr (number r, refl);

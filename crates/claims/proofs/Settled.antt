@@ -1,5 +1,6 @@
 -- What is said of a figure and its witness settles both: one law, for the least and for the largest, and the order of each call's witnesses.
 -- Assumes nothing.
+use Rattle.std.specs.Prelude.{Ok}
 use Prim.Native.Nat.{ℕ, ◌^◌, ◌≤◌, ◌<◌}
 use mathlib.Core.Path.{◌≡◌, refl, sym, ap₂, ◌∙◌, subst}
 use mathlib.Core.Logic.{◌⊎◌, inl, inr, ⊎_elim}
@@ -10,7 +11,6 @@ use native.Mathlib.Omega.{arith}
 use lib.Count.{ones}
 use Rattle.boolean.specs.Functions.{MaskWithin, MaskBefore, component, degree, distance}
 use Rattle.refusals.specs.Table.{first, Reply, figures, box_checks, limit_checks}
-use Rattle.refusals.specs.declared.Checked.TheVariants.{Accepted}
 use Rattle.linear.specs.Nonlinearity.{nonlinearity_reply}
 use Rattle.linear.specs.Statements.{IsPair, PairBefore}
 use Rattle.linear.proofs.Theorems as linear
@@ -125,7 +125,7 @@ sums_apart ss p q f g =
 
 -- ---- the figures
 module _ (n m : ℕ) (rows : List ℕ) (i : ℕ) where
-  module _ (accepted : first (limit_checks n m rows i) ≡ Accepted) where
+  module _ (accepted : first (limit_checks n m rows i) ≡ (Ok tt)) where
     pub nonlinearity_settled : (d c w b : ℕ) → IsPair n m i c w b → distance n (component rows c) w b ≡ d
         → ((c' w' b' : ℕ) → IsPair n m i c' w' b' → d ≤ distance n (component rows c') w' b')
         → ((c' w' b' : ℕ) → IsPair n m i c' w' b' → PairBefore c' w' b' c w b → d < distance n (component rows c') w' b')
@@ -166,7 +166,7 @@ module _ (n m i j : ℕ) (figure : (c s : ℕ) → ℕ) (reply : Reply) (r : Lar
       r.reply
       (record { member = member; reached = reached; best = λ p. largest p.0 p.1; before = λ p. before p.0 p.1 })
 
-module _ (n m : ℕ) (rows : List ℕ) (accepted : first (box_checks n m rows) ≡ Accepted) where
+module _ (n m : ℕ) (rows : List ℕ) (accepted : first (box_checks n m rows) ≡ (Ok tt)) where
   pub xor_settled : (d a β : ℕ) → IsCell n m a β → cell n rows a β ≡ d → ((a' β' : ℕ) → IsCell n m a' β' → cell n rows a' β' ≤ d)
       → ((a' β' : ℕ) → IsCell n m a' β' → CellBefore a' β' a β → cell n rows a' β' < d) → largest_cell_reply n m rows ≡ figures (d ∷ a ∷ β ∷ [])
   xor_settled d a β member reached largest before =
@@ -178,7 +178,7 @@ module _ (n m : ℕ) (rows : List ℕ) (accepted : first (box_checks n m rows) �
       r.reply
       (record { member = member; reached = reached; best = λ p. largest p.0 p.1; before = λ p. before p.0 p.1 })
 
-module _ (count : ℕ) (handed : List Summand) (i : ℕ) (accepted : first (sum_checks count handed i) ≡ Accepted) where
+module _ (count : ℕ) (handed : List Summand) (i : ℕ) (accepted : first (sum_checks count handed i) ≡ (Ok tt)) where
   pub sum_settled : let ss = first_given count handed in
       (d c : ℕ) (ws : List ℕ) (b : ℕ) → IsSumPair ss i c ws b → sum_distance ss c (joined ss ws) b ≡ d
       → ((c' : ℕ) (ws' : List ℕ) (b' : ℕ) → IsSumPair ss i c' ws' b' → d ≤ sum_distance ss c' (joined ss ws') b')

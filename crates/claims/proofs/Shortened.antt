@@ -1,6 +1,8 @@
 -- Document 02 §12, sentence by sentence: two additions to one column are one, an addition made twice restores the box, any may be
 -- exchanged, and
 -- a list equals one with at most one addition for each column.
+use Rattle.std.specs.Prelude.{Result, Ok, Err, ⊤}
+use Rattle.refusals.specs.declared.Refusal.{Refusal}
 use mathlib.Core.Path.{◌≡◌, refl, sym, ap, ap₂, ◌∙◌, subst}
 use mathlib.Core.Bool.{Bool, true, false, not, cond, false≢true}
 use mathlib.Core.List.{List, [], ◌∷◌, ◌++◌, Memᴰ}
@@ -15,8 +17,6 @@ use Rattle.boolean.proofs.Kept.{each_cong, keep_takes, keep_drops, mem_keep}
 use Rattle.boolean.proofs.Lists.{mem_list_from}
 use Rattle.boolean.proofs.Xor.{xor_left_comm}
 use Rattle.refusals.specs.Table.{Box, first, box_checks, is_accepted}
-use Rattle.refusals.specs.declared.Checked.{Checked}
-use Rattle.refusals.specs.declared.Checked.TheVariants.{Accepted, Refused}
 use Rattle.refusals.proofs.Checks.{box}
 use Rattle.columns.specs.Addition.{Addition, addition_checked, standing_rows, rows_after_all}
 use Rattle.columns.proofs.Accepted.{accepts}
@@ -30,13 +30,13 @@ use Rattle.claims.proofs.Merging.{refused_effect, nothing_effect}
 use Rattle.claims.proofs.Shorter.{short, column_once, ascending_columns, no_longer}
 
 -- the rows of an accepted addition are a box
-accepted_sound : (n m : ℕ) (rows : List ℕ) (a : Addition) → addition_checked n m rows a ≡ Accepted → Box n m rows
+accepted_sound : (n m : ℕ) (rows : List ℕ) (a : Addition) → addition_checked n m rows a ≡ (Ok tt) → Box n m rows
 unfolding addition_checked
 accepted_sound n m rows a h = (accepts n m rows a.column a.mask a.constant (length a.lent) h).sound
 
 -- ---- two additions to one column, each accepted when its turn comes
 module _ (n m : ℕ) (rows : List ℕ) (a b : Addition)
-    (first_accepted : addition_checked n m rows a ≡ Accepted) (second_accepted : addition_checked n m (standing_rows n m rows a) b ≡ Accepted)
+    (first_accepted : addition_checked n m rows a ≡ (Ok tt)) (second_accepted : addition_checked n m (standing_rows n m rows a) b ≡ (Ok tt))
     (one_column : a.column ≡ b.column) where
   sound : Box n m rows
   sound = accepted_sound n m rows a first_accepted
@@ -59,7 +59,7 @@ module _ (n m : ℕ) (rows : List ℕ) (a b : Addition)
       ∙ together_term a b x one_column))
 
   -- which is accepted too
-  pub together_accepted : addition_checked n m rows (together a b) ≡ Accepted
+  pub together_accepted : addition_checked n m rows (together a b) ≡ (Ok tt)
   together_accepted = fits_accepted sound (together_fits fits_a fits_b)
 
   -- "an accepted addition made twice restores the box", whatever the two arrays that it is lent hold
@@ -86,7 +86,7 @@ accepted_own [] box = refl
 accepted_own {n} {m} (a ∷ list) {rows} box =
     ap (λ (rest : List Addition). cond (is_accepted (addition_checked n m rows a)) (a ∷ rest) rest)
     (accepted_own list (standing_keeps_box n m rows box a))
-    ∙ ap (λ (k : Checked). cond (is_accepted k) (a ∷ keep own list) (keep own list)) (checked_own box a)
+    ∙ ap (λ (k : Result ⊤ Refusal). cond (is_accepted k) (a ∷ keep own list) (keep own list)) (checked_own box a)
     ∙ go (own a) refl
   where
     own : Addition → Bool
@@ -97,13 +97,13 @@ accepted_own {n} {m} (a ∷ list) {rows} box =
     go false e = sym (keep_drops own a list e)
 
 -- so one that is accepted is accepted again, and restores the box
-pub made_twice : (n m : ℕ) (rows : List ℕ) (a : Addition) → addition_checked n m rows a ≡ Accepted
+pub made_twice : (n m : ℕ) (rows : List ℕ) (a : Addition) → addition_checked n m rows a ≡ (Ok tt)
     → rows_after_all n m rows (a ∷ a ∷ []) ≡ rows
 made_twice n m rows a h =
     twice_restores n m rows a a h (still_accepted n m rows a a (accepted_sound n m rows a h) ∙ h) refl refl refl
 
 -- ---- lists of additions to an accepted box
-module _ (n m : ℕ) (rows : List ℕ) (accepted : first (box_checks n m rows) ≡ Accepted) where
+module _ (n m : ℕ) (rows : List ℕ) (accepted : first (box_checks n m rows) ≡ (Ok tt)) where
   accepted_box : Box n m rows
   accepted_box = box n m rows [] accepted
 
@@ -121,7 +121,7 @@ module _ (n m : ℕ) (rows : List ℕ) (accepted : first (box_checks n m rows) �
   unfolding keep
   accepted_in_turn list =
       accepted_own list accepted_box
-      ∙ each_cong list _ _ (λ a. ap (λ (k : Checked). elim (is_accepted k) [ true ↦ a ∷ [] | false ↦ [] ])
+      ∙ each_cong list _ _ (λ a. ap (λ (k : Result ⊤ Refusal). elim (is_accepted k) [ true ↦ a ∷ [] | false ↦ [] ])
       (sym (checked_own accepted_box a)))
 
   list_fits : (list : List Addition) → AllFit n m (accepted_only n m rows list)
@@ -129,9 +129,9 @@ module _ (n m : ℕ) (rows : List ℕ) (accepted : first (box_checks n m rows) �
       let t = subst (λ (l : List Addition). Memᴰ a l) (accepted_in_turn list) k in
       accepted_fits n m rows a (yes (addition_checked n m rows a) (mem_keep (λ a. is_accepted (addition_checked n m rows a)) list a t).1)
     where
-      yes : (k : Checked) → is_accepted k ≡ true → k ≡ Accepted
-      yes Accepted e = refl
-      yes (Refused r) e = absurd (false≢true e)
+      yes : (k : Result ⊤ Refusal) → is_accepted k ≡ true → k ≡ (Ok tt)
+      yes (Ok tt) e = refl
+      yes (Err r) e = absurd (false≢true e)
 
   accepted_effects : (list : List Addition) (x : ℕ) → effects n m (accepted_only n m rows list) x ≡ effects n m list x
   accepted_effects list x =
@@ -165,7 +165,7 @@ module _ (n m : ℕ) (rows : List ℕ) (accepted : first (box_checks n m rows) �
     short_once j = column_once j (short m lent kept) (ascending_columns m lent kept)
 
     -- none is refused
-    short_accepted : (a : Addition) → Memᴰ a (shortened n m rows lent list) → addition_checked n m rows a ≡ Accepted
+    short_accepted : (a : Addition) → Memᴰ a (shortened n m rows lent list) → addition_checked n m rows a ≡ (Ok tt)
     unfolding shortened one_for_each
     short_accepted a k =
         let t = mem_list_from 1 m (merged lent kept) a (mem_keep (λ a. not (adds_nothing a)) (one_for_each m lent kept) a k).0 in

@@ -1,5 +1,6 @@
 -- What settles definitions that every other statement takes as they are: the bytes of a catalogue and of packed columns, which histories a
 -- theorem on histories speaks of, and what one call of a server does in numbers.
+use Rattle.std.specs.Prelude.{Ok, Err}
 use Prim.Native.Nat.{ℕ, ◌+◌, ◌-◌, ◌*◌, ◌/◌, ◌%◌, ◌^◌, ◌≤◌, ◌<◌}
 use mathlib.Core.Path.{◌≡◌, refl}
 use mathlib.Core.Logic.{◌⊎◌, ◌↔◌}
@@ -28,8 +29,6 @@ use lib.ListN.{length, take, drop, replicate}
 use Rattle.refusals.specs.Table.{Reply, refusal, number, said_written, said_verdict}
 use Rattle.refusals.specs.Statements.{TableLine, Answers}
 use Rattle.refusals.specs.declared.Refusal.{Refusal}
-use Rattle.refusals.specs.declared.Written.TheVariants as written
-use Rattle.refusals.specs.declared.Verdict.TheVariants as verdict
 use Rattle.linear.specs.Calls.{said_least_pair}
 use Rattle.linear.specs.declared.LeastPair.TheVariants as least_pair
 use Rattle.differential.specs.Calls.{said_largest_cell, said_cell_list}
@@ -191,7 +190,7 @@ sheet_at_start file old new answer w long = (w.size, w.inside, fields.sheet_writ
 
 -- [01.forms.10] what each answer says, its fields in the order of its declaration: yes is 1 and no is 0, and a figure comes before its witness
 pub answers_say : (d a c w b s : ℕ) (e : Refusal)
-    → ((said_written written.Done ≡ figures []) × (said_written (written.Declined e) ≡ refusal (number e)))
+    → ((said_written (Ok tt) ≡ figures []) × (said_written (Err e) ≡ refusal (number e)))
     × ((said_verdict verdict.Yes ≡ figures (1 ∷ [])) × (said_verdict verdict.No ≡ figures (0 ∷ [])))
     × (said_least_pair (least_pair.Reached d c w b) ≡ figures (d ∷ c ∷ w ∷ b ∷ []))
     × (said_largest_cell (largest_cell.Reached d a b) ≡ figures (d ∷ a ∷ b ∷ []))

@@ -1,5 +1,7 @@
 -- Document 02 §12: no list of column additions changes the figure or the witness of the autocorrelation within any limit, or of any dynamic
 -- distance. The whole replies are equal, of refused boxes and limits too.
+use Rattle.std.specs.Prelude.{Result, Ok, Err, ⊤}
+use Rattle.refusals.specs.declared.Refusal.{Refusal}
 use mathlib.Core.Path.{◌≡◌, refl, sym, ap, ap₂, ◌∙◌, subst}
 use mathlib.Core.List.{List, [], ◌∷◌, ◌++◌}
 use Prim.Native.Nat.{ℕ, ◌*◌, ◌^◌, ◌<◌, ◌≤◌}
@@ -12,8 +14,6 @@ use Rattle.boolean.specs.Selection.{Candidate, first_largest, shown}
 use Rattle.boolean.proofs.Correlation.{correlation_half, correlation_cong, correlation_size}
 use Rattle.boolean.proofs.Digits.{affine_times, bit_lt, component_lt}
 use Rattle.refusals.specs.Table.{Box, Check, first, box_checks, limit_checks, reply_after}
-use Rattle.refusals.specs.declared.Checked.{Checked}
-use Rattle.refusals.specs.declared.Checked.TheVariants.{Accepted, Refused}
 use Rattle.refusals.proofs.Checks.{box, box_accepted, first_append}
 use Rattle.columns.specs.Addition.{Addition, rows_after_all}
 use Rattle.columns.proofs.Additions.{Fits, rows_with, component_added, times_lt, standing_cases, standing_keeps_box}
@@ -82,9 +82,9 @@ by_box : (n m : ℕ) (rows : List ℕ) (list : List Addition) (P : List ℕ → 
     → P (rows_after_all n m rows list)
 by_box n m rows list P p q = go (first (box_checks n m rows)) refl
   where
-    go : (k : Checked) → first (box_checks n m rows) ≡ k → P (rows_after_all n m rows list)
-    go Accepted e = p (box n m rows [] e)
-    go (Refused r) e = subst P (sym (no_box_after n m rows list e)) q
+    go : (k : Result ⊤ Refusal) → first (box_checks n m rows) ≡ k → P (rows_after_all n m rows list)
+    go (Ok tt) e = p (box n m rows [] e)
+    go (Err r) e = subst P (sym (no_box_after n m rows list e)) q
 
 module _ (n m : ℕ) (rows : List ℕ) (list : List Addition) where
   -- "no list changes the figure or witness of the autocorrelation within any limit,"
@@ -92,11 +92,11 @@ module _ (n m : ℕ) (rows : List ℕ) (list : List Addition) where
   unfolding limit_checks
   autocorrelation_reply_kept i =
       by_box n m rows list (λ r. autocorrelation_reply n m r i ≡ autocorrelation_reply n m rows i)
-      (λ b. ap₂ (λ (k : Checked) (p : Candidate). reply_after k (shown p)) (checks_kept b list _) (autocorrelation_kept b list i)) refl
+      (λ b. ap₂ (λ (k : Result ⊤ Refusal) (p : Candidate). reply_after k (shown p)) (checks_kept b list _) (autocorrelation_kept b list i)) refl
 
   -- "or of any dynamic distance"
   pub distance_reply_kept : (i j : ℕ) → distance_reply n m (rows_after_all n m rows list) i j ≡ distance_reply n m rows i j
   unfolding distance_checks
   distance_reply_kept i j =
       by_box n m rows list (λ r. distance_reply n m r i j ≡ distance_reply n m rows i j)
-      (λ b. ap₂ (λ (k : Checked) (p : Candidate). reply_after k (shown p)) (checks_kept b list _) (distance_kept b list i j)) refl
+      (λ b. ap₂ (λ (k : Result ⊤ Refusal) (p : Candidate). reply_after k (shown p)) (checks_kept b list _) (distance_kept b list i j)) refl

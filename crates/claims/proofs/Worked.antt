@@ -1,4 +1,5 @@
 -- Document 01, "Each bound from both sides, and proved cases", with the limits and the later calls of document 02.
+use Rattle.std.specs.Prelude.{Err}
 use Prim.Native.Nat.{ℕ, ◌^◌, ◌<◌}
 use mathlib.Core.Path.{◌≡◌}
 use mathlib.Core.List.{List}
@@ -6,7 +7,6 @@ use lib.ListN.{length}
 use Rattle.boolean.specs.Functions.{at}
 use Rattle.refusals.specs.Table.{first, box_checks}
 use Rattle.refusals.specs.declared.Refusal.TheVariants.{Value}
-use Rattle.refusals.specs.declared.Checked.TheVariants.{Refused}
 use Rattle.refusals.proofs.Theorems.{thirty_two_outputs}
 use Rattle.claims.specs.Outcomes.{Right}
 use Rattle.claims.specs.Worked.{worked_table}
@@ -20,5 +20,5 @@ worked = computed.table_right
 
 -- [01.bounds.2] "at m = 16 (since 02 §2 at m = 32) no row can give 4"
 pub widest_rows_fit : (n : ℕ) (rows : List ℕ) → ((x : ℕ) → x < length rows → at rows x < 2 ^ 32)
-    → ¬ (first (box_checks n 32 rows) ≡ Refused Value)
+    → ¬ (first (box_checks n 32 rows) ≡ Err Value)
 widest_rows_fit = thirty_two_outputs

@@ -1,11 +1,10 @@
 -- Document 02 §12: a list of column additions made shorter. Its refused additions are dropped, and those to one column are taken together.
+use Rattle.std.specs.Prelude.{Ok}
 use Rattle.std.specs.Prelude.{ℕ, ◌≤◌, ◌≡◌, Bool, true, false, not, cond, ◌&&◌, eqb, length}
 use mathlib.Core.List.{List, [], ◌∷◌, Memᴰ}
 use Rattle.std.specs.Int.Bits.{bit_xor}
 use Rattle.refusals.specs.Table.{is_accepted}
 use Rattle.boolean.specs.Sums.{keep, list_from}
-use Rattle.refusals.specs.declared.Checked.{Checked}
-use Rattle.refusals.specs.declared.Checked.TheVariants.{Accepted, Refused}
 use Rattle.columns.specs.Addition.{Addition, addition_checked, standing_rows, rows_after_all}
 
 -- two additions to one column as one: its mask and its constant are the XORs of theirs
@@ -64,5 +63,5 @@ pub record Shortens (n m : ℕ) (rows : List ℕ) (list short : List Addition) :
   pub refused_dropped : rows_after_all n m rows list ≡ rows_after_all n m rows (accepted_only n m rows list)
   pub same_rows : rows_after_all n m rows list ≡ rows_after_all n m rows short
   pub once : (j : ℕ) → length (to_column j short) ≤ 1
-  pub accepted : (a : Addition) → Memᴰ a short → addition_checked n m rows a ≡ Accepted
+  pub accepted : (a : Addition) → Memᴰ a short → addition_checked n m rows a ≡ (Ok tt)
   pub no_longer : length short ≤ length (accepted_only n m rows list)

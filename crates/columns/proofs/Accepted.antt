@@ -1,5 +1,6 @@
 -- What the checks of an addition say where they accept it.
 -- Assumes nothing.
+use Rattle.std.specs.Prelude.{Ok}
 use Prim.Native.Nat.{ℕ, ◌^◌, ◌≤◌, ◌<◌}
 use mathlib.Core.Path.{◌≡◌, sym, ◌∙◌}
 use mathlib.Core.List.{List}
@@ -7,7 +8,6 @@ use native.Mathlib.Nat.{le_trans}
 use borrow.Author.Tests.{eqb-true, ltb-true}
 use lib.ListN.{length}
 use Rattle.refusals.specs.Table.{first, Box, box_checks}
-use Rattle.refusals.specs.declared.Checked.TheVariants.{Accepted}
 use Rattle.refusals.proofs.Bounds.{range_low, range_high}
 use Rattle.refusals.proofs.Checks.{box, passed, accepted_after}
 use Rattle.columns.specs.Addition.{addition_checks}
@@ -22,7 +22,7 @@ pub record Accepts (n m : ℕ) (rows : List ℕ) (j w b room : ℕ) : Type 0 whe
   pub room_is : room ≡ 2 ^ n
   pub room_same : room ≡ length rows
 
-pub accepts : (n m : ℕ) (rows : List ℕ) (j w b room : ℕ) → first (addition_checks n m rows j w b room) ≡ Accepted → Accepts n m rows j w b room
+pub accepts : (n m : ℕ) (rows : List ℕ) (j w b room : ℕ) → first (addition_checks n m rows j w b room) ≡ (Ok tt) → Accepts n m rows j w b room
 unfolding addition_checks
 accepts n m rows j w b room h =
     let sound : Box n m rows = box n m rows _ h in

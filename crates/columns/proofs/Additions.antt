@@ -1,4 +1,6 @@
 -- An affine function added to a column: what it does to a row, to each component and to the box.
+use Rattle.std.specs.Prelude.{Result, Ok, Err, ⊤}
+use Rattle.refusals.specs.declared.Refusal.{Refusal}
 use mathlib.Core.Path.{◌≡◌, refl, sym, ap, ap₂, ◌∙◌, subst}
 use mathlib.Core.Logic.{◌≢◌}
 use mathlib.Core.List.{List}
@@ -15,8 +17,6 @@ use Rattle.boolean.proofs.Lists.{length_list_below, get_or_list_below}
 use Rattle.boolean.proofs.Dots.{bit_cases, dot_xor}
 use Rattle.boolean.proofs.Digits.{affine_lt, bit_of_xor, bit_placed, bit_placed_other, dot_placed, component_dot}
 use Rattle.refusals.specs.Table.{Box, first, after}
-use Rattle.refusals.specs.declared.Checked.{Checked}
-use Rattle.refusals.specs.declared.Checked.TheVariants.{Accepted, Refused}
 use Rattle.columns.proofs.Accepted.{accepts}
 use Rattle.columns.specs.Addition.{added_row, added_rows, addition_checks, Addition, addition_checked, standing_rows}
 
@@ -70,7 +70,7 @@ module _ (j w b : ℕ) (rows : List ℕ) where
         ∙ ap (bit_xor (component rows c x)) (mul-one (affine w b x))
 
 -- ---- an accepted addition: bit j of every row is XORed with the affine function, and the other bits stay
-pub added_bits : (n m : ℕ) (rows : List ℕ) (j w b room : ℕ) → first (addition_checks n m rows j w b room) ≡ Accepted → (x : ℕ) → x < 2 ^ n
+pub added_bits : (n m : ℕ) (rows : List ℕ) (j w b room : ℕ) → first (addition_checks n m rows j w b room) ≡ (Ok tt) → (x : ℕ) → x < 2 ^ n
     → (bit j (at (added_rows j w b rows) x) ≡ bit_xor (bit j (at rows x)) (affine w b x))
     × ((k : ℕ) → 1 ≤ k → ¬ (k ≡ j) → bit k (at (added_rows j w b rows) x) ≡ bit k (at rows x))
 added_bits n m rows j w b room h x l =
@@ -88,7 +88,7 @@ pub record Fits (n m : ℕ) (a : Addition) : Type 0 where
   pub constant_high : a.constant < 2
   pub room : length a.lent ≡ 2 ^ n
 
-pub accepted_fits : (n m : ℕ) (rows : List ℕ) (a : Addition) → addition_checked n m rows a ≡ Accepted → Fits n m a
+pub accepted_fits : (n m : ℕ) (rows : List ℕ) (a : Addition) → addition_checked n m rows a ≡ (Ok tt) → Fits n m a
 unfolding addition_checked
 accepted_fits n m rows a h =
     let r = accepts n m rows a.column a.mask a.constant (length a.lent) h in
@@ -129,9 +129,9 @@ pub standing_cases : (n m : ℕ) (rows : List ℕ) (a : Addition) (P : List ℕ 
 unfolding standing_rows
 standing_cases n m rows a P p q = go (addition_checked n m rows a) (accepted_fits n m rows a)
   where
-    go : (k : Checked) → (k ≡ Accepted → Fits n m a) → P (after k (rows_with a rows) rows)
-    go Accepted f = p (f refl)
-    go (Refused e) f = q
+    go : (k : Result ⊤ Refusal) → (k ≡ (Ok tt) → Fits n m a) → P (after k (rows_with a rows) rows)
+    go (Ok tt) f = p (f refl)
+    go (Err e) f = q
 
 module _ (n m : ℕ) (rows : List ℕ) (box : Box n m rows) (a : Addition) where
   pub standing_keeps_box : Box n m (standing_rows n m rows a)

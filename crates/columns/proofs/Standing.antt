@@ -1,4 +1,5 @@
 -- What stands after calls of `columns::add_to_column`, each given the rows that stand: of one call, of a list of them, and in a combination.
+use Rattle.std.specs.Prelude.{Result, Ok, Err, ⊤}
 use mathlib.Core.Path.{◌≡◌, refl, sym, ap, ◌∙◌}
 use mathlib.Core.List.{List, [], ◌∷◌}
 use Prim.Native.Nat.{ℕ, ◌<◌}
@@ -8,10 +9,6 @@ use Rattle.boolean.specs.Bits.{affine, bit}
 use Rattle.boolean.specs.Functions.{component}
 use Rattle.refusals.specs.Table.{Check, first, reply_after, after, said_written}
 use Rattle.refusals.specs.declared.Refusal.{Refusal}
-use Rattle.refusals.specs.declared.Checked.{Checked}
-use Rattle.refusals.specs.declared.Checked.TheVariants.{Accepted, Refused}
-use Rattle.refusals.specs.declared.Written.{Written}
-use Rattle.refusals.specs.declared.Written.TheVariants.{Done, Declined}
 use Rattle.refusals.proofs.Checks.{after_accepted}
 use Rattle.refusals.proofs.Outcomes.{wrote_refused, wrote_accepted}
 use Rattle.columns.specs.Addition.{Addition, AdditionCalled, addition_checks, addition_checked, standing_rows, rows_after_all}
@@ -20,26 +17,26 @@ use Rattle.columns.proofs.Additions.{component_seen, component_unseen, accepted_
 
 -- "After an accepted addition its new rows stand; a refused one leaves standing those it was given." Of a call of `columns::add_to_column`, by its
 -- contract: where it is done, what it left in the lent array stands, and where it is declined, the rows it was given.
-pub standing_is_content : (n m : ℕ) (rows : List ℕ) (a : Addition) (answer : Written) (left : List ℕ)
+pub standing_is_content : (n m : ℕ) (rows : List ℕ) (a : Addition) (answer : Result ⊤ Refusal) (left : List ℕ)
     → AdditionCalled n m rows a.column a.mask a.constant a.lent answer left
-    → (answer ≡ Done → standing_rows n m rows a ≡ left) × ((e : Refusal) → answer ≡ Declined e → standing_rows n m rows a ≡ rows)
+    → (answer ≡ (Ok tt) → standing_rows n m rows a ≡ left) × ((e : Refusal) → answer ≡ Err e → standing_rows n m rows a ≡ rows)
 unfolding standing_rows addition_checked
 standing_is_content n m rows a answer left call =
     found (first (addition_checks n m rows a.column a.mask a.constant (length a.lent))) (rows_with a rows) call.reply call.content
   where
-    found : (k : Checked) (new : List ℕ) → said_written answer ≡ reply_after k [] → left ≡ after k new a.lent
-        → (answer ≡ Done → after k new rows ≡ left) × ((e : Refusal) → answer ≡ Declined e → after k new rows ≡ rows)
-    found Accepted new r l = (λ d. sym l, λ e d. cc)
-    found (Refused f) new r l = (λ d. cc, λ e d. refl)
+    found : (k : Result ⊤ Refusal) (new : List ℕ) → said_written answer ≡ reply_after k [] → left ≡ after k new a.lent
+        → (answer ≡ (Ok tt) → after k new rows ≡ left) × ((e : Refusal) → answer ≡ Err e → after k new rows ≡ rows)
+    found (Ok tt) new r l = (λ d. sym l, λ e d. cc)
+    found (Err f) new r l = (λ d. cc, λ e d. refl)
 
 -- So of a list of calls, however long or empty, each given the rows that stand: what stands after the last is `rows_after_all`.
 pub calls_stand : (n m : ℕ) {rows last : List ℕ} {additions : List Addition} → Calls n m rows additions last → rows_after_all n m rows additions ≡ last
 unfolding rows_after_all
 calls_stand n m none = refl
 calls_stand n m (done {rows} {left} {last} {a} {more} call calls) =
-    ap (λ (r : List ℕ). rows_after_all n m r more) ((standing_is_content n m rows a Done left call).0 refl) ∙ calls_stand n m calls
+    ap (λ (r : List ℕ). rows_after_all n m r more) ((standing_is_content n m rows a (Ok tt) left call).0 refl) ∙ calls_stand n m calls
 calls_stand n m (declined {rows} {left} {last} {a} {more} e call calls) =
-    ap (λ (r : List ℕ). rows_after_all n m r more) ((standing_is_content n m rows a (Declined e) left call).1 e refl) ∙ calls_stand n m calls
+    ap (λ (r : List ℕ). rows_after_all n m r more) ((standing_is_content n m rows a (Err e) left call).1 e refl) ∙ calls_stand n m calls
 
 -- And calls of every list end, accepted and refused ones, with what stands: no list is left out by speaking of calls.
 one_call : (n m : ℕ) (rows : List ℕ) (a : Addition) (more : List Addition) (last : List ℕ) → Calls n m (standing_rows n m rows a) more last
@@ -50,9 +47,9 @@ one_call n m rows a more last rest = found (first checks) refl rest
     checks : List Check
     checks = addition_checks n m rows a.column a.mask a.constant (length a.lent)
 
-    found : (k : Checked) → first checks ≡ k → Calls n m (after k (rows_with a rows) rows) more last → Calls n m rows (a ∷ more) last
-    found Accepted h calls = done (wrote_accepted h refl) calls
-    found (Refused e) h calls = declined e (wrote_refused h) calls
+    found : (k : Result ⊤ Refusal) → first checks ≡ k → Calls n m (after k (rows_with a rows) rows) more last → Calls n m rows (a ∷ more) last
+    found (Ok tt) h calls = done (wrote_accepted h refl) calls
+    found (Err e) h calls = declined e (wrote_refused h) calls
 
 pub calls_end : (n m : ℕ) (rows : List ℕ) (additions : List Addition) → Calls n m rows additions (rows_after_all n m rows additions)
 unfolding rows_after_all
@@ -60,7 +57,7 @@ calls_end n m rows [] = none
 calls_end n m rows (a ∷ more) = one_call n m rows a more _ (calls_end n m (standing_rows n m rows a) more)
 
 -- An accepted addition is seen by a combination exactly when the combination contains the column.
-pub addition_seen : (n m : ℕ) (rows : List ℕ) (a : Addition) → addition_checked n m rows a ≡ Accepted → (c x : ℕ) → x < length rows
+pub addition_seen : (n m : ℕ) (rows : List ℕ) (a : Addition) → addition_checked n m rows a ≡ (Ok tt) → (c x : ℕ) → x < length rows
     → (bit a.column c ≡ 0 → component (standing_rows n m rows a) c x ≡ component rows c x)
     × (bit a.column c ≡ 1 → component (standing_rows n m rows a) c x ≡ bit_xor (component rows c x) (affine a.mask a.constant x))
 unfolding standing_rows

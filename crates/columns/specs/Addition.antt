@@ -1,4 +1,6 @@
 -- Column addition: an affine function is added to one column of a box; a call's checks and outcome, and lists of additions.
+use Rattle.std.specs.Prelude.{Result, ⊤}
+use Rattle.refusals.specs.declared.Refusal.{Refusal}
 use Rattle.std.specs.Prelude.{ℕ, ◌-◌, ◌*◌, ◌^◌, List, [], ◌∷◌, ◌++◌, ltb, eqb, length}
 use Rattle.std.specs.Int.Bits.{bit_xor}
 use Rattle.boolean.specs.Bits.{affine}
@@ -6,8 +8,6 @@ use Rattle.boolean.specs.Sums.{list_below}
 use Rattle.boolean.specs.Functions.{at}
 use Rattle.refusals.specs.Table.{Check, ◌unless◌, in_range, box_checks, first, after, Wrote, said_written}
 use Rattle.refusals.specs.declared.Refusal.TheVariants.{Parameter, WrittenLength}
-use Rattle.refusals.specs.declared.Checked.{Checked}
-use Rattle.refusals.specs.declared.Written.{Written}
 
 -- a row, with bit j XORed with w·x XOR b
 unfoldable pub added_row : (j w b x row : ℕ) → ℕ
@@ -30,7 +30,7 @@ addition_checks n m rows j w b room =
     ∷ [])
 
 -- the outcome of a call of `columns::add_to_column`
-abbrev pub AdditionCalled : (n m : ℕ) (rows : List ℕ) (j w b : ℕ) (lent : List ℕ) (answer : Written) (left : List ℕ) → Type 0
+abbrev pub AdditionCalled : (n m : ℕ) (rows : List ℕ) (j w b : ℕ) (lent : List ℕ) (answer : Result ⊤ Refusal) (left : List ℕ) → Type 0
 AdditionCalled n m rows j w b lent answer left =
     Wrote (addition_checks n m rows j w b (length lent)) [] (added_rows j w b rows) lent (said_written answer) left
 
@@ -42,7 +42,7 @@ pub record Addition : Type 0 where
   pub lent : List ℕ
 
 -- what the checks of an addition to these rows find
-unfoldable pub addition_checked : (n m : ℕ) (rows : List ℕ) (a : Addition) → Checked
+unfoldable pub addition_checked : (n m : ℕ) (rows : List ℕ) (a : Addition) → Result ⊤ Refusal
 unfolding first addition_checks
 addition_checked n m rows a = first (addition_checks n m rows a.column a.mask a.constant (length a.lent))
 

@@ -5,7 +5,7 @@ ghost use Rattle.std.specs.Prelude.{◌≡◌, ◌^◌, ◌≤◌, ◌<◌, leng
 ghost use Rattle.refusals.specs.Table.{first};
 ghost use Rattle.columns.specs.Addition.{added_row, added_rows, addition_checks, AdditionCalled};
 
-use refusals::{Checked, Refusal, Written};
+use refusals::Refusal;
 
 // The row at input x, with bit j XORed with w·x XOR b.
 fn added_row(j: u32, w: u32, b: u32, x: usize, row: u32) -> u32
@@ -29,26 +29,33 @@ fn add_rows(rows: &[u32], j: u32, w: u32, b: u32, out: &mut [u32])
 }
 
 // The checks of a column addition.
-fn check_addition(n: u32, m: u32, rows: &[u32], j: u32, w: u32, b: u32, room: usize) -> Checked
+#[tactic(auto, unfolding(refusals::specs::Table::first, crate::specs::Addition::addition_checks))]
+fn check_addition(
+    n: u32,
+    m: u32,
+    rows: &[u32],
+    j: u32,
+    w: u32,
+    b: u32,
+    room: usize,
+) -> Result<(), Refusal>
     ensures { result ≡ first (addition_checks n m rows.now j w b room) }
 {
-    if let Checked::Refused(e) = refusals::check_box(n, m, rows) {
-        return Checked::Refused(e);
-    }
+    refusals::check_box(n, m, rows)?;
     if !refusals::in_range(1, m, j) {
-        return Checked::Refused(Refusal::Parameter);
+        return Err(Refusal::Parameter);
     }
     let size = boolean::power_of_two(n);
     if size <= w as usize {
-        return Checked::Refused(Refusal::Parameter);
+        return Err(Refusal::Parameter);
     }
     if 1 < b {
-        return Checked::Refused(Refusal::Parameter);
+        return Err(Refusal::Parameter);
     }
     if room != size {
-        return Checked::Refused(Refusal::WrittenLength);
+        return Err(Refusal::WrittenLength);
     }
-    Checked::Accepted
+    Ok(())
 }
 
 // The affine function (w, b) is added to column j of the rows; the new rows go to a second array.
@@ -60,12 +67,10 @@ pub fn add_to_column(
     w: u32,
     b: u32,
     out: &mut [u32],
-) -> Written
+) -> Result<(), Refusal>
     ensures { AdditionCalled n m rows.now j w b out.old result out.new }
 {
-    if let Checked::Refused(e) = check_addition(n, m, rows, j, w, b, out.len()) {
-        return Written::Declined(e);
-    }
+    check_addition(n, m, rows, j, w, b, out.len())?;
     add_rows(rows, j, w, b, out);
-    Written::Done
+    Ok(())
 }

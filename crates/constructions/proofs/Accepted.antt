@@ -1,4 +1,5 @@
 -- What the checks of the three constructions say where they accept a call. Assumes nothing.
+use Rattle.std.specs.Prelude.{Ok}
 use Prim.Native.Nat.{ℕ, suc, ◌+◌, ◌/◌, ◌%◌, ◌^◌, ◌≤◌, ◌<◌}
 use mathlib.Core.Path.{◌≡◌}
 use mathlib.Core.Bool.{true}
@@ -12,14 +13,13 @@ use lib.Pow.{pow_pos, pow_mono}
 use Rattle.boolean.specs.Functions.{at}
 use Rattle.boolean.proofs.Every.{both}
 use Rattle.refusals.specs.Table.{first, in_range, Box, Table}
-use Rattle.refusals.specs.declared.Checked.TheVariants.{Accepted}
 use Rattle.refusals.proofs.Bounds.{range_low, range_high, below_at}
 use Rattle.refusals.proofs.Checks.{passed}
 use Rattle.constructions.specs.BentForm.{is_permutation}
 use Rattle.constructions.specs.Calls.{column_checks, enlarge_checks, bent_checks}
 use Rattle.constructions.specs.Work.{EnlargesColumn, EnlargesBox, MakesBent}
 
-pub column_accepts : (n : ℕ) (table : List ℕ) (k a room : ℕ) → first (column_checks n table k a room) ≡ Accepted
+pub column_accepts : (n : ℕ) (table : List ℕ) (k a room : ℕ) → first (column_checks n table k a room) ≡ (Ok tt)
     → EnlargesColumn n table k a × (room ≡ 2 ^ suc n)
 unfolding column_checks
 column_accepts n table k a room h =
@@ -32,7 +32,7 @@ column_accepts n table k a room h =
       eqb-true room (2 ^ suc n) p.1.1.1.1.1.0,
     )
 
-pub box_accepts : (n : ℕ) (rows table : List ℕ) (k room : ℕ) → first (enlarge_checks n rows table k room) ≡ Accepted
+pub box_accepts : (n : ℕ) (rows table : List ℕ) (k room : ℕ) → first (enlarge_checks n rows table k room) ≡ (Ok tt)
     → EnlargesBox n rows table k × (room ≡ 2 ^ suc n)
 unfolding enlarge_checks
 box_accepts n rows table k room h =
@@ -48,7 +48,7 @@ box_accepts n rows table k room h =
       eqb-true room (2 ^ suc n) q.1.1.1.0,
     )
 
-pub bent_accepts : (n : ℕ) (permutation table : List ℕ) (room : ℕ) → first (bent_checks n permutation table room) ≡ Accepted
+pub bent_accepts : (n : ℕ) (permutation table : List ℕ) (room : ℕ) → first (bent_checks n permutation table room) ≡ (Ok tt)
     → MakesBent (n / 2) permutation table × (n / 2 + n / 2 ≡ n) × (room ≡ 2 ^ n)
 unfolding bent_checks
 bent_accepts n permutation table room h =
@@ -68,7 +68,7 @@ bent_accepts n permutation table room h =
 -- What the theorems ask of an accepted call.
 
 -- the column is a truth table
-pub column_table : (n : ℕ) (table : List ℕ) (k a room : ℕ) → first (column_checks n table k a room) ≡ Accepted → Table n table
+pub column_table : (n : ℕ) (table : List ℕ) (k a room : ℕ) → first (column_checks n table k a room) ≡ (Ok tt) → Table n table
 unfolding column_checks
 column_table n table k a room h =
     let p = passed _ h in
@@ -81,7 +81,7 @@ column_table n table k a room h =
     }
 
 -- the rows are a box of as many outputs as inputs, and the table beside them is a truth table
-pub box_and_table : (n : ℕ) (rows table : List ℕ) (k room : ℕ) → first (enlarge_checks n rows table k room) ≡ Accepted → Box n n rows × Table n table
+pub box_and_table : (n : ℕ) (rows table : List ℕ) (k room : ℕ) → first (enlarge_checks n rows table k room) ≡ (Ok tt) → Box n n rows × Table n table
 box_and_table n rows table k room h =
     let e = (box_accepts n rows table k room h).0 in
     let low : 1 ≤ n = le_trans e.widths.k_low e.widths.k_high in
@@ -105,7 +105,7 @@ pub record AcceptedBent (n : ℕ) (permutation table : List ℕ) : Type 0 where
   pub permutes : is_permutation (2 ^ (n / 2)) permutation ≡ true
   pub bits : (x : ℕ) → at table x < 2
 
-pub bent_parts : (n : ℕ) (permutation table : List ℕ) (room : ℕ) → first (bent_checks n permutation table room) ≡ Accepted → AcceptedBent n permutation table
+pub bent_parts : (n : ℕ) (permutation table : List ℕ) (room : ℕ) → first (bent_checks n permutation table room) ≡ (Ok tt) → AcceptedBent n permutation table
 unfolding bent_checks
 bent_parts n permutation table room h =
     let p = passed _ h in

@@ -1,4 +1,5 @@
 -- What the constructions write, in the words of document 01, and what the calls reply of an enlarged box.
+use Rattle.std.specs.Prelude.{Ok}
 use Prim.Native.Nat.{ℕ, suc, ◌+◌, ◌*◌, ◌-◌, ◌/◌, ◌^◌, ◌<◌}
 use mathlib.Core.Path.{◌≡◌, refl, sym, ap, ap₂, ◌∙◌}
 use mathlib.Core.Bool.{Bool}
@@ -8,7 +9,6 @@ use Rattle.boolean.specs.Bits.{dot}
 use Rattle.boolean.specs.Functions.{at}
 use Rattle.boolean.specs.Selection.{shown}
 use Rattle.refusals.specs.Table.{first, figures, as_figure, box_checks}
-use Rattle.refusals.specs.declared.Checked.TheVariants.{Accepted}
 use native.Mathlib.Nat.{le_refl, two-pow-succ, mul-le-mul_right, suc-mul}
 use native.Mathlib.Omega.{arith}
 use lib.Pow.{pow-add}
@@ -58,7 +58,7 @@ box_halves n rows table k x l = (
 both_halves : (h x y : ℕ) → x < 2 ^ h → y < 2 ^ h → x * 2 ^ h + y < 2 ^ (h + h)
 both_halves h x y p q = omega (arith, suc-mul x (2 ^ h), mul-le-mul_right (2 ^ h) p, pow-add 2 h h)
 
-pub bent_at : (n : ℕ) (permutation table : List ℕ) (room : ℕ) → first (bent_checks n permutation table room) ≡ Accepted → (x y : ℕ)
+pub bent_at : (n : ℕ) (permutation table : List ℕ) (room : ℕ) → first (bent_checks n permutation table room) ≡ (Ok tt) → (x y : ℕ)
     → x < 2 ^ (n / 2) → y < 2 ^ (n / 2)
     → at (bent_table n permutation table) (x * 2 ^ (n / 2) + y) ≡ bit_xor (dot (at permutation x) y) (at table x)
 bent_at n permutation table room ok x y p q =
@@ -67,11 +67,11 @@ bent_at n permutation table room ok x y p q =
     ∙ at_bent_table h permutation table (x * 2 ^ h + y) (both_halves h x y p q) ∙ bent_form_at h permutation table x y q
 
 -- ---- of an enlarged box
-module _ (n : ℕ) (rows table : List ℕ) (k room : ℕ) (accepted : first (enlarge_checks n rows table k room) ≡ Accepted) where
+module _ (n : ℕ) (rows table : List ℕ) (k room : ℕ) (accepted : first (enlarge_checks n rows table k room) ≡ (Ok tt)) where
   abbrev larger : List ℕ
   larger = enlarged_rows n rows table k
 
-  still_box : first (box_checks (suc n) (suc n) larger) ≡ Accepted
+  still_box : first (box_checks (suc n) (suc n) larger) ≡ (Ok tt)
   still_box = theorems.enlarged_box_accepted n rows table k room accepted
 
   pub still_bijective : bijective_reply n n rows ≡ figures (1 ∷ []) → bijective_reply (suc n) (suc n) larger ≡ figures (1 ∷ [])
@@ -88,7 +88,7 @@ module _ (n : ℕ) (rows table : List ℕ) (k room : ℕ) (accepted : first (enl
       let sac = theorems.enlarged_box_avalanche n rows table k room accepted (sym (replied_distance n n rows 1 1 0 v p))
       (sym (replied_distance n 1 table 1 1 0 w q)) in
       let sound = box (suc n) (suc n) larger [] still_box in
-      let ok : first (distance_checks (suc n) (suc n) larger 1 1) ≡ Accepted =
+      let ok : first (distance_checks (suc n) (suc n) larger 1 1) ≡ (Ok tt) =
       sym (found_after _ still_box (skip (range_true 1 (suc n) 1 (le_refl 1) sound.m_low)
       (skip (range_true 1 (suc n) 1 (le_refl 1) sound.n_low) end))) in (
         (dynamic_distance (suc n) (suc n) larger 1 1).witness,

@@ -1,5 +1,6 @@
 -- Document 01, "Boxes made from boxes": what is promised of an enlarged column, an enlarged box and a bent function. Each theorem starts from a call that
 -- its checks accept, and speaks of what the call then writes: by the contracts, `enlarged_table`, `enlarged_rows` and `bent_table`.
+use Rattle.std.specs.Prelude.{Ok}
 use mathlib.Core.Path.{◌≡◌, subst}
 use mathlib.Core.Logic.{◌⊎◌}
 use mathlib.Core.Bool.{true}
@@ -12,7 +13,6 @@ use Rattle.boolean.specs.Functions.{Bent, Boolean, approximation, at, square, wa
 use Rattle.boolean.proofs.Bent.{bent_of_squares}
 use Rattle.boolean.proofs.Lists.{length_list_below}
 use Rattle.refusals.specs.Table.{first, box_checks}
-use Rattle.refusals.specs.declared.Checked.TheVariants.{Accepted}
 use Rattle.refusals.proofs.Checks.{box_accepted}
 use Rattle.linear.specs.Nonlinearity.{nonlinearity}
 use Rattle.differential.specs.XorTable.{largest_cell}
@@ -29,12 +29,12 @@ use Rattle.constructions.proofs.WorstCell.{full_cell_largest}
 use Rattle.constructions.proofs.BentFlat.{table_boolean, table_bent, table_flat, table_nonlinearity}
 
 -- ---- one column
-module _ (n : ℕ) (table : List ℕ) (k a room : ℕ) (accepted : first (column_checks n table k a room) ≡ Accepted) where
+module _ (n : ℕ) (table : List ℕ) (k a room : ℕ) (accepted : first (column_checks n table k a room) ≡ (Ok tt)) where
   enlarges : EnlargesColumn n table k a
   enlarges = (column_accepts n table k a room accepted).0
 
   -- the enlarged column, as a box of one output, passes the checks of a box, which the calls that measure it run first
-  pub enlarged_table_accepted : first (box_checks (suc n) 1 (enlarged_table n table k a)) ≡ Accepted
+  pub enlarged_table_accepted : first (box_checks (suc n) 1 (enlarged_table n table k a)) ≡ (Ok tt)
   enlarged_table_accepted =
       box_accepted (suc n) 1 (enlarged_table n table k a)
       (enlarged_table_box n table k (column_table n table k a room accepted) enlarges.widths.n_high enlarges.widths.k_low enlarges.widths.k_high a enlarges.a_bit)
@@ -45,12 +45,12 @@ module _ (n : ℕ) (table : List ℕ) (k a room : ℕ) (accepted : first (column
       table_avalanche n table k (column_table n table k a room accepted) enlarges.widths.n_high enlarges.widths.k_low enlarges.widths.k_high a enlarges.a_bit
 
 -- ---- a whole box
-module _ (n : ℕ) (rows table : List ℕ) (k room : ℕ) (accepted : first (enlarge_checks n rows table k room) ≡ Accepted) where
+module _ (n : ℕ) (rows table : List ℕ) (k room : ℕ) (accepted : first (enlarge_checks n rows table k room) ≡ (Ok tt)) where
   enlarges_box : EnlargesBox n rows table k
   enlarges_box = (box_accepts n rows table k room accepted).0
 
   -- the enlarged box passes the checks of a box, which the calls that measure it run first
-  pub enlarged_box_accepted : first (box_checks (suc n) (suc n) (enlarged_rows n rows table k)) ≡ Accepted
+  pub enlarged_box_accepted : first (box_checks (suc n) (suc n) (enlarged_rows n rows table k)) ≡ (Ok tt)
   enlarged_box_accepted =
       let t = box_and_table n rows table k room accepted in
       let w = enlarges_box.widths in
@@ -77,7 +77,7 @@ module _ (n : ℕ) (rows table : List ℕ) (k room : ℕ) (accepted : first (enl
       full_cell_largest n rows table k (λ x l. e.rows_below x) e.widths.k_low e.widths.k_high
 
 -- ---- the bent form, n = 2h: h is n / 2
-module _ (n : ℕ) (permutation table : List ℕ) (room : ℕ) (accepted : first (bent_checks n permutation table room) ≡ Accepted) where
+module _ (n : ℕ) (permutation table : List ℕ) (room : ℕ) (accepted : first (bent_checks n permutation table room) ≡ (Ok tt)) where
   makes : MakesBent (n / 2) permutation table × (n / 2 + n / 2 ≡ n) × (room ≡ 2 ^ n)
   makes = bent_accepts n permutation table room accepted
 
@@ -93,7 +93,7 @@ module _ (n : ℕ) (permutation table : List ℕ) (room : ℕ) (accepted : first
       makes.1 (table_boolean (n / 2) permutation table makes.0.permutation_size parts.permutes bits)
 
   -- the bent function, as a box of one output, passes the checks of a box, which the calls that measure it run first
-  pub bent_table_accepted : first (box_checks n 1 (bent_table n permutation table)) ≡ Accepted
+  pub bent_table_accepted : first (box_checks n 1 (bent_table n permutation table)) ≡ (Ok tt)
   unfolding bent_table
   bent_table_accepted =
       box_accepted n 1 (bent_table n permutation table)

@@ -1,8 +1,9 @@
 -- The three constructions: their checks, in the order of document 01's table, all lengths before any value; and their outcomes.
+use Rattle.std.specs.Prelude.{Result, ⊤}
+use Rattle.refusals.specs.declared.Refusal.{Refusal}
 use Rattle.std.specs.Prelude.{ℕ, suc, ◌/◌, ◌%◌, ◌^◌, ◌&&◌, List, [], ◌∷◌, ltb, eqb, length}
 use Rattle.refusals.specs.Table.{Check, ◌unless◌, in_range, all_below, Wrote, said_written}
 use Rattle.refusals.specs.declared.Refusal.TheVariants.{InputWidth, ReadLength, Value, Permutation, Parameter, WrittenLength}
-use Rattle.refusals.specs.declared.Written.{Written}
 use Rattle.constructions.specs.Enlargement.{enlarged_table, enlarged_rows}
 use Rattle.constructions.specs.BentForm.{is_permutation, bent_table}
 
@@ -42,16 +43,16 @@ bent_checks n permutation table room =
     ∷ []
 
 -- the outcome of a call of `constructions::enlarge_column`
-abbrev pub ColumnCalled : (n : ℕ) (table : List ℕ) (k a : ℕ) (lent : List ℕ) (answer : Written) (left : List ℕ) → Type 0
+abbrev pub ColumnCalled : (n : ℕ) (table : List ℕ) (k a : ℕ) (lent : List ℕ) (answer : Result ⊤ Refusal) (left : List ℕ) → Type 0
 ColumnCalled n table k a lent answer left =
     Wrote (column_checks n table k a (length lent)) [] (enlarged_table n table k a) lent (said_written answer) left
 
 -- the outcome of a call of `constructions::enlarge_box`
-abbrev pub BoxCalled : (n : ℕ) (rows table : List ℕ) (k : ℕ) (lent : List ℕ) (answer : Written) (left : List ℕ) → Type 0
+abbrev pub BoxCalled : (n : ℕ) (rows table : List ℕ) (k : ℕ) (lent : List ℕ) (answer : Result ⊤ Refusal) (left : List ℕ) → Type 0
 BoxCalled n rows table k lent answer left =
     Wrote (enlarge_checks n rows table k (length lent)) [] (enlarged_rows n rows table k) lent (said_written answer) left
 
 -- the outcome of a call of `constructions::bent_function`
-abbrev pub BentCalled : (n : ℕ) (permutation table lent : List ℕ) (answer : Written) (left : List ℕ) → Type 0
+abbrev pub BentCalled : (n : ℕ) (permutation table lent : List ℕ) (answer : Result ⊤ Refusal) (left : List ℕ) → Type 0
 BentCalled n permutation table lent answer left =
     Wrote (bent_checks n permutation table (length lent)) [] (bent_table n permutation table) lent (said_written answer) left

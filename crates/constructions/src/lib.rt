@@ -9,7 +9,7 @@ ghost use Rattle.constructions.specs.BentForm.{is_permutation, bent_form, bent_t
 ghost use Rattle.constructions.specs.Calls.{column_checks, enlarge_checks, bent_checks, ColumnCalled, BoxCalled, BentCalled};
 ghost use Rattle.constructions.specs.Work.{source_of, Enlarges, EnlargesColumn, EnlargesBox, MakesBent};
 
-use refusals::{Checked, Refusal, Written};
+use refusals::Refusal;
 
 // Whether an array of this length is as long as a table of n inputs.
 fn has_inputs(count: usize, n: u32) -> bool
@@ -64,39 +64,38 @@ fn write_column(n: u32, table: &[u8], k: u32, a: u32, out: &mut [u8])
 }
 
 // The checks of enlarging a column.
-fn check_column(n: u32, table: &[u8], k: u32, a: u32, room: usize) -> Checked
+#[tactic(auto, unfolding(refusals::specs::Table::first, crate::specs::Calls::column_checks))]
+fn check_column(n: u32, table: &[u8], k: u32, a: u32, room: usize) -> Result<(), Refusal>
     ensures { result ≡ first (column_checks n table.now k a room) }
 {
     if !can_grow(n) {
-        return Checked::Refused(Refusal::InputWidth);
+        return Err(Refusal::InputWidth);
     }
     if !has_inputs(table.len(), n) {
-        return Checked::Refused(Refusal::ReadLength);
+        return Err(Refusal::ReadLength);
     }
     if !refusals::values_below(table, 2) {
-        return Checked::Refused(Refusal::Value);
+        return Err(Refusal::Value);
     }
     if !refusals::in_range(1, n, k) {
-        return Checked::Refused(Refusal::Parameter);
+        return Err(Refusal::Parameter);
     }
     if 1 < a {
-        return Checked::Refused(Refusal::Parameter);
+        return Err(Refusal::Parameter);
     }
     if !has_inputs(room, n + 1) {
-        return Checked::Refused(Refusal::WrittenLength);
+        return Err(Refusal::WrittenLength);
     }
-    Checked::Accepted
+    Ok(())
 }
 
 // A truth table of one input more: the lower half is the table, the upper half is the table with bit k of the input flipped, XOR a.
-pub fn enlarge_column(n: u32, table: &[u8], k: u32, a: u32, out: &mut [u8]) -> Written
+pub fn enlarge_column(n: u32, table: &[u8], k: u32, a: u32, out: &mut [u8]) -> Result<(), Refusal>
     ensures { ColumnCalled n table.now k a out.old result out.new }
 {
-    if let Checked::Refused(e) = check_column(n, table, k, a, out.len()) {
-        return Written::Declined(e);
-    }
+    check_column(n, table, k, a, out.len())?;
     write_column(n, table, k, a, out);
-    Written::Done
+    Ok(())
 }
 
 // The part of an enlarged box's row that its old rows make: the constant is 0, so both halves are looked up alike.
@@ -130,42 +129,41 @@ fn write_box(n: u32, rows: &[u32], table: &[u8], k: u32, out: &mut [u32])
 }
 
 // The checks of enlarging a box.
-fn check_enlarge(n: u32, rows: &[u32], table: &[u8], k: u32, room: usize) -> Checked
+#[tactic(auto, unfolding(refusals::specs::Table::first, crate::specs::Calls::enlarge_checks))]
+fn check_enlarge(n: u32, rows: &[u32], table: &[u8], k: u32, room: usize) -> Result<(), Refusal>
     ensures { result ≡ first (enlarge_checks n rows.now table.now k room) }
 {
     if !can_grow(n) {
-        return Checked::Refused(Refusal::InputWidth);
+        return Err(Refusal::InputWidth);
     }
     if !has_inputs(rows.len(), n) {
-        return Checked::Refused(Refusal::ReadLength);
+        return Err(Refusal::ReadLength);
     }
     if !has_inputs(table.len(), n) {
-        return Checked::Refused(Refusal::ReadLength);
+        return Err(Refusal::ReadLength);
     }
     if !refusals::rows_below(rows, boolean::power_of_two(n)) {
-        return Checked::Refused(Refusal::Value);
+        return Err(Refusal::Value);
     }
     if !refusals::values_below(table, 2) {
-        return Checked::Refused(Refusal::Value);
+        return Err(Refusal::Value);
     }
     if !refusals::in_range(1, n, k) {
-        return Checked::Refused(Refusal::Parameter);
+        return Err(Refusal::Parameter);
     }
     if !has_inputs(room, n + 1) {
-        return Checked::Refused(Refusal::WrittenLength);
+        return Err(Refusal::WrittenLength);
     }
-    Checked::Accepted
+    Ok(())
 }
 
 // A box of n + 1 inputs and outputs from a box of n and a truth table, which makes the new top bit.
-pub fn enlarge_box(n: u32, rows: &[u32], table: &[u8], k: u32, out: &mut [u32]) -> Written
+pub fn enlarge_box(n: u32, rows: &[u32], table: &[u8], k: u32, out: &mut [u32]) -> Result<(), Refusal>
     ensures { BoxCalled n rows.now table.now k out.old result out.new }
 {
-    if let Checked::Refused(e) = check_enlarge(n, rows, table, k, out.len()) {
-        return Written::Declined(e);
-    }
+    check_enlarge(n, rows, table, k, out.len())?;
     write_box(n, rows, table, k, out);
-    Written::Done
+    Ok(())
 }
 
 // Whether n is 2, 4, 6 or 8.
@@ -214,38 +212,37 @@ fn write_bent(n: u32, permutation: &[u8], table: &[u8], out: &mut [u8])
 }
 
 // The checks of the bent form.
-fn check_bent(n: u32, permutation: &[u8], table: &[u8], room: usize) -> Checked
+#[tactic(auto, unfolding(refusals::specs::Table::first, crate::specs::Calls::bent_checks))]
+fn check_bent(n: u32, permutation: &[u8], table: &[u8], room: usize) -> Result<(), Refusal>
     ensures { result ≡ first (bent_checks n permutation.now table.now room) }
 {
     if !even_width(n) {
-        return Checked::Refused(Refusal::InputWidth);
+        return Err(Refusal::InputWidth);
     }
     let h = n / 2;
     if !has_inputs(permutation.len(), h) {
-        return Checked::Refused(Refusal::ReadLength);
+        return Err(Refusal::ReadLength);
     }
     if !has_inputs(table.len(), h) {
-        return Checked::Refused(Refusal::ReadLength);
+        return Err(Refusal::ReadLength);
     }
     if !refusals::values_below(table, 2) {
-        return Checked::Refused(Refusal::Value);
+        return Err(Refusal::Value);
     }
     if !is_permutation(boolean::power_of_two(h), permutation) {
-        return Checked::Refused(Refusal::Permutation);
+        return Err(Refusal::Permutation);
     }
     if !has_inputs(room, n) {
-        return Checked::Refused(Refusal::WrittenLength);
+        return Err(Refusal::WrittenLength);
     }
-    Checked::Accepted
+    Ok(())
 }
 
 // The bent function of n = 2h inputs that a permutation of 0 to 2^h - 1 and a table of 2^h truth values make.
-pub fn bent_function(n: u32, permutation: &[u8], table: &[u8], out: &mut [u8]) -> Written
+pub fn bent_function(n: u32, permutation: &[u8], table: &[u8], out: &mut [u8]) -> Result<(), Refusal>
     ensures { BentCalled n permutation.now table.now out.old result out.new }
 {
-    if let Checked::Refused(e) = check_bent(n, permutation, table, out.len()) {
-        return Written::Declined(e);
-    }
+    check_bent(n, permutation, table, out.len())?;
     write_bent(n, permutation, table, out);
-    Written::Done
+    Ok(())
 }

@@ -1,4 +1,5 @@
 -- The code's design as the model's: its marks read and replaced, its rows, and what each call's outcome is. Assumes nothing.
+use Rattle.std.specs.Prelude.{Result, Ok, Err, ⊤}
 use Prim.Native.Nat.{ℕ, zero, suc, ◌-◌, ◌^◌, ◌<◌, ◌≤◌}
 use mathlib.Core.Path.{◌≡◌, refl, sym, ap, ◌∙◌}
 use mathlib.Core.Bool.{Bool, true, false, true≢false}
@@ -13,9 +14,6 @@ use Rattle.boolean.specs.Functions.{at, swapped}
 use Rattle.refusals.specs.Table.{Check, first, box_checks, in_range, figures, refusal, number, reply_after, after, said_written, filled}
 use Rattle.refusals.specs.declared.Refusal.{Refusal}
 use Rattle.refusals.specs.declared.Refusal.TheVariants.{Parameter}
-use Rattle.refusals.specs.declared.Checked.{Checked}
-use Rattle.refusals.specs.declared.Checked.TheVariants.{Accepted, Refused}
-use Rattle.refusals.specs.declared.Written.TheVariants.{Declined}
 use Rattle.refusals.proofs.Checks.{reply_refused, reply_accepted, after_accepted, after_refused}
 use Rattle.refusals.proofs.Bounds.{range_high}
 use Rattle.refusals.proofs.Outcomes.{refusal_leaves}
@@ -67,7 +65,7 @@ module _ (d : Design) (rows : Only d.n d.rows) (marks : d.marks ≡ snapshots_of
 
 -- ---- the outcome of an operation, where it is refused and where it is done
 module _ (d : Design) (checks : List Check) (new : DesignState) where
-  pub refused_so : {e : Refusal} → refusal (number e) ≡ reply_after (first checks) [] → {r : Tuned} → (r.design ≡ d) × (r.answer ≡ Declined e)
+  pub refused_so : {e : Refusal} → refusal (number e) ≡ reply_after (first checks) [] → {r : Tuned} → (r.design ≡ d) × (r.answer ≡ Err e)
       → Operated d checks (after (first checks) new (state_of_design d)) (said_written r.answer) r.design
   refused_so {e} h g =
       let left = refusal_leaves (first checks) [] new (state_of_design d) h in
@@ -78,7 +76,7 @@ module _ (d : Design) (checks : List Check) (new : DesignState) where
         whole = λ s. g.0 ∙ s.only ∙ ap design_of left;
       }
 
-  done_so : (r : Design) → first checks ≡ Accepted → state_of_design r ≡ new → (SoundDesign d → r ≡ design_of (state_of_design r))
+  done_so : (r : Design) → first checks ≡ (Ok tt) → state_of_design r ≡ new → (SoundDesign d → r ≡ design_of (state_of_design r))
       → Operated d checks (after (first checks) new (state_of_design d)) (figures []) r
   done_so r h e only =
       let is = e ∙ after_accepted h new (state_of_design d) in
@@ -97,13 +95,13 @@ fresh_is n m rows held v e h =
 
 module _ (n m : ℕ) (rows : List ℕ) (v : Snapshot) (e : v ≡ snapshot_of unset) where
   -- a box that is refused: the design has none
-  pub begin_refused : {f : Refusal} → first (box_checks n m rows) ≡ Refused f
+  pub begin_refused : {f : Refusal} → first (box_checks n m rows) ≡ Err f
       → record { n = 0; m = 0; rows = replicate 256 0; marks = sixteen v } ≡ design_of (begin n m rows)
   unfolding begin no_box
   begin_refused h = fresh_is 0 0 (0 ∷ []) (replicate 256 0) v e refl ∙ ap design_of (after_refused h (new_design n m rows) no_box)
 
   -- an accepted one, its rows copied to the start of the array
-  pub begin_done : first (box_checks n m rows) ≡ Accepted → {copied : List ℕ} → copied ≡ rows
+  pub begin_done : first (box_checks n m rows) ≡ (Ok tt) → {copied : List ℕ} → copied ≡ rows
       → record { n = n; m = m; rows = copied ++ drop (length rows) (replicate 256 0); marks = sixteen v } ≡ design_of (begin n m rows)
   unfolding begin
   begin_done h {copied} c =
@@ -126,7 +124,7 @@ module _ (d : Design) (b : in_range 1 8 d.n ≡ true) (s : SoundDesign d) where
 
 -- ---- swap
 module _ (d : Design) (x y : ℕ) where
-  pub swap_refused : {e : Refusal} → first (swap_checks (state_of_design d) x y) ≡ Refused e → {r : Tuned} → (r.design ≡ d) × (r.answer ≡ Declined e)
+  pub swap_refused : {e : Refusal} → first (swap_checks (state_of_design d) x y) ≡ Err e → {r : Tuned} → (r.design ≡ d) × (r.answer ≡ Err e)
       → DesignSwapped d x y (said_written r.answer) r.design
   unfolding swap_inputs
   swap_refused h g = refused_so d (swap_checks (state_of_design d) x y) (with_rows (state_of_design d) (swapped (state_of_design d).rows x y)) (reply_refused h []) g
@@ -158,7 +156,7 @@ module _ (d : Design) (x y : ℕ) where
 
 -- ---- mark
 module _ (d : Design) (k : ℕ) where
-  pub mark_refused : {e : Refusal} → first (mark_checks (state_of_design d) k) ≡ Refused e → {r : Tuned} → (r.design ≡ d) × (r.answer ≡ Declined e)
+  pub mark_refused : {e : Refusal} → first (mark_checks (state_of_design d) k) ≡ Err e → {r : Tuned} → (r.design ≡ d) × (r.answer ≡ Err e)
       → DesignMarked d k (said_written r.answer) r.design
   unfolding set_mark
   mark_refused h g = refused_so d (mark_checks (state_of_design d) k) (with_mark (state_of_design d) k (keeps (state_of_design d).rows)) (reply_refused h []) g
@@ -177,7 +175,7 @@ module _ (d : Design) (k : ℕ) where
       ∙ ap (λ (l : List ℕ). set (snapshots_of (marks_held d.n d.marks)) (k - 1) (record { taken = 1; rows = l })) (only_rows d s)
       ∙ snapshots_set (marks_held d.n d.marks) (k - 1) (keeps (design_rows d)) ∙ ap snapshots_of (sym (marks_set d.n d.marks (k - 1) taken_now)))
 
-  pub mark_done : first (mark_checks (state_of_design d) k) ≡ Accepted → DesignMarked d k (figures []) marked
+  pub mark_done : first (mark_checks (state_of_design d) k) ≡ (Ok tt) → DesignMarked d k (figures []) marked
   unfolding set_mark state_of_design mark_held
   mark_done h =
       done_so d (mark_checks (state_of_design d) k) (with_mark (state_of_design d) k (keeps (state_of_design d).rows)) marked h
@@ -192,7 +190,7 @@ module _ (d : Design) (k : ℕ) where
   unfolding state_of_design mark_held
   set_at = sym (set_of (eqb here.taken 1) (take (2 ^ d.n) here.rows)) ∙ ap is_set (sym (marks_at d.n d.marks (k - 1)))
 
-  pub return_refused : {e : Refusal} → first (return_checks (state_of_design d) k) ≡ Refused e → {r : Tuned} → (r.design ≡ d) × (r.answer ≡ Declined e)
+  pub return_refused : {e : Refusal} → first (return_checks (state_of_design d) k) ≡ Err e → {r : Tuned} → (r.design ≡ d) × (r.answer ≡ Err e)
       → DesignReturned d k (said_written r.answer) r.design
   unfolding return_to
   return_refused h g = refused_so d (return_checks (state_of_design d) k) (with_rows (state_of_design d) (rows_kept (mark_at (state_of_design d) k) (state_of_design d).rows)) (reply_refused h []) g
@@ -216,7 +214,7 @@ module _ (d : Design) (k : ℕ) where
         ∙ ap (λ (x : Mark). (snapshot_of x).rows) (marks_at d.n d.marks (k - 1))
         ∙ ap (λ (t : Bool). (snapshot_of (mark_of t (take (2 ^ d.n) here.rows))).rows) e
 
-    pub return_done : first (return_checks (state_of_design d) k) ≡ Accepted → DesignReturned d k (figures []) restored
+    pub return_done : first (return_checks (state_of_design d) k) ≡ (Ok tt) → DesignReturned d k (figures []) restored
     unfolding return_to state_of_design
     return_done h =
         done_so d (return_checks (state_of_design d) k) (with_rows (state_of_design d) (rows_kept (mark_at (state_of_design d) k) (state_of_design d).rows)) restored h
@@ -224,7 +222,7 @@ module _ (d : Design) (k : ℕ) where
         (λ s. holds_state restored (here_only s) (only_marks d s))
 
 -- ---- add: on a sound design the checks of column addition are those of the model
-pub add_refused : (d : Design) (j w b : ℕ) → first (design_add_checks (state_of_design d) j w b) ≡ Refused Parameter → {r : Tuned} → (r.design ≡ d) × (r.answer ≡ Declined Parameter)
+pub add_refused : (d : Design) (j w b : ℕ) → first (design_add_checks (state_of_design d) j w b) ≡ Err Parameter → {r : Tuned} → (r.design ≡ d) × (r.answer ≡ Err Parameter)
     → DesignAdded d j w b (said_written r.answer) r.design
 unfolding add
 add_refused d j w b h g = record {
@@ -233,7 +231,7 @@ add_refused d j w b h g = record {
 }
 
 module _ (d : Design) (j w b size room : ℕ) (t : in_range 1 8 d.n ≡ true) (e : size ≡ 2 ^ d.n) (f : room ≡ size) where
-  abbrev found_by_addition : Checked
+  abbrev found_by_addition : Result ⊤ Refusal
   found_by_addition = first (addition_checks d.n d.m (take size d.rows) j w b room)
 
   add_checks_lem : SoundDesign d → found_by_addition ≡ first (design_add_checks (state_of_design d) j w b)
@@ -241,13 +239,13 @@ module _ (d : Design) (j w b size room : ℕ) (t : in_range 1 8 d.n ≡ true) (e
   add_checks_lem s =
       ap (λ (k : ℕ). first (addition_checks d.n d.m (take k d.rows) j w b room)) e ∙ same_checks (state_of_design d) (box_inside d t s) j w b room (f ∙ e)
 
-  pub add_declined : {x : Refusal} → refusal (number x) ≡ reply_after found_by_addition [] → {r : Tuned} → (r.design ≡ d) × (r.answer ≡ Declined x)
+  pub add_declined : {x : Refusal} → refusal (number x) ≡ reply_after found_by_addition [] → {r : Tuned} → (r.design ≡ d) × (r.answer ≡ Err x)
       → DesignAdded d j w b (said_written r.answer) r.design
   unfolding add
   add_declined h g = record {
     unchanged = λ k q. g.0;
     operated = λ s.
-        refused_so d (design_add_checks (state_of_design d) j w b) (with_rows (state_of_design d) (added_rows j w b (state_of_design d).rows)) (h ∙ ap (λ (k : Checked). reply_after k []) (add_checks_lem s)) g;
+        refused_so d (design_add_checks (state_of_design d) j w b) (with_rows (state_of_design d) (added_rows j w b (state_of_design d).rows)) (h ∙ ap (λ (k : Result ⊤ Refusal). reply_after k []) (add_checks_lem s)) g;
   }
 
   module _ (h : figures [] ≡ reply_after found_by_addition []) (out old : List ℕ)
@@ -257,7 +255,7 @@ module _ (d : Design) (j w b size room : ℕ) (t : in_range 1 8 d.n ≡ true) (e
 
     out_is : out ≡ added_rows j w b (design_rows d)
     out_is =
-        c ∙ ap (λ (k : Checked). after k (added_rows j w b (take size d.rows)) old) (figures_accepted found_by_addition [] (sym h)).0
+        c ∙ ap (λ (k : Result ⊤ Refusal). after k (added_rows j w b (take size d.rows)) old) (figures_accepted found_by_addition [] (sym h)).0
         ∙ ap (λ (k : ℕ). added_rows j w b (take k d.rows)) e
 
     module _ (s : SoundDesign d) where

@@ -1,5 +1,7 @@
 -- Any operations, one after the other: the box stays accepted, a return brings back the box of the moment when its mark was last set,
 -- all marks remain, and swaps alone leave each output value as many inputs as before. Assumes nothing.
+use Rattle.std.specs.Prelude.{Result, Ok, Err, ⊤}
+use Rattle.refusals.specs.declared.Refusal.{Refusal}
 use Prim.Native.Nat.{ℕ, zero, suc, ◌-◌, ◌^◌, ◌<◌, ◌≤◌}
 use mathlib.Core.Path.{◌≡◌, refl, sym, ap, ◌∙◌}
 use mathlib.Core.Bool.{Bool, true, false}
@@ -15,8 +17,6 @@ use Rattle.boolean.specs.Sums.{list_below, list_from}
 use Rattle.boolean.specs.Functions.{at, swapped}
 use Rattle.refusals.specs.Table.{first, in_range, Box, box_checks, after}
 use Rattle.refusals.specs.declared.Refusal.TheVariants.{Parameter, UnsetMark}
-use Rattle.refusals.specs.declared.Checked.{Checked}
-use Rattle.refusals.specs.declared.Checked.TheVariants.{Accepted, Refused}
 use Rattle.refusals.proofs.Checks.{passed, found, skip, stop, end, box_accepted, after_cases, after_both, not_both}
 use Rattle.refusals.proofs.Bounds.{range_low, range_true}
 use Rattle.design.specs.Model.{Mark, unset, keeps, DesignState, new_design, no_box, mark_at, is_set, rows_kept, with_rows, with_mark, swap_checks, design_add_checks, mark_checks, return_checks, swap_inputs, add, set_mark, return_to, Boxed, SoundState, boxed, without}
@@ -32,7 +32,7 @@ pub boxed_run : (s : DesignState) → Boxed s → (os : List Operation) → Boxe
 unfolding after_operations
 boxed_run s t os = run_keeps after_operation Boxed boxed_after s t os
 
-pub box_stays : (s : DesignState) → Boxed s → (os : List Operation) → first (box_checks (after_operations s os).n (after_operations s os).m (after_operations s os).rows) ≡ Accepted
+pub box_stays : (s : DesignState) → Boxed s → (os : List Operation) → first (box_checks (after_operations s os).n (after_operations s os).m (after_operations s os).rows) ≡ (Ok tt)
 box_stays s t os = box_accepted (after_operations s os).n (after_operations s os).m (after_operations s os).rows (boxed_run s t os).box
 
 pub none_run : (os : List Operation) → after_operations no_box os ≡ no_box
@@ -92,19 +92,19 @@ module _ (k : ℕ) (low : 1 ≤ k) where
     pub mark_keeps : (s : DesignState) → Boxed s → mark_at (set_mark s k) k ≡ keeps s.rows
     unfolding set_mark mark_checks
     mark_keeps s t =
-        ap (λ (c : Checked). mark_at (after c (with_mark s k (keeps s.rows)) s) k)
+        ap (λ (c : Result ⊤ Refusal). mark_at (after c (with_mark s k (keeps s.rows)) s) k)
         (sym (found (skip (boxed_has s t) (skip (range_true 1 16 k low high) end))))
         ∙ get_or-set_same s.marks (k - 1) (keeps s.rows) unset (omega (arith, t.sixteen, low, high))
 
     -- returning to a mark that has rows is accepted, and brings them back
-    pub held_accepted : (s : DesignState) → Boxed s → (rows : List ℕ) → mark_at s k ≡ keeps rows → first (return_checks s k) ≡ Accepted
+    pub held_accepted : (s : DesignState) → Boxed s → (rows : List ℕ) → mark_at s k ≡ keeps rows → first (return_checks s k) ≡ (Ok tt)
     unfolding return_checks
     held_accepted s t rows e = sym (found (skip (boxed_has s t) (skip (range_true 1 16 k low high) (skip (ap is_set e) end))))
 
     pub held_returns : (s : DesignState) → Boxed s → (rows : List ℕ) → mark_at s k ≡ keeps rows → return_to s k ≡ with_rows s rows
     unfolding return_to
     held_returns s t rows e =
-        ap (λ (c : Checked). after c (with_rows s (rows_kept (mark_at s k) s.rows)) s) (held_accepted s t rows e)
+        ap (λ (c : Result ⊤ Refusal). after c (with_rows s (rows_kept (mark_at s k) s.rows)) s) (held_accepted s t rows e)
         ∙ ap (λ (x : Mark). with_rows s (rows_kept x s.rows)) e
 
     -- ---- right after a return the box is the one of the moment when the mark was last set
@@ -119,7 +119,7 @@ module _ (k : ℕ) (low : 1 ≤ k) where
       unfolding after_operations after_operation
       held = mark_stays (set_mark s k) later h ∙ mark_keeps s t
 
-      pub return_accepted : first (return_checks marked k) ≡ Accepted
+      pub return_accepted : first (return_checks marked k) ≡ (Ok tt)
       return_accepted = held_accepted marked (boxed_run s t (sets k ∷ later)) s.rows held
 
       returned : after_operations s history ≡ with_rows marked s.rows
@@ -176,14 +176,14 @@ pub add_outcome : (s : DesignState) → Boxed s → (j w b : ℕ)
 unfolding add standing_rows addition_checked
 add_outcome s t j w b =
     after_both (first (design_add_checks s j w b)) (λ r rows. r.rows ≡ rows) (with_rows s (added_rows j w b s.rows)) s _ s.rows (λ h. refl) refl
-    ∙ ap (λ (k : Checked). after k (added_rows j w b s.rows) s.rows) (sym (same_checks s t j w b (length s.rows) t.box.size))
+    ∙ ap (λ (k : Result ⊤ Refusal). after k (added_rows j w b s.rows) s.rows) (sym (same_checks s t j w b (length s.rows) t.box.size))
 
 -- ---- 6 comes before 17
-pub six_first : (s : DesignState) (k : ℕ) → in_range 1 16 k ≡ false → first (return_checks s k) ≡ Refused Parameter
+pub six_first : (s : DesignState) (k : ℕ) → in_range 1 16 k ≡ false → first (return_checks s k) ≡ Err Parameter
 unfolding return_checks first
 six_first s k h = either (in_range 1 8 s.n) refl
   where
-    either : (b : Bool) → in_range 1 8 s.n ≡ b → first (return_checks s k) ≡ Refused Parameter
+    either : (b : Bool) → in_range 1 8 s.n ≡ b → first (return_checks s k) ≡ Err Parameter
     either true e = sym (found {cs = return_checks s k} (skip e (stop h)))
     either false e = sym (found {cs = return_checks s k} (stop e))
 
@@ -222,7 +222,7 @@ module _ (n m : ℕ) (rows : List ℕ) (b : Box n m rows) (k : ℕ) (low : 1 ≤
   now_boxed = boxed_run (new_design n m rows) (boxed_begun n m rows b) os
 
   -- where none did, it is refused by 17
-  pub never_set : leaves k os ≡ true → first (return_checks now k) ≡ Refused UnsetMark
+  pub never_set : leaves k os ≡ true → first (return_checks now k) ≡ Err UnsetMark
   unfolding return_checks
   never_set h =
       sym (found (skip (boxed_has now now_boxed) (skip (range_true 1 16 k low high)
@@ -237,11 +237,11 @@ module _ (n m : ℕ) (rows : List ℕ) (b : Box n m rows) (k : ℕ) (low : 1 ≤
       ∙ mark_stays k low (set_mark s k) p.later p.left ∙ mark_keeps k low high s (boxed_run (new_design n m rows) (boxed_begun n m rows b) p.earlier)
 
   -- where an operation set the mark, the return is accepted
-  pub set_accepted : LastSet k os → first (return_checks now k) ≡ Accepted
+  pub set_accepted : LastSet k os → first (return_checks now k) ≡ (Ok tt)
   set_accepted p = held_accepted k low high now now_boxed (after_operations (new_design n m rows) p.earlier).rows (split_held p)
 
   -- a return that is accepted brings back the rows of the moment before the last operation that set the mark
-  pub accepted_return : first (return_checks now k) ≡ Accepted → (p : LastSet k os) × (return_to now k ≡ with_rows now (after_operations (new_design n m rows) p.earlier).rows)
+  pub accepted_return : first (return_checks now k) ≡ (Ok tt) → (p : LastSet k os) × (return_to now k ≡ with_rows now (after_operations (new_design n m rows) p.earlier).rows)
   accepted_return h =
       ⊎_elim (λ q. absurd (not_both (never_set q) h))
       (λ p. (p, held_returns k low high now now_boxed (after_operations (new_design n m rows) p.earlier).rows (split_held p))) (last_or_none k os)

@@ -1,4 +1,5 @@
 -- Each operation of the model: what its checks say, what it leaves alone, and that the box and each mark's box stay accepted. Assumes nothing.
+use Rattle.std.specs.Prelude.{Ok, Err}
 use Prim.Native.Nat.{ℕ, zero, suc, ◌-◌, ◌^◌, ◌<◌, ◌≤◌}
 use mathlib.Core.Path.{◌≡◌, refl, sym, ap, ◌∙◌}
 use mathlib.Core.Bool.{Bool, true, false}
@@ -11,7 +12,6 @@ use Rattle.boolean.specs.Sums.{list_below, list_from}
 use Rattle.refusals.specs.Table.{Check, ◌unless◌, first, in_range, box_checks, Box}
 use Rattle.refusals.specs.declared.Refusal.{Refusal}
 use Rattle.refusals.specs.declared.Refusal.TheVariants.{Parameter, WrittenLength}
-use Rattle.refusals.specs.declared.Checked.TheVariants.{Accepted, Refused}
 use Rattle.refusals.proofs.Checks.{passed, found, first_passed, first_append, box, box_accepted, skip, stop, end, after_cases}
 use Rattle.refusals.proofs.Bounds.{range_low, range_high, range_true}
 use Rattle.columns.specs.Addition.{added_rows, addition_checks}
@@ -55,7 +55,7 @@ module _ (s : DesignState) (t : Boxed s) where
       after_cases (first (swap_checks s x y)) (with_rows s (swapped s.rows x y)) s Boxed
       (λ h. record { box = swapped_box t.box x y; kept = t.kept; sixteen = t.sixteen }) t
 
-  pub add_fits : (j w b : ℕ) → first (design_add_checks s j w b) ≡ Accepted → Fits s.n s.m (record { column = j; mask = w; constant = b; lent = s.rows })
+  pub add_fits : (j w b : ℕ) → first (design_add_checks s j w b) ≡ (Ok tt) → Fits s.n s.m (record { column = j; mask = w; constant = b; lent = s.rows })
   unfolding design_add_checks
   add_fits j w b h =
       let p = (passed (design_add_checks s j w b) h).1 in
@@ -105,14 +105,14 @@ module _ (s : DesignState) (t : Boxed s) where
   boxed_after (returns k) = boxed_return k
 
 -- ---- without a box every operation is refused, and there is none afterwards; reading is refused too
-pub none_refuses : (o : Operation) → first (operation_checks no_box o) ≡ Refused Parameter
+pub none_refuses : (o : Operation) → first (operation_checks no_box o) ≡ Err Parameter
 unfolding operation_checks swap_checks design_add_checks mark_checks return_checks first no_box new_design
 none_refuses (swaps x y) = refl
 none_refuses (adds j w b) = refl
 none_refuses (sets k) = refl
 none_refuses (returns k) = refl
 
-pub none_unread : (room : ℕ) → first (design_read_checks no_box room) ≡ Refused WrittenLength
+pub none_unread : (room : ℕ) → first (design_read_checks no_box room) ≡ Err WrittenLength
 unfolding design_read_checks first no_box new_design
 none_unread room = refl
 
@@ -150,14 +150,14 @@ same_checks s t j w b room e =
 
 -- ---- the checks of a swap, by the tests that the code runs
 module _ (s : DesignState) (x y : ℕ) (b : in_range 1 8 s.n ≡ true) where
-  pub swap_first_out : 2 ^ s.n ≤ x → first (swap_checks s x y) ≡ Refused Parameter
+  pub swap_first_out : 2 ^ s.n ≤ x → first (swap_checks s x y) ≡ Err Parameter
   unfolding swap_checks
   swap_first_out h = sym (found (skip b (stop (le-ltb x (2 ^ s.n) h))))
 
-  pub swap_second_out : x < 2 ^ s.n → 2 ^ s.n ≤ y → first (swap_checks s x y) ≡ Refused Parameter
+  pub swap_second_out : x < 2 ^ s.n → 2 ^ s.n ≤ y → first (swap_checks s x y) ≡ Err Parameter
   unfolding swap_checks
   swap_second_out l h = sym (found (skip b (skip (lt-ltb x (2 ^ s.n) l) (stop (le-ltb y (2 ^ s.n) h)))))
 
-  pub swap_in : x < 2 ^ s.n → y < 2 ^ s.n → first (swap_checks s x y) ≡ Accepted
+  pub swap_in : x < 2 ^ s.n → y < 2 ^ s.n → first (swap_checks s x y) ≡ (Ok tt)
   unfolding swap_checks
   swap_in l h = sym (found (skip b (skip (lt-ltb x (2 ^ s.n) l) (skip (lt-ltb y (2 ^ s.n) h) end))))

@@ -1,5 +1,6 @@
 -- From the calls' contracts to the promises: a design that its own calls made stands for those operations, so what is proved of any operations holds of it.
 -- Assumes nothing but those contracts, as `DesignMade` takes them.
+use Rattle.std.specs.Prelude.{Result, Ok, Err, ⊤}
 use Prim.Native.Nat.{ℕ, ◌≤◌}
 use mathlib.Core.Path.{◌≡◌, sym, ap, ◌∙◌}
 use mathlib.Core.Logic.{◌↔◌, ⊎_elim}
@@ -8,8 +9,6 @@ use mathlib.Core.List.{List, [], ◌∷◌, ◌++◌}
 use lib.ListN.{length}
 use Rattle.refusals.specs.Table.{first, box_checks, Reply, figures, refusal, reply_after}
 use Rattle.refusals.specs.declared.Refusal.{Refusal}
-use Rattle.refusals.specs.declared.Checked.{Checked}
-use Rattle.refusals.specs.declared.Checked.TheVariants.{Accepted, Refused}
 use Rattle.refusals.proofs.Checks.{box, box_accepted, found, skip, end, reply_refused, reply_accepted, after_refused, after_accepted}
 use Rattle.refusals.proofs.Bounds.{range_true}
 use Rattle.refusals.proofs.Replies.{figures_accepted, no_figures}
@@ -80,7 +79,7 @@ module _ {n m : ℕ} {rows : List ℕ} where
   made_one t u = made_whole t ∙ sym (made_whole u)
 
   -- of a box that is accepted
-  module _ (h : first (box_checks n m rows) ≡ Accepted) {os : List Operation} {d : Design} (t : DesignMade n m rows os d) where
+  module _ (h : first (box_checks n m rows) ≡ (Ok tt)) {os : List Operation} {d : Design} (t : DesignMade n m rows os d) where
     begins_so : begin n m rows ≡ new_design n m rows
     unfolding begin
     begins_so = sym (after_accepted h (new_design n m rows) no_box)
@@ -92,7 +91,7 @@ module _ {n m : ℕ} {rows : List ℕ} where
     made_boxed = rw made_begun (boxed_run (new_design n m rows) (boxed_begun n m rows (box n m rows [] h)) os)
 
     -- the code's box is accepted
-    pub made_accepted : first (box_checks d.n d.m (design_rows d)) ≡ Accepted
+    pub made_accepted : first (box_checks d.n d.m (design_rows d)) ≡ (Ok tt)
     unfolding state_of_design
     made_accepted = box_accepted d.n d.m (design_rows d) made_boxed.box
 
@@ -132,7 +131,7 @@ module _ {n m : ℕ} {rows : List ℕ} where
             (p.0, c.content ∙ ap (λ (s : DesignState). return_to s k) made_begun ∙ p.1 ∙ ap (λ (s : DesignState). with_rows s rows_then) (sym made_begun))
 
   -- of one that is refused: the design without a box, whatever is called; every operation is refused by 6, and reading by 7
-  module _ {e : Refusal} (h : first (box_checks n m rows) ≡ Refused e) {os : List Operation} {d : Design} (t : DesignMade n m rows os d) where
+  module _ {e : Refusal} (h : first (box_checks n m rows) ≡ Err e) {os : List Operation} {d : Design} (t : DesignMade n m rows os d) where
     made_none : state_of_design d ≡ no_box
     unfolding begin
     made_none = made_state t ∙ ap (λ (s : DesignState). after_operations s os) (sym (after_refused h (new_design n m rows) no_box)) ∙ none_run os
@@ -143,7 +142,7 @@ module _ {n m : ℕ} {rows : List ℕ} where
     pub without_refused : (o : Operation) {r : Design} (said : Reply) → OperationCalled o d said r → (said ≡ refusal 6) × (r ≡ d)
     without_refused o said c =
         let p = called_is o said c (made_sound t) in
-        let six = p.reply ∙ ap (λ (s : DesignState). reply_after (first (operation_checks s o)) []) made_none ∙ ap (λ (k : Checked). reply_after k []) (none_refuses o) in
+        let six = p.reply ∙ ap (λ (s : DesignState). reply_after (first (operation_checks s o)) []) made_none ∙ ap (λ (k : Result ⊤ Refusal). reply_after k []) (none_refuses o) in
         (six, p.unchanged 6 six)
 
     pub without_unread : {old new : List ℕ} {said : Reply} → DesignRead d old said new → (said ≡ refusal 7) × (new ≡ old)

@@ -1,10 +1,11 @@
 -- What the code's design stands for, what a design holds that its own calls made, and what each call does, which is its contract and what a
 -- theorem on it assumes.
+use Rattle.refusals.specs.declared.Refusal.{Refusal}
+use Rattle.std.specs.Prelude.{Result, Ok, Err}
+use Rattle.refusals.specs.declared.BoxWidths.{BoxWidths}
 use Rattle.std.specs.Prelude.{ℕ, ◌^◌, ◌≡◌, Bool, true, false, List, [], ◌∷◌, eqb, length, take, replicate}
 use Rattle.design.specs.declared.Snapshot.{Snapshot}
 use Rattle.design.specs.declared.Design.{Design}
-use Rattle.design.specs.declared.BoxHeld.{BoxHeld}
-use Rattle.design.specs.declared.BoxHeld.TheVariants.{Given, Declined}
 use Rattle.refusals.specs.Table.{Check, first, box_checks, Reply, figures, refusal, number, reply_after, Wrote, filled}
 use Rattle.design.specs.Model.{Mark, unset, keeps, DesignState, SoundState, begin, swap_inputs, add, set_mark, return_to}
 use Rattle.design.specs.Model.{swap_checks, design_add_checks, mark_checks, return_checks, design_read_checks}
@@ -77,9 +78,9 @@ abbrev pub DesignReturned : (old : Design) (k : ℕ) (said : Reply) (new : Desig
 DesignReturned old k said new = Operated old (return_checks (state_of_design old) k) (return_to (state_of_design old) k) said new
 
 -- what the answer of reading says: n and m, or the number of the refusal
-abbrev pub said_box_held : BoxHeld → Reply
-said_box_held (Given n m) = figures (n ∷ m ∷ [])
-said_box_held (Declined e) = refusal (number e)
+abbrev pub said_box_held : Result BoxWidths Refusal → Reply
+said_box_held (Ok widths) = figures (widths.n ∷ widths.m ∷ [])
+said_box_held (Err e) = refusal (number e)
 
 -- reading, of every design: the lent array held `old` and then holds `new`
 abbrev pub DesignRead : (d : Design) (old : List ℕ) (said : Reply) (new : List ℕ) → Type 0

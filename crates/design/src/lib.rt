@@ -3,14 +3,13 @@
 // with. The contract of each call is a record of specs/Calls, which the theorems on histories take as it stands.
 #![tactic(auto)]
 
-ghost use Rattle.std.specs.Prelude.{◌≡◌};
+ghost use Rattle.std.specs.Prelude.{◌≡◌, Err};
 ghost use Rattle.refusals.specs.Table.{said_written};
-ghost use Rattle.refusals.specs.declared.Written.TheVariants as answers;
 ghost use Rattle.design.specs.Model as model;
 ghost use Rattle.design.specs.Calls.{snapshot_of, said_box_held, DesignBegun, DesignSwapped};
 ghost use Rattle.design.specs.Calls.{DesignAdded, DesignMarked, DesignReturned, DesignRead};
 
-use refusals::{Checked, Refusal, Written};
+use refusals::{BoxWidths, Refusal};
 
 // A mark: 1 and the rows of the moment when it was last set, or zeros where it was never set. A caller in C may hand in any number, so it
 // is no bool.
@@ -35,14 +34,7 @@ pub struct Design {
 #[derive(Clone, Copy)]
 pub struct Tuned {
     pub design: Design,
-    pub answer: Written,
-}
-
-// The answer of reading a design: the widths of its box.
-#[derive(Clone, Copy)]
-pub enum BoxHeld {
-    Given { n: u32, m: u32 },
-    Declined(Refusal),
+    pub answer: Result<(), Refusal>,
 }
 
 // A mark that was never set.
@@ -55,9 +47,9 @@ fn unset() -> Snapshot
 
 // A refused call hands the design back beside the number.
 fn declined(design: Design, e: Refusal) -> Tuned
-    ensures { (result.design ≡ design) × (result.answer ≡ answers.Declined e) }
+    ensures { (result.design ≡ design) × (result.answer ≡ Err e) }
 {
-    let answer = Written::Declined(e);
+    let answer = Err(e);
     Tuned { design, answer }
 }
 
@@ -69,7 +61,7 @@ impl Design {
         let none = unset();
         let marks = [none; 16];
         let mut held = [0u32; 256];
-        if let Checked::Refused(e) = refusals::check_box(n, m, rows) {
+        if let Err(e) = refusals::check_box(n, m, rows) {
             let design = Design {
                 n: 0,
                 m: 0,
@@ -85,7 +77,7 @@ impl Design {
             rows: held,
             marks,
         };
-        let answer = Written::Done;
+        let answer = Ok(());
         Tuned { design, answer }
     }
 
@@ -115,7 +107,7 @@ impl Design {
         rows[i] = there;
         rows[j] = here;
         let design = Design { n, m, rows, marks };
-        let answer = Written::Done;
+        let answer = Ok(());
         Tuned { design, answer }
     }
 
@@ -133,12 +125,12 @@ impl Design {
         let size = boolean::power_of_two(n);
         let mut rows = [0u32; 256];
         let added = columns::add_to_column(n, self.m, &all[..size], j, w, b, &mut rows[..size]);
-        if let Written::Declined(e) = added {
+        if let Err(e) = added {
             return declined(self, e);
         }
         let mut design = self;
         design.rows = rows;
-        let answer = Written::Done;
+        let answer = Ok(());
         Tuned { design, answer }
     }
 
@@ -158,7 +150,7 @@ impl Design {
         let rows = self.rows;
         let mut design = self;
         design.marks[i] = Snapshot { taken: 1, rows };
-        let answer = Written::Done;
+        let answer = Ok(());
         Tuned { design, answer }
     }
 
@@ -181,12 +173,12 @@ impl Design {
         let rows = here.rows;
         let mut design = self;
         design.rows = rows;
-        let answer = Written::Done;
+        let answer = Ok(());
         Tuned { design, answer }
     }
 
     // The box: n and m are the answer, and the rows go to a lent array.
-    pub fn read_box(self, rows: &mut [u32]) -> BoxHeld
+    pub fn read_box(self, rows: &mut [u32]) -> Result<BoxWidths, Refusal>
         ensures { DesignRead self rows.old (said_box_held result) rows.new }
     {
         let n = self.n;
@@ -194,13 +186,13 @@ impl Design {
         let all = &held[..];
         if !refusals::in_range(1, 8, n) {
             // no box: there is nothing to read
-            return BoxHeld::Declined(Refusal::WrittenLength);
+            return Err(Refusal::WrittenLength);
         }
         let size = boolean::power_of_two(n);
         if rows.len() != size {
-            return BoxHeld::Declined(Refusal::WrittenLength);
+            return Err(Refusal::WrittenLength);
         }
         boolean::copy(&all[..size], rows);
-        BoxHeld::Given { n, m: self.m }
+        Ok(BoxWidths { n, m: self.m })
     }
 }

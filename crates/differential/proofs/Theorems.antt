@@ -1,5 +1,6 @@
 -- The largest cell, as the call replies it, and in whichever order the cells are visited; the list of all cells that reach it: which these are,
 -- and their order; and one row.
+use Rattle.std.specs.Prelude.{Ok}
 use mathlib.Core.Path.{◌≡◌, sym, ap, ◌∙◌}
 use mathlib.Core.Bool.{Bool}
 use mathlib.Core.Logic.{◌↔◌}
@@ -19,7 +20,6 @@ use Rattle.boolean.proofs.Kept.{mem_keep, in_keep, ascending_keep}
 use Rattle.boolean.proofs.Members.{ascending_map}
 use Rattle.boolean.proofs.Selection.{first_largest_chooses}
 use Rattle.refusals.specs.Table.{first, figures, box_checks}
-use Rattle.refusals.specs.declared.Checked.TheVariants.{Accepted}
 use Rattle.refusals.proofs.Checks.{box, reply_accepted}
 use Rattle.refusals.proofs.Replies.{figures_accepted, head_same}
 use Rattle.differential.specs.XorTable.{cell, xor_row, cells, largest_cell, largest_cells, coded}
@@ -31,7 +31,7 @@ use Rattle.differential.proofs.FirstCell.{largest_cell_most, largest_cell_reache
 module _ (n m : ℕ) (rows : List ℕ) where
   -- "or the largest cell with its witness (first a, then β)": of an accepted box no cell counts more than the reported d, the witness counts d, and
   -- each cell before it less
-  pub xor_reported : first (box_checks n m rows) ≡ Accepted → XorReported n m rows
+  pub xor_reported : first (box_checks n m rows) ≡ (Ok tt) → XorReported n m rows
   xor_reported h =
       let low = (box n m rows [] h).n_low in
       let r = largest_cell_reached n m rows low in
@@ -57,7 +57,7 @@ module _ (n m : ℕ) (rows : List ℕ) where
 
   -- ---- the list of cells, of a box whose largest cell the call replies as d
   module _ (d : ℕ) (witness : List ℕ) (e : largest_cell_reply n m rows ≡ figures (d ∷ witness)) where
-    said : (first (box_checks n m rows) ≡ Accepted) × ((d ∷ witness) ≡ shown (largest_cell n m rows))
+    said : (first (box_checks n m rows) ≡ (Ok tt)) × ((d ∷ witness) ≡ shown (largest_cell n m rows))
     said = figures_accepted (first (box_checks n m rows)) (shown (largest_cell n m rows)) e
 
     abbrev reaches : Candidate → Bool

@@ -14,7 +14,7 @@ ghost use Rattle.differential.specs.Calls.{row_checks, said_largest_cell, larges
 ghost use Rattle.differential.specs.Work.{cell_found, CellsSwept, XorInside, differences_of, FreeFrom, Buckets, after_standing};
 ghost use Rattle.differential.specs.Running.{HighestBit, Paired, LargestSoFar, number_in, InRow, risen_at, higher_of, running_after};
 
-use refusals::{Checked, Refusal, Written};
+use refusals::Refusal;
 
 // Numbers of a count's standing: see `risen`. The standing of the difference 0 with a count of 0 is 2^32 − 1.
 const TWO_TO_32: u64 = 4294967296;
@@ -36,20 +36,6 @@ pub struct FoundCell {
 pub struct AfterRise {
     pub standing: u64,
     pub running: u64,
-}
-
-// The answer of the largest cell.
-#[derive(Clone, Copy)]
-pub enum LargestCell {
-    Reached { count: u32, a: u32, beta: u32 },
-    Declined(Refusal),
-}
-
-// The answer of the list of cells: how many there are.
-#[derive(Clone, Copy)]
-pub enum CellList {
-    Listed { count: u32 },
-    Unlisted(Refusal),
 }
 
 // The output differences under the input difference a, one for each input.
@@ -82,20 +68,19 @@ fn count_equal(differences: &[u32], beta: u32) -> u32
 }
 
 // The checks of one row, which is given for at most 16 outputs.
-fn check_row(n: u32, m: u32, rows: &[u32], a: u32, room: usize) -> Checked
+#[tactic(auto, unfolding(refusals::specs::Table::first, crate::specs::Calls::row_checks))]
+fn check_row(n: u32, m: u32, rows: &[u32], a: u32, room: usize) -> Result<(), Refusal>
     ensures { result ≡ first (row_checks n m rows.now a room) }
 {
-    if let Checked::Refused(e) = refusals::check_box_up_to(16, n, m, rows) {
-        return Checked::Refused(e);
-    }
+    refusals::check_box_up_to(16, n, m, rows)?;
     let inputs = boolean::power_of_two(n) as u32;
     if !refusals::in_range(1, inputs - 1, a) {
-        return Checked::Refused(Refusal::Parameter);
+        return Err(Refusal::Parameter);
     }
     if room != boolean::power_of_two(m) {
-        return Checked::Refused(Refusal::WrittenLength);
+        return Err(Refusal::WrittenLength);
     }
-    Checked::Accepted
+    Ok(())
 }
 
 // The row of a, with an array for the differences lent.
@@ -110,16 +95,14 @@ fn write_row(n: u32, m: u32, rows: &[u32], a: u32, differences: &mut [u32], coun
 }
 
 // One row of the XOR table: the count for each output difference under the input difference a.
-pub fn xor_row(n: u32, m: u32, rows: &[u32], a: u32, counts: &mut [u16]) -> Written
+pub fn xor_row(n: u32, m: u32, rows: &[u32], a: u32, counts: &mut [u16]) -> Result<(), Refusal>
     ensures { RowCalled n m rows.now a counts.old result counts.new }
 {
-    if let Checked::Refused(e) = check_row(n, m, rows, a, counts.len()) {
-        return Written::Declined(e);
-    }
+    check_row(n, m, rows, a, counts.len())?;
     let mut differences = [0u32; 256];
     let size = rows.len();
     write_row(n, m, rows, a, &mut differences[..size], counts);
-    Written::Done
+    Ok(())
 }
 
 // The highest bit of a.
@@ -282,29 +265,20 @@ fn find_largest(n: u32, m: u32, rows: &[u32], pairs: &mut [u32]) -> FoundCell
 // The largest cell of a box, the first of these by ascending a, then beta. An array is made before the checks, so that the compiler lays
 // out the function's stack frame at its start. Laid out after them, the frame with the buckets is so long that the code which touches its
 // pages overwrites the register that holds the number of rows: a fault of the compiler, which no proof covers (decision 119).
-pub fn largest_cell(n: u32, m: u32, rows: &[u32]) -> LargestCell
+pub fn largest_cell(n: u32, m: u32, rows: &[u32]) -> Result<FoundCell, Refusal>
     ensures { said_largest_cell result ≡ largest_cell_reply n m rows.now }
 {
     let mut pairs = [0u32; 128];
-    if let Checked::Refused(e) = refusals::check_box(n, m, rows) {
-        return LargestCell::Declined(e);
-    }
-    let found = find_largest(n, m, rows, &mut pairs);
-    LargestCell::Reached {
-        count: found.count,
-        a: found.a,
-        beta: found.beta,
-    }
+    refusals::check_box(n, m, rows)?;
+    Ok(find_largest(n, m, rows, &mut pairs))
 }
 
 // All cells that reach the largest count, each as a * 2^32 + beta, by ascending a, then beta, with their number. They are counted before
 // the list is written to.
-pub fn largest_cells(n: u32, m: u32, rows: &[u32], list: &mut [u64]) -> CellList
+pub fn largest_cells(n: u32, m: u32, rows: &[u32], list: &mut [u64]) -> Result<u32, Refusal>
     ensures { ListCalled n m rows.now list.old result list.new }
 {
-    if let Checked::Refused(e) = refusals::check_box(n, m, rows) {
-        return CellList::Unlisted(e);
-    }
+    refusals::check_box(n, m, rows)?;
     let mut standings = [0u64; 256];
     let mut numbers = [0u32; 256];
     listing::list_with(n, m, rows, &mut standings, &mut numbers, list)

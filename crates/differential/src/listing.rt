@@ -11,7 +11,7 @@ ghost use Rattle.differential.specs.Work.{CellsAfter, RunningCells, IsRow, RowMe
 ghost use Rattle.differential.specs.Work.{run_at, runs, FreeFrom, Buckets, PairsInOrder};
 ghost use Rattle.differential.specs.Running.{Paired};
 
-use crate::{CellList, STANDING_OF_0, TWO_TO_32, TWO_TO_40, larger, rise, write_pairs};
+use crate::{STANDING_OF_0, TWO_TO_32, TWO_TO_40, larger, rise, write_pairs};
 use refusals::Refusal;
 
 // What the list needs of a row: its largest standing, and how many of its cells reach that count.
@@ -268,7 +268,7 @@ pub fn list_with(
     standings: &mut [u64; 256],
     numbers: &mut [u32; 256],
     list: &mut [u64],
-) -> CellList
+) -> Result<u32, Refusal>
     requires { Box n m rows.now × (length standings.old ≡ 256) × (length numbers.old ≡ 256) }
     ensures list_called { ListCalled n m rows.now list.old result list.new }
     ensures measured { RowsMeasured n m rows.now standings.new numbers.new }
@@ -276,10 +276,8 @@ pub fn list_with(
     let largest = measure(n, m, rows, standings, numbers);
     let count = count_cells(n, m, rows, standings, numbers, largest);
     if list.len() < count {
-        return CellList::Unlisted(Refusal::ListTooShort);
+        return Err(Refusal::ListTooShort);
     }
     list_cells(n, m, rows, standings, numbers, largest, list);
-    CellList::Listed {
-        count: count as u32,
-    }
+    Ok(count as u32)
 }

@@ -9,9 +9,8 @@ ghost use Rattle.lines.specs.Lines.{numbers_line, reply_line};
 ghost use Rattle.catalogue.specs.Calls.{said_told, said_fetched};
 ghost use Rattle.fetched.specs.Printed.{box_line, file_shown, record_shown, records_shown};
 
-use boxfile::BoxFile;
-use catalogue::{Fetched, Told};
-use refusals::Written;
+use catalogue::Extent;
+use refusals::{BoxWidths, Refusal};
 use std::io::{self, Write};
 
 fn show_box<W: Write>(out: &mut W, n: u32, m: u32, rows: &[u32]) -> io::Result<()>
@@ -33,8 +32,8 @@ fn show_file<W: Write>(out: &mut W, file: &[u8]) -> io::Result<()>
     let mut rows = [0u32; 256];
     let size = boxfile::room_of(file);
     match boxfile::read_box(file, &mut rows[..size]) {
-        BoxFile::Read { n, m } => show_box(out, n, m, &rows[..size]),
-        BoxFile::Declined(e) => lines::write_refused(out, e),
+        Ok(BoxWidths { n, m }) => show_box(out, n, m, &rows[..size]),
+        Err(e) => lines::write_refused(out, e),
     }
 }
 
@@ -44,12 +43,12 @@ fn show_place<W: Write>(out: &mut W, offset: u32, size: u32) -> io::Result<()>
     lines::write_line(out, "at", &[offset, size])
 }
 
-fn show_fetched<W: Write>(out: &mut W, answer: Fetched) -> io::Result<()>
+fn show_fetched<W: Write>(out: &mut W, answer: Result<Extent, Refusal>) -> io::Result<()>
     ensures { OnOk result (Appends (W.contents out.old) (W.contents out.new) (reply_line (codes "at") (said_fetched answer))) }
 {
     match answer {
-        Fetched::Lies { offset, size } => show_place(out, offset, size),
-        Fetched::Unfetched(e) => lines::write_refused(out, e),
+        Ok(Extent { offset, size }) => show_place(out, offset, size),
+        Err(e) => lines::write_refused(out, e),
     }
 }
 
@@ -72,21 +71,21 @@ fn show_records<W: Write>(out: &mut W, catalogue: &[u8]) -> io::Result<()>
     Ok(())
 }
 
-fn show_added<W: Write>(out: &mut W, answer: Told) -> io::Result<()>
+fn show_added<W: Write>(out: &mut W, answer: Result<u32, Refusal>) -> io::Result<()>
     ensures { OnOk result (Appends (W.contents out.old) (W.contents out.new) (reply_line (codes "added") (said_told answer))) }
 {
     match answer {
-        Told::Number(index) => lines::write_line(out, "added", &[index]),
-        Told::Declined(e) => lines::write_refused(out, e),
+        Ok(index) => lines::write_line(out, "added", &[index]),
+        Err(e) => lines::write_refused(out, e),
     }
 }
 
-fn show_written<W: Write>(out: &mut W, answer: Written) -> io::Result<()>
+fn show_written<W: Write>(out: &mut W, answer: Result<(), Refusal>) -> io::Result<()>
     ensures { OnOk result (Appends (W.contents out.old) (W.contents out.new) (reply_line (codes "done") (said_written answer))) }
 {
     match answer {
-        Written::Done => lines::write_line(out, "done", &[]),
-        Written::Declined(e) => lines::write_refused(out, e),
+        Ok(()) => lines::write_line(out, "done", &[]),
+        Err(e) => lines::write_refused(out, e),
     }
 }
 

@@ -1,5 +1,7 @@
 -- The nonlinearity by parts: merging the replies of parts, cut anywhere, in any order and grouping, gives the plain call's reply. It is the law of sweeps in
 -- parts (masks, proofs/Gathering), of the pairs.
+use Rattle.std.specs.Prelude.{Result, Ok, Err, ⊤}
+use Rattle.refusals.specs.declared.Refusal.{Refusal}
 use mathlib.Core.Path.{◌≡◌, refl, sym, ap, ◌∙◌}
 use mathlib.Core.Bool.{Bool, true}
 use mathlib.Core.List.{List, ◌∷◌}
@@ -10,8 +12,6 @@ use Rattle.boolean.specs.Selection.{shown, lower}
 use Rattle.boolean.specs.Sums.{each}
 use Rattle.boolean.proofs.Selection.{least, by_least}
 use Rattle.refusals.specs.Table.{Reply, reply_after, first, limit_checks, in_range}
-use Rattle.refusals.specs.declared.Checked.{Checked}
-use Rattle.refusals.specs.declared.Checked.TheVariants.{Accepted, Refused}
 use Rattle.refusals.proofs.Checks.{limited}
 use Rattle.masks.specs.Parts.{shown_best, merged_reply, merged_in_turn}
 use Rattle.masks.specs.Statements.{Cut, Gathered, Covered, replies}
@@ -28,12 +28,12 @@ module _ (n m : ℕ) (rows : List ℕ) (i : ℕ) where
   unfolding nonlinearity pairs
   whole_is = go (first (limit_checks n m rows i)) refl
     where
-      go : (k : Checked) → first (limit_checks n m rows i) ≡ k
+      go : (k : Result ⊤ Refusal) → first (limit_checks n m rows i) ≡ k
           → reply_after k (shown_best lower (each (components m i) (pairs_of n rows))) ≡ reply_after k (shown (nonlinearity n m rows i))
-      go Accepted e =
+      go (Ok tt) e =
           let l = limited n m rows i e in
-          ap (reply_after Accepted) (shown_least (each (components m i) (pairs_of n rows)) (pairs_nonempty n m rows i l.box.m_low l.i_low).2)
-      go (Refused r) e = refl
+          ap (reply_after (Ok tt)) (shown_least (each (components m i) (pairs_of n rows)) (pairs_nonempty n m rows i l.box.m_low l.i_low).2)
+      go (Err r) e = refl
 
   -- Merged replies that cover a part, and no other mask, are its reply,
   pub gathered_part : {p : ℕ → Bool} {x : Reply} → Gathered ltb m (nonlinearity_cut n m rows i) p x → (c : Cut m)

@@ -1,5 +1,6 @@
 -- What the call over a part of the combinations reports: the least count of the part's pairs and the first of them that has it; and no figure exactly
 -- where no combination within the limit lies in the part.
+use Rattle.std.specs.Prelude.{Ok}
 use mathlib.Core.Path.{◌≡◌, refl, sym, ap, ◌∙◌}
 use mathlib.Core.Logic.{◌↔◌}
 use mathlib.Core.List.{List, [], ◌∷◌, Memᴰ}
@@ -13,7 +14,6 @@ use Rattle.boolean.specs.Selection.{Candidate, shown, lower, first_least}
 use Rattle.boolean.proofs.Lists.{some_member, mem_each, in_each}
 use Rattle.boolean.proofs.Selection.{first_least_chooses, first_ranked}
 use Rattle.refusals.specs.Table.{figures, first}
-use Rattle.refusals.specs.declared.Checked.TheVariants.{Accepted}
 use Rattle.refusals.proofs.Checks.{reply_accepted}
 use Rattle.masks.specs.Parts.{components_between, shown_best, best_between}
 use Rattle.masks.specs.Statements.{MaskBetween}
@@ -48,7 +48,7 @@ module _ (n m : ℕ) (rows : List ℕ) (i low high : ℕ) where
   unfolding each
   none_found h = ap (λ (l : List ℕ). shown_best lower (each l (pairs_of n rows))) (none_between m i low high h)
 
-  module _ (ok : first (part_checks n m rows i low high) ≡ Accepted) where
+  module _ (ok : first (part_checks n m rows i low high) ≡ (Ok tt)) where
     pub between_reported : (k : ℕ) → MaskBetween m i low high k → NonlinearityBetweenReported n m rows i low high
     between_reported k inside =
         let some = some_member part_pairs (in_part k 0 0 (record { mask = inside; w_high = pow_pos n; b_high = zero-lt-suc 1 })) in

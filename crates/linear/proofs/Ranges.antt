@@ -1,4 +1,5 @@
 -- The pairs of a part of the components: where the part is the whole, where it begins before its first mask within the limit, and where none lies in it.
+use Rattle.std.specs.Prelude.{Ok}
 use mathlib.Core.Path.{◌≡◌, refl, sym, ap, ◌∙◌}
 use mathlib.Core.List.{List, [], ◌∷◌}
 use Prim.Native.Nat.{ℕ, ◌-◌, ◌^◌, ◌≤◌, ◌<◌}
@@ -11,7 +12,6 @@ use Rattle.boolean.specs.Sums.{each}
 use Rattle.boolean.proofs.Lists.{some_member, in_each}
 use Rattle.boolean.proofs.OneBit.{ones_one}
 use Rattle.refusals.specs.Table.{first, limit_checks}
-use Rattle.refusals.specs.declared.Checked.TheVariants.{Accepted}
 use Rattle.refusals.proofs.Bounds.{range_true}
 use Rattle.refusals.proofs.Checks.{Limited, limited}
 use Rattle.masks.proofs.Gathering.{part_lies}
@@ -29,7 +29,7 @@ pub record Within (n m : ℕ) (rows : List ℕ) (i a e : ℕ) : Type 0 where
   pub some : a ≤ e
   pub high : e < 2 ^ m
 
-pub part_accepted : (n m : ℕ) (rows : List ℕ) (i low high : ℕ) → first (part_checks n m rows i low high) ≡ Accepted → Within n m rows i low high
+pub part_accepted : (n m : ℕ) (rows : List ℕ) (i low high : ℕ) → first (part_checks n m rows i low high) ≡ (Ok tt) → Within n m rows i low high
 unfolding part_checks
 part_accepted n m rows i low high h =
     let t = part_lies (limit_checks n m rows i) m low high h in

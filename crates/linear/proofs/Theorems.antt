@@ -1,6 +1,7 @@
 -- A component's least count, beside the largest magnitude of its Walsh values. The nonlinearity d: the least distance, the first pair that has it;
 -- the covering bound, and where that is met; and all of it of what the call reports
 -- (`nonlinearity_reported`).
+use Rattle.std.specs.Prelude.{Ok}
 use mathlib.Core.Path.{◌≡◌, sym, ap, ap₂, ◌∙◌}
 use mathlib.Core.Logic.{◌↔◌}
 use mathlib.Core.List.{List, ◌∷◌}
@@ -18,7 +19,6 @@ use Rattle.boolean.proofs.Spectrum.{some_walsh_large}
 use Rattle.boolean.proofs.Bent.{bent_of_squares, bent_squares}
 use Rattle.boolean.proofs.Selection.{first_least_chooses, first_ranked}
 use Rattle.refusals.specs.Table.{figures, limit_checks, first}
-use Rattle.refusals.specs.declared.Checked.TheVariants.{Accepted}
 use Rattle.refusals.proofs.Checks.{limited, reply_accepted}
 use Rattle.linear.specs.Nonlinearity.{pair, pairs_of, pairs, nonlinearity, nonlinearity_reply}
 use Rattle.linear.specs.Statements.{IsPair, PairBefore, NonlinearityReported, pair_rank}
@@ -132,7 +132,7 @@ module _ (n m : ℕ) (rows : List ℕ) (i : ℕ) where
 module _ (n m : ℕ) (rows : List ℕ) (i : ℕ) where
   -- "With d the nonlinearity reported for an accepted table: every nonzero output combination differs from every affine function at d inputs or more, and
   -- the witness is the first pair that differs at exactly d."
-  pub nonlinearity_reported : first (limit_checks n m rows i) ≡ Accepted → NonlinearityReported n m rows i
+  pub nonlinearity_reported : first (limit_checks n m rows i) ≡ (Ok tt) → NonlinearityReported n m rows i
   nonlinearity_reported accepted =
       let l = limited n m rows i accepted in
       let t = nonlinearity_reached n m rows i l.box.m_low l.i_low in
@@ -151,7 +151,7 @@ module _ (n m : ℕ) (rows : List ℕ) (i : ℕ) where
 
   -- a reply of figures is that of an accepted table, and its first figure is the nonlinearity
   pub figure_told : {d : ℕ} {witness : List ℕ} → nonlinearity_reply n m rows i ≡ figures (d ∷ witness)
-      → (first (limit_checks n m rows i) ≡ Accepted) × ((nonlinearity n m rows i).figure ≡ d)
+      → (first (limit_checks n m rows i) ≡ (Ok tt)) × ((nonlinearity n m rows i).figure ≡ d)
   figure_told e =
       let t = figures_accepted (first (limit_checks n m rows i)) (shown (nonlinearity n m rows i)) e in
       (t.0, sym (ap (λ (l : List ℕ). at l 0) t.1))

@@ -16,7 +16,7 @@ ghost use Rattle.linear.specs.Calls.{component_checks, ComponentCalled, said_lea
 ghost use Rattle.linear.specs.Parts.{said_part};
 ghost use Rattle.linear.specs.Lent.{PairsSwept, PartSwept};
 
-use refusals::{Checked, Refusal, Written};
+use refusals::Refusal;
 
 // The best pair so far. It stands in a server, which crosses to C by value: so its fields lie as C lays them.
 #[repr(C)]
@@ -26,21 +26,6 @@ pub struct Found {
     pub c: u32,
     pub w: u32,
     pub b: u32,
-}
-
-// The answer of the nonlinearity call.
-#[derive(Clone, Copy)]
-pub enum LeastPair {
-    Reached { count: u32, c: u32, w: u32, b: u32 },
-    Declined(Refusal),
-}
-
-// The answer of the nonlinearity call over a part of the combinations: the same, or that none within the limit lies in the part.
-#[derive(Clone, Copy)]
-pub enum PartPair {
-    Reached { count: u32, c: u32, w: u32, b: u32 },
-    Nothing,
-    Declined(Refusal),
 }
 
 // The spectrum of component c, with the fixed table and an array for the truth table lent.
@@ -103,34 +88,37 @@ pub fn component_peak(
 }
 
 // The checks of the component's spectrum.
-fn check_component(n: u32, m: u32, rows: &[u32], c: u32, room: usize) -> Checked
+#[tactic(auto, unfolding(refusals::specs::Table::first, crate::specs::Calls::component_checks))]
+fn check_component(n: u32, m: u32, rows: &[u32], c: u32, room: usize) -> Result<(), Refusal>
     ensures { result ≡ first (component_checks n m rows.now c room) }
 {
-    if let Checked::Refused(e) = refusals::check_box(n, m, rows) {
-        return Checked::Refused(e);
-    }
+    refusals::check_box(n, m, rows)?;
     let masks = boolean::power_of_two(m) - 1;
     if !refusals::in_range(1, masks as u32, c) {
-        return Checked::Refused(Refusal::Parameter);
+        return Err(Refusal::Parameter);
     }
     if room != boolean::power_of_two(n) {
-        return Checked::Refused(Refusal::WrittenLength);
+        return Err(Refusal::WrittenLength);
     }
-    Checked::Accepted
+    Ok(())
 }
 
 // The spectrum of component c of a box.
-pub fn spectrum_of_component(n: u32, m: u32, rows: &[u32], c: u32, out: &mut [i32]) -> Written
+pub fn spectrum_of_component(
+    n: u32,
+    m: u32,
+    rows: &[u32],
+    c: u32,
+    out: &mut [i32],
+) -> Result<(), Refusal>
     ensures { ComponentCalled n m rows.now c out.old result out.new }
 {
-    if let Checked::Refused(e) = check_component(n, m, rows, c, out.len()) {
-        return Written::Declined(e);
-    }
+    check_component(n, m, rows, c, out.len())?;
     let fixed = walsh::spectra();
     let mut table = [0u8; 256];
     let size = rows.len();
     component_spectrum(&fixed, n, m, rows, c, &mut table[..size], out);
-    Written::Done
+    Ok(())
 }
 
 // The fewest inputs at which component c differs from an affine function, with the fixed table and two arrays to work in lent: the first is
@@ -277,79 +265,65 @@ fn least_between(n: u32, m: u32, rows: &[u32], i: u32, first: u32, last: u32) ->
 }
 
 // The nonlinearity of a box over its combinations of at most i outputs, with the first pair that reaches it.
-pub fn nonlinearity(n: u32, m: u32, rows: &[u32], i: u32) -> LeastPair
+pub fn nonlinearity(n: u32, m: u32, rows: &[u32], i: u32) -> Result<Found, Refusal>
     ensures { said_least_pair result ≡ nonlinearity_reply n m rows.now i }
 {
-    if let Checked::Refused(e) = refusals::check_limited(n, m, rows, i) {
-        return LeastPair::Declined(e);
-    }
+    refusals::check_limited(n, m, rows, i)?;
     let masks = (boolean::power_of_two(m) - 1) as u32;
-    let found = least_between(n, m, rows, i, 1, masks);
-    LeastPair::Reached {
-        count: found.count,
-        c: found.c,
-        w: found.w,
-        b: found.b,
-    }
+    Ok(least_between(n, m, rows, i, 1, masks))
 }
 
 // The checks of a part: the plain call's, then that it lies from 1 to 2^m − 1.
-pub fn check_part(n: u32, m: u32, rows: &[u32], limit: u32, low: u32, high: u32) -> Checked
+#[tactic(auto, unfolding(refusals::specs::Table::first, crate::specs::Nonlinearity::part_checks))]
+pub fn check_part(
+    n: u32,
+    m: u32,
+    rows: &[u32],
+    limit: u32,
+    low: u32,
+    high: u32,
+) -> Result<(), Refusal>
     ensures { result ≡ first (part_checks n m rows.now limit low high) }
 {
-    if let Checked::Refused(e) = refusals::check_limited(n, m, rows, limit) {
-        return Checked::Refused(e);
-    }
+    refusals::check_limited(n, m, rows, limit)?;
     masks::check_part(m, low, high)
 }
 
 // The nonlinearity over the combinations of at most i outputs whose masks lie from `first` to `last`: a part of a sweep.
-pub fn nonlinearity_between(n: u32, m: u32, rows: &[u32], i: u32, first: u32, last: u32) -> PartPair
+pub fn nonlinearity_between(
+    n: u32,
+    m: u32,
+    rows: &[u32],
+    i: u32,
+    first: u32,
+    last: u32,
+) -> Result<Option<Found>, Refusal>
     ensures { said_part result ≡ nonlinearity_between_reply n m rows.now i first last }
 {
-    if let Checked::Refused(e) = check_part(n, m, rows, i, first, last) {
-        return PartPair::Declined(e);
-    }
+    check_part(n, m, rows, i, first, last)?;
     let start = masks::first_mask(i, first as u64);
     if (last as u64) < start {
-        return PartPair::Nothing;
+        return Ok(None);
     }
-    let nearest = least_between(n, m, rows, i, start as u32, last);
-    PartPair::Reached {
-        count: nearest.count,
-        c: nearest.c,
-        w: nearest.w,
-        b: nearest.b,
-    }
+    Ok(Some(least_between(n, m, rows, i, start as u32, last)))
 }
 
 // Two parts' answers as one: the fewer inputs, then the fewer outputs, then the smaller mask; a refusal stays one.
-pub fn merge(x: PartPair, y: PartPair) -> PartPair
+pub fn merge(
+    x: Result<Option<Found>, Refusal>,
+    y: Result<Option<Found>, Refusal>,
+) -> Result<Option<Found>, Refusal>
     ensures { said_part result ≡ merged_reply ltb (said_part x) (said_part y) }
 {
-    match x {
-        PartPair::Declined(e) => PartPair::Declined(e),
-        PartPair::Nothing => y,
-        PartPair::Reached {
-            count,
-            c,
-            w: _,
-            b: _,
-        } => match y {
-            PartPair::Declined(e) => PartPair::Declined(e),
-            PartPair::Nothing => x,
-            PartPair::Reached {
-                count: other,
-                c: mask,
-                w: _,
-                b: _,
-            } => {
-                if masks::is_sooner(other, count, mask, c) {
-                    y
-                } else {
-                    x
-                }
-            }
-        },
+    let Some(first) = x? else {
+        return y;
+    };
+    let Some(second) = y? else {
+        return x;
+    };
+    if masks::is_sooner(second.count, first.count, second.c, first.c) {
+        y
+    } else {
+        x
     }
 }

@@ -1,17 +1,17 @@
 -- What is shown of a call's outcome is what is shown of its reply and its result.
+use Rattle.std.specs.Prelude.{⊤}
+use Rattle.refusals.specs.declared.Refusal.{Refusal}
 use Rattle.std.proofs.Common.{◌≡◌, ℕ, List, ◌++◌, ap, ◌∙◌, subst, OnOk, Result, Option, Ok, Err}
 use Rattle.std.proofs.KnownBytes.{Appends-trans}
 use Rattle.std.specs.Io.KnownBytes.{Appends}
 use Rattle.refusals.specs.Table.{Check, first, Reply, reply_after, after, Wrote}
-use Rattle.refusals.specs.declared.Checked.{Checked}
-use Rattle.refusals.specs.declared.Checked.TheVariants.{Accepted, Refused}
 use Rattle.lines.specs.Lines.{shown_reply}
 
 module _ {A : Type 0} (of_figures : List ℕ → List A → List ℕ) (of_refusal : ℕ → List ℕ) where
-  shown_after : (k : Checked) (given : List ℕ) (result lent left : List A) (said : Reply) → said ≡ reply_after k given → left ≡ after k result lent
+  shown_after : (k : Result ⊤ Refusal) (given : List ℕ) (result lent left : List A) (said : Reply) → said ≡ reply_after k given → left ≡ after k result lent
       → shown_reply of_figures of_refusal said left ≡ shown_reply of_figures of_refusal (reply_after k given) result
-  shown_after Accepted given result lent left said p q = ap (λ (s : Reply). shown_reply of_figures of_refusal s left) p ∙ ap (of_figures given) q
-  shown_after (Refused e) given result lent left said p q = ap (λ (s : Reply). shown_reply of_figures of_refusal s left) p
+  shown_after (Ok tt) given result lent left said p q = ap (λ (s : Reply). shown_reply of_figures of_refusal s left) p ∙ ap (of_figures given) q
+  shown_after (Err e) given result lent left said p q = ap (λ (s : Reply). shown_reply of_figures of_refusal s left) p
 
   pub shown_wrote : {checks : List Check} {given : List ℕ} {result lent left : List A} {said : Reply} → Wrote checks given result lent said left
       → shown_reply of_figures of_refusal said left ≡ shown_reply of_figures of_refusal (reply_after (first checks) given) result

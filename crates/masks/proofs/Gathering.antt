@@ -1,5 +1,6 @@
 -- A sweep in parts: merging the replies of parts, cut anywhere, in any order and grouping, gives the reply of the call over all masks that they cover. One
 -- law, whatever is measured: by any comparison of figures, any blocks of candidates and any checks. Assumes nothing.
+use Rattle.std.specs.Prelude.{Result, Ok, Err, ⊤}
 use mathlib.Core.Path.{◌≡◌, refl, sym, ap, ap₂, ◌∙◌}
 use mathlib.Core.Logic.{◌⊎◌, inl, inr, ⊎_elim}
 use mathlib.Core.Bool.{Bool, true, false, ◌&&◌, ◌||◌}
@@ -18,8 +19,6 @@ use Rattle.boolean.specs.Sums.{each}
 use Rattle.boolean.proofs.Selection.{of_cons}
 use Rattle.refusals.specs.Table.{Check, Reply, refusal, number, reply_after, first, in_range}
 use Rattle.refusals.specs.declared.Refusal.{Refusal}
-use Rattle.refusals.specs.declared.Checked.{Checked}
-use Rattle.refusals.specs.declared.Checked.TheVariants.{Accepted, Refused}
 use Rattle.refusals.proofs.Bounds.{range_low, range_high, range_true}
 use Rattle.refusals.proofs.Checks.{passed, accepted, accepted_before, accepted_after, first_append, first_refused}
 use Rattle.masks.specs.Parts.{part_lines, components_between, shown_best, best_between, merged_reply, merged_in_turn}
@@ -29,7 +28,7 @@ use Rattle.masks.proofs.Parts.{found_over, merged_over, same_over, whole_over, m
 -- ---- the lines on the part
 module _ (checks : List Check) (m low high : ℕ) where
   -- an accepted part lies from 1 to 2^m − 1
-  pub part_lies : first (checks ++ part_lines m low high) ≡ Accepted → (first checks ≡ Accepted) × (1 ≤ low) × (low ≤ high) × (high < 2 ^ m)
+  pub part_lies : first (checks ++ part_lines m low high) ≡ (Ok tt) → (first checks ≡ (Ok tt)) × (1 ≤ low) × (low ≤ high) × (high < 2 ^ m)
   part_lies h =
       let p = passed (part_lines m low high) (accepted_after checks (part_lines m low high) h) in (
         accepted_before checks (part_lines m low high) h,
@@ -42,11 +41,11 @@ module _ (checks : List Check) (m low high : ℕ) where
   pub part_checked : 1 ≤ low → low ≤ high → high < 2 ^ m → first (checks ++ part_lines m low high) ≡ first checks
   part_checked l s h = go (first checks) refl
     where
-      go : (k : Checked) → first checks ≡ k → first (checks ++ part_lines m low high) ≡ first checks
-      go Accepted e =
+      go : (k : Result ⊤ Refusal) → first checks ≡ k → first (checks ++ part_lines m low high) ≡ first checks
+      go (Ok tt) e =
           first_append checks (part_lines m low high) e
           ∙ accepted (part_lines m low high) (range_true 1 (2 ^ m - 1) low l (omega arith), (range_true low (2 ^ m - 1) high s (omega arith), tt)) ∙ sym e
-      go (Refused r) e = first_refused checks (part_lines m low high) e ∙ sym e
+      go (Err r) e = first_refused checks (part_lines m low high) e ∙ sym e
 
 -- ---- replies merged one after the other are merged in a grouping, and which masks they are of
 module _ (before : ℕ → ℕ → Bool) {m : ℕ} (reply : Cut m → Reply) where
@@ -79,7 +78,7 @@ module _ (before : ℕ → ℕ → Bool) {m : ℕ} (reply : Cut m → Reply) whe
 
 -- ---- the law
 module _ (before : ℕ → ℕ → Bool) {R S : Candidate → Candidate → Type 0} (o : Ordered (λ c b. before c.figure b.figure) R S) (g : ByFigure R S)
-    (m i : ℕ) {f : ℕ → List Candidate} (checks : List Check) (b : first checks ≡ Accepted → Blocks f) (reply : Cut m → Reply)
+    (m i : ℕ) {f : ℕ → List Candidate} (checks : List Check) (b : first checks ≡ (Ok tt) → Blocks f) (reply : Cut m → Reply)
     (is : (c : Cut m) → reply c ≡ reply_after (first (checks ++ part_lines m c.low c.high))
     (best_between (λ c b. before c.figure b.figure) m i c.low c.high f)) where
   abbrev over : (ℕ → Bool) → List ℕ
@@ -88,14 +87,14 @@ module _ (before : ℕ → ℕ → Bool) {R S : Candidate → Candidate → Type
   cut_is : (c : Cut m) → reply c ≡ reply_after (first checks) (over (λ x. in_range c.low c.high x))
   unfolding best_between components_between
   cut_is c =
-      is c ∙ ap (λ (k : Checked). reply_after k (over (λ x. in_range c.low c.high x))) (part_checked checks m c.low c.high c.from_one c.some c.below)
+      is c ∙ ap (λ (k : Result ⊤ Refusal). reply_after k (over (λ x. in_range c.low c.high x))) (part_checked checks m c.low c.high c.from_one c.some c.below)
 
   -- a refused call is refused in every part
-  refused_is : {e : Refusal} → first checks ≡ Refused e → {p : ℕ → Bool} {x : Reply} → Gathered before m reply p x → x ≡ refusal (number e)
-  refused_is stops (single c) = cut_is c ∙ ap (λ (k : Checked). reply_after k (over (λ x. in_range c.low c.high x))) stops
+  refused_is : {e : Refusal} → first checks ≡ Err e → {p : ℕ → Bool} {x : Reply} → Gathered before m reply p x → x ≡ refusal (number e)
+  refused_is stops (single c) = cut_is c ∙ ap (λ (k : Result ⊤ Refusal). reply_after k (over (λ x. in_range c.low c.high x))) stops
   refused_is stops (both s t) = ap₂ (merged_reply before) (refused_is stops s) (refused_is stops t)
 
-  accepted_is : first checks ≡ Accepted → {p : ℕ → Bool} {x : Reply} → Gathered before m reply p x → x ≡ reply_after (first checks) (over p)
+  accepted_is : first checks ≡ (Ok tt) → {p : ℕ → Bool} {x : Reply} → Gathered before m reply p x → x ≡ reply_after (first checks) (over p)
   accepted_is ok (single c) = cut_is c
   accepted_is ok (both {p} {q} s t) =
       ap₂ (merged_reply before) (accepted_is ok s) (accepted_is ok t)
@@ -105,9 +104,9 @@ module _ (before : ℕ → ℕ → Bool) {R S : Candidate → Candidate → Type
   gathered_is : {p : ℕ → Bool} {x : Reply} → Gathered before m reply p x → x ≡ reply_after (first checks) (over p)
   gathered_is {p} {x} t = go (first checks) refl
     where
-      go : (k : Checked) → first checks ≡ k → x ≡ reply_after k (over p)
-      go Accepted e = accepted_is e t ∙ ap (λ (k : Checked). reply_after k (over p)) e
-      go (Refused r) e = refused_is e t
+      go : (k : Result ⊤ Refusal) → first checks ≡ k → x ≡ reply_after k (over p)
+      go (Ok tt) e = accepted_is e t ∙ ap (λ (k : Result ⊤ Refusal). reply_after k (over p)) e
+      go (Err r) e = refused_is e t
 
   -- merged replies that cover a part, and no other mask, are its reply
   pub gathered_part : {p : ℕ → Bool} {x : Reply} → Gathered before m reply p x → (c : Cut m)

@@ -1,5 +1,7 @@
 -- A sweep in parts. A sweep over the masks from one to another visits those of `components_between`; and merging what two sweeps found, over any masks, gives
 -- what one sweep finds over the masks of both: so parts may be cut anywhere, overlap, and be merged in any order and grouping. Assumes nothing.
+use Rattle.std.specs.Prelude.{Result, Ok, Err, ⊤}
+use Rattle.refusals.specs.declared.Refusal.{Refusal}
 use mathlib.Core.Path.{◌≡◌, refl, sym, ap, ap₂, ◌∙◌, subst}
 use mathlib.Core.Logic.{◌⊎◌, inl, inr, ⊎_elim}
 use mathlib.Core.Bool.{Bool, true, false, ◌&&◌, ◌||◌}
@@ -22,8 +24,6 @@ use Rattle.boolean.proofs.Kept.{each_cong_on, keep_takes, mem_keep, in_keep, asc
 use Rattle.boolean.proofs.Lists.{mem_list_from, in_list_from, mem_each, in_each, ascending_list_from}
 use Rattle.boolean.proofs.Selection.{best_mem, Lex, lex_trans, lex_both, ranked_all, ranked_order, first_is_ranked, ascending_one}
 use Rattle.refusals.specs.Table.{in_range, Reply, figures, refusal, reply_after}
-use Rattle.refusals.specs.declared.Checked.{Checked}
-use Rattle.refusals.specs.declared.Checked.TheVariants.{Accepted, Refused}
 use Rattle.refusals.proofs.Bounds.{range_low, range_high, range_true}
 use Rattle.masks.specs.Parts.{components_between, shown_best, above, earlier, sooner, merged_figures, merged_reply}
 use Rattle.masks.specs.Statements.{masks_from, mask, Named, MaskRange, Visit, Blocks, MaskBetween}
@@ -170,10 +170,10 @@ sooner_above x y c best = ap (λ (t : Bool). ltb x y || (t && earlier c best)) (
     go (no e) = ne_eqb x y e ∙ sym (ne_eqb y x (λ d. e (sym d)))
 
 -- two calls by the same checks
-pub merged_after : (before : ℕ → ℕ → Bool) (k : Checked) (xs ys : List ℕ)
+pub merged_after : (before : ℕ → ℕ → Bool) (k : Result ⊤ Refusal) (xs ys : List ℕ)
     → merged_reply before (reply_after k xs) (reply_after k ys) ≡ reply_after k (merged_figures before xs ys)
-merged_after before Accepted xs ys = refl
-merged_after before (Refused e) xs ys = refl
+merged_after before (Ok tt) xs ys = refl
+merged_after before (Err e) xs ys = refl
 
 -- ---- the choice of two choices is the choice of all: no two candidates of one rank
 module _ {beats : Candidate → Candidate → Bool} {R S : Candidate → Candidate → Type 0} (o : Ordered beats R S) (f : ByFigure R S) (rank : Candidate → ℕ) where

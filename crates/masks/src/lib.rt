@@ -13,7 +13,7 @@ ghost use Rattle.masks.specs.Work.{preferred};
 ghost use Rattle.refusals.specs.Table.{first};
 ghost use Rattle.masks.specs.Parts.{part_lines, sooner};
 
-use refusals::{Checked, Refusal};
+use refusals::Refusal;
 
 // The next mask with at most `limit` ones: c + 1 where c has fewer, and else c with its lowest one added.
 pub fn next_mask(limit: u32, c: u64) -> u64
@@ -77,18 +77,19 @@ pub fn is_sooner(low: u32, high: u32, c: u32, best: u32) -> bool
 }
 
 // The lines on a part of a sweep, of an m that was checked: it lies from 1 to 2^m − 1 and has a mask.
-pub fn check_part(m: u32, low: u32, high: u32) -> Checked
+#[tactic(auto, unfolding(refusals::specs::Table::first, crate::specs::Parts::part_lines))]
+pub fn check_part(m: u32, low: u32, high: u32) -> Result<(), Refusal>
     requires { m ≤ 32 }
     ensures { result ≡ first (part_lines m low high) }
 {
     let largest = (boolean::power_of_two(m) - 1) as u32;
     if !refusals::in_range(1, largest, low) {
-        return Checked::Refused(Refusal::Parameter);
+        return Err(Refusal::Parameter);
     }
     if !refusals::in_range(low, largest, high) {
-        return Checked::Refused(Refusal::Parameter);
+        return Err(Refusal::Parameter);
     }
-    Checked::Accepted
+    Ok(())
 }
 
 // The value of component c at a row.

@@ -1,5 +1,7 @@
 -- All nearest pairs, as the call leaves them in the list: exactly the pairs within the limit that differ at d inputs, d being the nonlinearity that
 -- its call replies, each once, in the order of the pairs, the nonlinearity's witness first.
+use Rattle.std.specs.Prelude.{Ok}
+use Rattle.std.specs.Prelude.{Ok}
 use mathlib.Core.Path.{◌≡◌, sym, ap, ◌∙◌}
 use mathlib.Core.Logic.{◌⊎◌, inl, inr}
 use mathlib.Core.Bool.{Bool}
@@ -17,7 +19,6 @@ use Rattle.boolean.specs.Functions.{at, component, distance, mask_rank}
 use Rattle.boolean.specs.Selection.{Candidate, nothing, shown}
 use Rattle.boolean.proofs.Kept.{mem_keep, in_keep, ascending_keep}
 use Rattle.refusals.specs.Table.{first, limit_checks, figures}
-use Rattle.refusals.specs.declared.Checked.TheVariants.{Accepted}
 use Rattle.refusals.proofs.Checks.{limited, accepted_before, accepted_after, passed}
 use Rattle.refusals.proofs.Outcomes.{wrote_when_told}
 use Rattle.refusals.proofs.Replies.{head_same, figures_accepted}
@@ -28,7 +29,6 @@ use Rattle.linear.proofs.Theorems.{nonlinearity_reported, nonlinearity_reached, 
 use Rattle.nearest.specs.NearestPairs.{code, coded_pair, nearest_pairs}
 use Rattle.nearest.specs.Calls.{pairs_checks, PairsCalled}
 use Rattle.nearest.specs.Statements.{PairOf, PairsReported}
-use Rattle.nearest.specs.declared.PairList.TheVariants.{Listed}
 use Rattle.nearest.proofs.Lists.{at_each, place_of, ascending_places}
 
 -- a number of the list names one pair, at every width: w is below 2^8, and b below 2
@@ -153,12 +153,12 @@ module _ (n m : ℕ) (rows : List ℕ) (i : ℕ) where
   listed_at s = get_or-map coded_pair kept s nothing
 
 -- "all nearest pairs, in order": of any call that lists them
-module _ (n m : ℕ) (rows : List ℕ) (i : ℕ) (lent left : List ℕ) (count : ℕ) (called : PairsCalled n m rows i lent (Listed count) left) where
-  told : (first (pairs_checks n m rows i (length lent)) ≡ Accepted) × ((count ∷ []) ≡ (length (nearest_pairs n m rows i) ∷ []))
+module _ (n m : ℕ) (rows : List ℕ) (i : ℕ) (lent left : List ℕ) (count : ℕ) (called : PairsCalled n m rows i lent (Ok count) left) where
+  told : (first (pairs_checks n m rows i (length lent)) ≡ (Ok tt)) × ((count ∷ []) ≡ (length (nearest_pairs n m rows i) ∷ []))
       × (left ≡ nearest_pairs n m rows i ++ drop (length (nearest_pairs n m rows i)) lent)
   told = wrote_when_told called
 
-  box_taken : first (limit_checks n m rows i) ≡ Accepted
+  box_taken : first (limit_checks n m rows i) ≡ (Ok tt)
   unfolding pairs_checks
   box_taken = accepted_before (limit_checks n m rows i) _ told.0
 

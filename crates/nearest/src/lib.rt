@@ -10,15 +10,7 @@ ghost use Rattle.nearest.specs.Calls.{PairsCalled};
 ghost use Rattle.nearest.specs.Work.{NextOfOnes, pairs_at, pairs_of_ones, pairs_of_all, pair_number_at, pair_numbers};
 ghost use Rattle.nearest.specs.Work.{NonlinearityKnown, ListLent};
 
-use linear::LeastPair;
 use refusals::Refusal;
-
-// The answer of the call: how many pairs there are, all of which stand in the list.
-#[derive(Clone, Copy)]
-pub enum PairList {
-    Listed { count: u64 },
-    Declined(Refusal),
-}
 
 // What is listed: the pairs of a box of n inputs and m outputs, within the limit i, that differ at d inputs.
 #[derive(Clone, Copy)]
@@ -172,7 +164,7 @@ fn list_with(
     work: &mut [i16],
     values: &mut [i32],
     list: &mut [u64],
-) -> PairList
+) -> Result<u64, Refusal>
     requires { ListLent sought rows.now table.old work.old values.old × Spectra fixed.now }
     ensures { PairsCalled sought.n sought.m rows.now sought.i list.old result list.new
         × AnyContent table.old table.new × AnyContent work.old work.new
@@ -180,16 +172,21 @@ fn list_with(
 {
     let count = list_all(fixed, sought, rows, table, work, values, &mut list[..0]);
     if list.len() < count {
-        return PairList::Declined(Refusal::ListTooShort);
+        return Err(Refusal::ListTooShort);
     }
     list_all(fixed, sought, rows, table, work, values, list);
-    PairList::Listed {
-        count: count as u64,
-    }
+    Ok(count as u64)
 }
 
 // The list of a box that was accepted, whose nonlinearity within the limit is d. The fixed table and the arrays to work in are made once.
-fn list_nearest(n: u32, m: u32, rows: &[u32], i: u32, d: u32, list: &mut [u64]) -> PairList
+fn list_nearest(
+    n: u32,
+    m: u32,
+    rows: &[u32],
+    i: u32,
+    d: u32,
+    list: &mut [u64],
+) -> Result<u64, Refusal>
     requires { NonlinearityKnown n m rows.now i d }
     ensures { PairsCalled n m rows.now i list.old result list.new }
 {
@@ -212,16 +209,9 @@ fn list_nearest(n: u32, m: u32, rows: &[u32], i: u32, d: u32, list: &mut [u64]) 
 
 // All pairs (c, w, b) of the combinations of at most i outputs that differ at as few inputs as the nonlinearity within i says, each as
 // c * 512 + 2 * w + b: fewest outputs first, then in ascending c, w and b. A list that has no room for all of them is not written to.
-pub fn nearest_pairs(n: u32, m: u32, rows: &[u32], i: u32, list: &mut [u64]) -> PairList
+pub fn nearest_pairs(n: u32, m: u32, rows: &[u32], i: u32, list: &mut [u64]) -> Result<u64, Refusal>
     ensures { PairsCalled n m rows.now i list.old result list.new }
 {
-    match linear::nonlinearity(n, m, rows, i) {
-        LeastPair::Reached {
-            count,
-            c: _,
-            w: _,
-            b: _,
-        } => list_nearest(n, m, rows, i, count, list),
-        LeastPair::Declined(e) => PairList::Declined(e),
-    }
+    let nearest = linear::nonlinearity(n, m, rows, i)?;
+    list_nearest(n, m, rows, i, nearest.count, list)
 }

@@ -1,4 +1,5 @@
 -- What the checks of both calls say where they accept, and back. Assumes nothing.
+use Rattle.std.specs.Prelude.{Ok}
 use Prim.Native.Nat.{ℕ, ◌*◌, ◌^◌, ◌≤◌, ◌<◌}
 use mathlib.Core.Path.{◌≡◌, sym, ◌∙◌}
 use mathlib.Core.List.{List}
@@ -10,7 +11,6 @@ use lib.ListN.{length, replicate, length-replicate, get_or-replicate, get_or-eq_
 use lib.Pow.{pow_pos}
 use Rattle.boolean.specs.Functions.{at}
 use Rattle.refusals.specs.Table.{first, box_checks, Box}
-use Rattle.refusals.specs.declared.Checked.TheVariants.{Accepted}
 use Rattle.refusals.proofs.Bounds.{range_low, range_high, range_true, below_at, below_true}
 use Rattle.refusals.proofs.Checks.{box, box_accepted, passed, accepted, accepted_after, found_after, skip, end}
 use Rattle.packing.specs.Packing.{column_bytes, used_bits, pack_checks, unpack_checks}
@@ -18,20 +18,20 @@ use Rattle.packing.specs.Work.{Columns, Cleared}
 use Rattle.packing.proofs.Widths.{bytes_high}
 
 -- packing: a box, and the packed form's length
-pub pack_box : (n m : ℕ) (rows : List ℕ) (room : ℕ) → first (pack_checks n m rows room) ≡ Accepted → Box n m rows
+pub pack_box : (n m : ℕ) (rows : List ℕ) (room : ℕ) → first (pack_checks n m rows room) ≡ (Ok tt) → Box n m rows
 unfolding pack_checks
 pack_box n m rows room h = box n m rows _ h
 
-pub pack_room : (n m : ℕ) (rows : List ℕ) (room : ℕ) → first (pack_checks n m rows room) ≡ Accepted → room ≡ m * column_bytes n
+pub pack_room : (n m : ℕ) (rows : List ℕ) (room : ℕ) → first (pack_checks n m rows room) ≡ (Ok tt) → room ≡ m * column_bytes n
 unfolding pack_checks
 pack_room n m rows room h = eqb-true room (m * column_bytes n) (passed _ (accepted_after (box_checks n m rows) _ h)).0
 
-pub pack_accepted : (n m : ℕ) (rows : List ℕ) (room : ℕ) → Box n m rows → room ≡ m * column_bytes n → first (pack_checks n m rows room) ≡ Accepted
+pub pack_accepted : (n m : ℕ) (rows : List ℕ) (room : ℕ) → Box n m rows → room ≡ m * column_bytes n → first (pack_checks n m rows room) ≡ (Ok tt)
 unfolding pack_checks
 pack_accepted n m rows room b e = sym (found_after _ (box_accepted n m rows b) (skip (eq-eqb room (m * column_bytes n) e) end))
 
 -- unpacking: packed columns, and as many rows as there are inputs
-pub unpack_columns : (n m : ℕ) (bytes : List ℕ) (room : ℕ) → first (unpack_checks n m bytes room) ≡ Accepted → Columns n m bytes
+pub unpack_columns : (n m : ℕ) (bytes : List ℕ) (room : ℕ) → first (unpack_checks n m bytes room) ≡ (Ok tt) → Columns n m bytes
 unfolding unpack_checks
 unpack_columns n m bytes room h =
     let p = passed _ h in
@@ -44,11 +44,11 @@ unpack_columns n m bytes room h =
       used = below_at (2 ^ used_bits n) bytes (pow_pos (used_bits n)) p.1.1.1.0;
     }
 
-pub unpack_room : (n m : ℕ) (bytes : List ℕ) (room : ℕ) → first (unpack_checks n m bytes room) ≡ Accepted → room ≡ 2 ^ n
+pub unpack_room : (n m : ℕ) (bytes : List ℕ) (room : ℕ) → first (unpack_checks n m bytes room) ≡ (Ok tt) → room ≡ 2 ^ n
 unfolding unpack_checks
 unpack_room n m bytes room h = eqb-true room (2 ^ n) (passed _ h).1.1.1.1.0
 
-pub unpack_accepted : (n m : ℕ) (bytes : List ℕ) (room : ℕ) → Columns n m bytes → room ≡ 2 ^ n → first (unpack_checks n m bytes room) ≡ Accepted
+pub unpack_accepted : (n m : ℕ) (bytes : List ℕ) (room : ℕ) → Columns n m bytes → room ≡ 2 ^ n → first (unpack_checks n m bytes room) ≡ (Ok tt)
 unfolding unpack_checks
 unpack_accepted n m bytes room c e =
     accepted _ (

@@ -1,4 +1,6 @@
 -- Document 02 §8 beside the contracts: columns and their bytes, and both ways back. Assumes nothing.
+use Rattle.std.specs.Prelude.{Result, Ok, ⊤}
+use Rattle.refusals.specs.declared.Refusal.{Refusal}
 use mathlib.Core.Path.{◌≡◌, refl, sym, ap, ap₂, ◌∙◌, subst}
 use mathlib.Core.List.{List}
 use Prim.Native.Nat.{ℕ, ◌+◌, ◌*◌, ◌-◌, ◌/◌, ◌%◌, ◌^◌, ◌<◌, ◌≤◌}
@@ -14,8 +16,6 @@ use Rattle.boolean.proofs.Counts.{total_cong}
 use Rattle.boolean.proofs.Columns.{column_lt}
 use Rattle.boolean.proofs.Lists.{get_or_list_below, list_is, list_below_cong}
 use Rattle.refusals.specs.Table.{Box}
-use Rattle.refusals.specs.declared.Written.{Written}
-use Rattle.refusals.specs.declared.Written.TheVariants.{Done}
 use Rattle.refusals.proofs.Outcomes.{nothing_said, wrote_when_accepted, wrote_when_told}
 use Rattle.packing.specs.Packing.{column_bytes, packed_byte, packed, packed_value, unpacked_row, unpacked, used_bits, PackCalled, UnpackCalled}
 use Rattle.packing.specs.Work.{Columns}
@@ -125,10 +125,10 @@ module _ (n m : ℕ) (bytes : List ℕ) (c : Columns n m bytes) where
 
 -- The calls, by their contracts. Rows come back the same: where a call of pack was accepted, a call of unpack with what it left, and any array as long as
 -- the rows, is accepted and leaves the rows.
-pub rows_come_back : (n m : ℕ) (rows lent left lent' left' : List ℕ) (answer answer' : Written) → PackCalled n m rows lent answer left → answer ≡ Done
-    → UnpackCalled n m left lent' answer' left' → length lent' ≡ length rows → (answer' ≡ Done) × (left' ≡ rows)
+pub rows_come_back : (n m : ℕ) (rows lent left lent' left' : List ℕ) (answer answer' : Result ⊤ Refusal) → PackCalled n m rows lent answer left → answer ≡ (Ok tt)
+    → UnpackCalled n m left lent' answer' left' → length lent' ≡ length rows → (answer' ≡ (Ok tt)) × (left' ≡ rows)
 rows_come_back n m rows lent left lent' left' answer answer' p done u long =
-    let t = wrote_when_told (subst (λ (z : Written). PackCalled n m rows lent z left) done p) in
+    let t = wrote_when_told (subst (λ (z : Result ⊤ Refusal). PackCalled n m rows lent z left) done p) in
     let b : Box n m rows = pack_box n m rows (length lent) t.0 in
     let columns : Columns n m left = subst (λ (l : List ℕ). Columns n m l) (sym t.2) (packed_columns n m rows b) in
     let back = wrote_when_accepted u (unpack_accepted n m left (length lent') columns (long ∙ b.size)) in
@@ -136,10 +136,10 @@ rows_come_back n m rows lent left lent' left' answer answer' p done u long =
 
 -- Packed bytes that are accepted come back the same: where a call of unpack was accepted, a call of pack with the rows it left, and any array as long as
 -- the packed bytes, is accepted and leaves these bytes.
-pub bytes_come_back : (n m : ℕ) (bytes lent left lent' left' : List ℕ) (answer answer' : Written) → UnpackCalled n m bytes lent answer left → answer ≡ Done
-    → PackCalled n m left lent' answer' left' → length lent' ≡ length bytes → (answer' ≡ Done) × (left' ≡ bytes)
+pub bytes_come_back : (n m : ℕ) (bytes lent left lent' left' : List ℕ) (answer answer' : Result ⊤ Refusal) → UnpackCalled n m bytes lent answer left → answer ≡ (Ok tt)
+    → PackCalled n m left lent' answer' left' → length lent' ≡ length bytes → (answer' ≡ (Ok tt)) × (left' ≡ bytes)
 bytes_come_back n m bytes lent left lent' left' answer answer' u done p long =
-    let t = wrote_when_told (subst (λ (z : Written). UnpackCalled n m bytes lent z left) done u) in
+    let t = wrote_when_told (subst (λ (z : Result ⊤ Refusal). UnpackCalled n m bytes lent z left) done u) in
     let c : Columns n m bytes = unpack_columns n m bytes (length lent) t.0 in
     let box : Box n m left = subst (λ (l : List ℕ). Box n m l) (sym t.2) (unpacked_box n m bytes c) in
     let back = wrote_when_accepted p (pack_accepted n m left (length lent') box (long ∙ c.size)) in

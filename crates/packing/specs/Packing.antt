@@ -1,11 +1,12 @@
 -- Document 02 §8: a box as packed columns, the rows that packed columns stand for, and the checks and outcomes of both calls.
+use Rattle.std.specs.Prelude.{Result, ⊤}
+use Rattle.refusals.specs.declared.Refusal.{Refusal}
 use Rattle.std.specs.Prelude.{ℕ, ◌+◌, ◌-◌, ◌*◌, ◌/◌, ◌%◌, ◌^◌, min, max, List, [], ◌∷◌, ◌++◌, eqb, length}
 use Rattle.boolean.specs.Bits.{bit}
 use Rattle.boolean.specs.Sums.{total_below, list_below}
 use Rattle.boolean.specs.Functions.{at, column}
 use Rattle.refusals.specs.Table.{Check, ◌unless◌, in_range, all_below, box_checks, Wrote, said_written}
 use Rattle.refusals.specs.declared.Refusal.TheVariants.{InputWidth, OutputWidth, ReadLength, UnusedBit, WrittenLength}
-use Rattle.refusals.specs.declared.Written.{Written}
 
 -- how many bytes a column takes: one for each eight truth values, and one with n below 3
 unfoldable pub column_bytes : ℕ → ℕ
@@ -57,10 +58,10 @@ unpack_checks n m bytes room =
     ∷ []
 
 -- the outcome of a call of `packing::pack`
-abbrev pub PackCalled : (n m : ℕ) (rows lent : List ℕ) (answer : Written) (left : List ℕ) → Type 0
+abbrev pub PackCalled : (n m : ℕ) (rows lent : List ℕ) (answer : Result ⊤ Refusal) (left : List ℕ) → Type 0
 PackCalled n m rows lent answer left = Wrote (pack_checks n m rows (length lent)) [] (packed n m rows) lent (said_written answer) left
 
 -- the outcome of a call of `packing::unpack`
-abbrev pub UnpackCalled : (n m : ℕ) (bytes lent : List ℕ) (answer : Written) (left : List ℕ) → Type 0
+abbrev pub UnpackCalled : (n m : ℕ) (bytes lent : List ℕ) (answer : Result ⊤ Refusal) (left : List ℕ) → Type 0
 UnpackCalled n m bytes lent answer left = Wrote (unpack_checks n m bytes (length lent)) [] (unpacked n m bytes) lent (said_written answer)
     left

@@ -9,7 +9,7 @@ ghost use Rattle.refusals.specs.Table.{first, Box};
 ghost use Rattle.packing.specs.Packing.{column_bytes, packed, unpacked, used_bits, pack_checks, unpack_checks, PackCalled, UnpackCalled};
 ghost use Rattle.packing.specs.Work.{word_of, bits_gathered, Cleared, Columns, Padded, GatheredWords, word_byte, four_bytes_at, BytesWords};
 
-use refusals::{Checked, Refusal, Written};
+use refusals::Refusal;
 
 // How many times the bytes of a column are doubled from one.
 fn doublings(n: u32) -> u32
@@ -138,29 +138,26 @@ fn pack_rows(n: u32, m: u32, rows: &[u32], padded: &mut [u32], words: &mut [u32]
 }
 
 // The checks of packing.
-fn check_pack(n: u32, m: u32, rows: &[u32], room: usize) -> Checked
+#[tactic(auto, unfolding(refusals::specs::Table::first, crate::specs::Packing::pack_checks))]
+fn check_pack(n: u32, m: u32, rows: &[u32], room: usize) -> Result<(), Refusal>
     ensures { result ≡ first (pack_checks n m rows.now room) }
 {
-    if let Checked::Refused(e) = refusals::check_box(n, m, rows) {
-        return Checked::Refused(e);
-    }
+    refusals::check_box(n, m, rows)?;
     if room != m as usize * column_bytes(n) {
-        return Checked::Refused(Refusal::WrittenLength);
+        return Err(Refusal::WrittenLength);
     }
-    Checked::Accepted
+    Ok(())
 }
 
 // The columns of a box, packed for the mask: for column 1 first, the truth values in input order, eight to a byte, lowest bit first.
-pub fn pack(n: u32, m: u32, rows: &[u32], out: &mut [u8]) -> Written
+pub fn pack(n: u32, m: u32, rows: &[u32], out: &mut [u8]) -> Result<(), Refusal>
     ensures { PackCalled n m rows.now out.old result out.new }
 {
-    if let Checked::Refused(e) = check_pack(n, m, rows, out.len()) {
-        return Written::Declined(e);
-    }
+    check_pack(n, m, rows, out.len())?;
     let mut padded = [0u32; 256];
     let mut words = [0u32; 256];
     pack_rows(n, m, rows, &mut padded, &mut words, out);
-    Written::Done
+    Ok(())
 }
 
 // The packed bytes, in an array that is 0 past them.
@@ -234,36 +231,35 @@ fn used_bits(n: u32) -> u32
 }
 
 // The checks of unpacking.
-fn check_unpack(n: u32, m: u32, bytes: &[u8], room: usize) -> Checked
+#[tactic(auto, unfolding(refusals::specs::Table::first, crate::specs::Packing::unpack_checks))]
+fn check_unpack(n: u32, m: u32, bytes: &[u8], room: usize) -> Result<(), Refusal>
     ensures { result ≡ first (unpack_checks n m bytes.now room) }
 {
     if !refusals::in_range(1, 8, n) {
-        return Checked::Refused(Refusal::InputWidth);
+        return Err(Refusal::InputWidth);
     }
     if !refusals::in_range(1, 32, m) {
-        return Checked::Refused(Refusal::OutputWidth);
+        return Err(Refusal::OutputWidth);
     }
     if bytes.len() != m as usize * column_bytes(n) {
-        return Checked::Refused(Refusal::ReadLength);
+        return Err(Refusal::ReadLength);
     }
     if !refusals::values_below(bytes, boolean::power_of_two(used_bits(n))) {
-        return Checked::Refused(Refusal::UnusedBit);
+        return Err(Refusal::UnusedBit);
     }
     if room != boolean::power_of_two(n) {
-        return Checked::Refused(Refusal::WrittenLength);
+        return Err(Refusal::WrittenLength);
     }
-    Checked::Accepted
+    Ok(())
 }
 
 // The rows of packed columns.
-pub fn unpack(n: u32, m: u32, packed: &[u8], out: &mut [u32]) -> Written
+pub fn unpack(n: u32, m: u32, packed: &[u8], out: &mut [u32]) -> Result<(), Refusal>
     ensures { UnpackCalled n m packed.now out.old result out.new }
 {
-    if let Checked::Refused(e) = check_unpack(n, m, packed, out.len()) {
-        return Written::Declined(e);
-    }
+    check_unpack(n, m, packed, out.len())?;
     let mut padded = [0u8; 1024];
     let mut words = [0u32; 256];
     unpack_bytes(n, m, packed, &mut padded, &mut words, out);
-    Written::Done
+    Ok(())
 }

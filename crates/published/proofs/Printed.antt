@@ -1,10 +1,11 @@
 -- What is shown of an addition and of a file is what is shown of the calls' answers and of the rows that they left.
+use Rattle.std.specs.Prelude.{Result, ⊤}
+use Rattle.refusals.specs.declared.Refusal.{Refusal}
 use lib.Seq.{drop-drop}
 use borrow.Author.Tests.{le-leb, lt-leb}
 use Rattle.std.proofs.Common.{◌≡◌, ℕ, zero, suc, ◌+◌, ◌-◌, ◌*◌, ◌<◌, ◌≤◌, min, cond, List, [], ◌∷◌, ◌++◌, length, take, drop, length-drop, refl, sym, ap, ◌∙◌, arith}
 use Rattle.boolean.specs.Functions.{at}
 use Rattle.refusals.specs.Table.{first, reply_after, said_written}
-use Rattle.refusals.specs.declared.Written.{Written}
 use Rattle.lines.specs.Lines.{refused_text, shown_reply}
 use Rattle.lines.proofs.Texts.{shown_wrote}
 use Rattle.columns.specs.Addition.{addition_checks, added_rows, AdditionCalled}
@@ -12,7 +13,7 @@ use Rattle.boxfile.specs.declared.BoxFile.{BoxFile}
 use Rattle.boxfile.specs.File.{room_of, file_checks, file_rows, said_box_file, ReadCalled}
 use Rattle.published.specs.Printed.{addition_shown, box_shown, box_file_shown, file_end, boxes_shown}
 
-pub addition_is : (of_rows : List ℕ → List ℕ) (of_refusal : ℕ → List ℕ) (n m : ℕ) (rows : List ℕ) (j w b : ℕ) (lent left : List ℕ) (answer : Written)
+pub addition_is : (of_rows : List ℕ → List ℕ) (of_refusal : ℕ → List ℕ) (n m : ℕ) (rows : List ℕ) (j w b : ℕ) (lent left : List ℕ) (answer : Result ⊤ Refusal)
     → length lent ≡ min (length rows) 256 → AdditionCalled n m rows j w b lent answer left
     → shown_reply (λ _ rows. of_rows rows) of_refusal (said_written answer) left ≡ addition_shown of_rows of_refusal n m rows j w b
 addition_is of_rows of_refusal n m rows j w b lent left answer e called =

@@ -14,22 +14,21 @@ ghost use Rattle.published.specs.Printed.{nonlinearity_shown, changes_shown, ver
 ghost use Rattle.published.specs.Printed.{and_refused_shown, second_shown, and_second_shown, first_shown};
 ghost use Rattle.published.specs.Printed.{box_shown, box_file_shown, boxes_shown};
 
-use algebraic::DegreeFound;
-use avalanche::LargestChange;
-use boxfile::BoxFile;
-use differential::LargestCell;
-use linear::LeastPair;
-use refusals::{Verdict, Written};
+use algebraic::FoundDegree;
+use avalanche::FoundChange;
+use differential::FoundCell;
+use linear::Found;
+use refusals::{BoxWidths, Refusal};
 use std::io::{self, Write};
 
 fn show_nonlinearity<W: Write>(out: &mut W, n: u32, m: u32, rows: &[u32]) -> io::Result<()>
     ensures { OnOk result (Appends (W.contents out.old) (W.contents out.new) (nonlinearity_shown n m rows.now)) }
 {
     match linear::nonlinearity(n, m, rows, m) {
-        LeastPair::Reached { count, c, w, b } => {
+        Ok(Found { count, c, w, b }) => {
             lines::write_line(out, "nonlinearity", &[count, c, w, b])
         }
-        LeastPair::Declined(e) => lines::write_refused(out, e),
+        Err(e) => lines::write_refused(out, e),
     }
 }
 
@@ -38,17 +37,17 @@ fn show_largest_cell<W: Write>(out: &mut W, n: u32, m: u32, rows: &[u32]) -> io:
         (Appends (W.contents out.old) (W.contents out.new) (figures_line (codes "xor") (largest_cell_reply n m rows.now))) }
 {
     match differential::largest_cell(n, m, rows) {
-        LargestCell::Reached { count, a, beta } => lines::write_line(out, "xor", &[count, a, beta]),
-        LargestCell::Declined(_) => Ok(()),
+        Ok(FoundCell { count, a, beta }) => lines::write_line(out, "xor", &[count, a, beta]),
+        Err(_) => Ok(()),
     }
 }
 
-fn show_change<W: Write>(out: &mut W, answer: LargestChange) -> io::Result<()>
+fn show_change<W: Write>(out: &mut W, answer: Result<FoundChange, Refusal>) -> io::Result<()>
     ensures { OnOk result (Appends (W.contents out.old) (W.contents out.new) (figures_line [] (said_largest_change answer))) }
 {
     match answer {
-        LargestChange::Reached { figure, c, s } => lines::write_line(out, "", &[figure, c, s]),
-        LargestChange::Declined(_) => Ok(()),
+        Ok(FoundChange { figure, c, s }) => lines::write_line(out, "", &[figure, c, s]),
+        Err(_) => Ok(()),
     }
 }
 
@@ -63,13 +62,13 @@ fn show_changes<W: Write>(out: &mut W, n: u32, m: u32, rows: &[u32]) -> io::Resu
     show_change(out, avalanche::dynamic_distance(n, m, rows, 2, 1))
 }
 
-fn show_verdict<W: Write>(out: &mut W, answer: Verdict) -> io::Result<()>
+fn show_verdict<W: Write>(out: &mut W, answer: Result<bool, Refusal>) -> io::Result<()>
     ensures { OnOk result (Appends (W.contents out.old) (W.contents out.new) (verdict_text (said_verdict answer))) }
 {
     match answer {
-        Verdict::Yes => lines::write_line(out, "", &[1]),
-        Verdict::No => lines::write_line(out, "", &[0]),
-        Verdict::Undecided(e) => {
+        Ok(true) => lines::write_line(out, "", &[1]),
+        Ok(false) => lines::write_line(out, "", &[0]),
+        Err(e) => {
             lines::write_refused(out, e)?;
             lines::end_line(out)
         }
@@ -89,11 +88,11 @@ fn show_degree<W: Write>(out: &mut W, n: u32, m: u32, rows: &[u32]) -> io::Resul
     ensures { OnOk result (Appends (W.contents out.old) (W.contents out.new) (degree_shown n m rows.now)) }
 {
     match algebraic::degree(n, m, rows, m) {
-        DegreeFound::Reached { degree, c } => {
+        Ok(FoundDegree { degree, c }) => {
             lines::write_line(out, "degree", &[degree, c])?;
             show_tests(out, n, m, rows)
         }
-        DegreeFound::Declined(_) => Ok(()),
+        Err(_) => Ok(()),
     }
 }
 
@@ -104,8 +103,8 @@ fn show_refused<W: Write>(out: &mut W, n: u32, m: u32, rows: &[u32]) -> io::Resu
     let mut new = [0u32; 256];
     let size = lines::smaller(rows.len(), 256);
     match columns::add_to_column(n, m, rows, m % 65536 + 1, 0, 0, &mut new[..size]) {
-        Written::Done => Ok(()),
-        Written::Declined(e) => {
+        Ok(()) => Ok(()),
+        Err(e) => {
             lines::write_refused(out, e)?;
             show_nonlinearity(out, n, m, rows)
         }
@@ -126,8 +125,8 @@ fn show_second<W: Write>(out: &mut W, n: u32, m: u32, rows: &[u32]) -> io::Resul
     let mut new = [0u32; 256];
     let size = lines::smaller(rows.len(), 256);
     match columns::add_to_column(n, m, rows, m, 5, 0, &mut new[..size]) {
-        Written::Done => show_and_refuse(out, n, m, &new[..size]),
-        Written::Declined(_) => Ok(()),
+        Ok(()) => show_and_refuse(out, n, m, &new[..size]),
+        Err(_) => Ok(()),
     }
 }
 
@@ -145,8 +144,8 @@ fn show_first<W: Write>(out: &mut W, n: u32, m: u32, rows: &[u32]) -> io::Result
     let mut new = [0u32; 256];
     let size = lines::smaller(rows.len(), 256);
     match columns::add_to_column(n, m, rows, 1, 1, 1, &mut new[..size]) {
-        Written::Done => show_and_add(out, n, m, &new[..size]),
-        Written::Declined(_) => Ok(()),
+        Ok(()) => show_and_add(out, n, m, &new[..size]),
+        Err(_) => Ok(()),
     }
 }
 
@@ -168,8 +167,8 @@ fn show_file<W: Write>(out: &mut W, file: &[u8], size: usize) -> io::Result<()>
 {
     let mut rows = [0u32; 256];
     match boxfile::read_box(file, &mut rows[..size]) {
-        BoxFile::Read { n, m } => show_box(out, n, m, &rows[..size]),
-        BoxFile::Declined(e) => lines::write_refused(out, e),
+        Ok(BoxWidths { n, m }) => show_box(out, n, m, &rows[..size]),
+        Err(e) => lines::write_refused(out, e),
     }
 }
 

@@ -1,4 +1,5 @@
 -- The tests of a call's checks are the conditions of its lines: so its reply, and what it writes, are by the lines.
+use Rattle.std.specs.Prelude.{Result, Ok, Err, ⊤}
 use Prim.Native.Nat.{ℕ, ◌^◌, ◌≤◌, ◌<◌}
 use mathlib.Core.Path.{◌≡◌, refl, sym, ap, ◌∙◌, subst}
 use mathlib.Core.Logic.{inl, inr, ⊎_elim, ◌↔◌}
@@ -14,8 +15,6 @@ use Rattle.boolean.proofs.Every.{every_at, every_of}
 use Rattle.refusals.specs.Table.{Check, ◌unless◌, number, first, in_range, all_below, box_checks_up_to, table_checks, Reply, figures}
 use Rattle.refusals.specs.Table.{refusal, reply_after, after, Wrote}
 use Rattle.refusals.specs.declared.Refusal.{Refusal}
-use Rattle.refusals.specs.declared.Checked.{Checked}
-use Rattle.refusals.specs.declared.Checked.TheVariants.{Accepted, Refused}
 use Rattle.refusals.proofs.Bounds.{range_low, range_high, range_true}
 use Rattle.refusals.proofs.Replies.{no_figures}
 use Rattle.refusals.specs.Statements.{TableLine, ◌unless_that◌, FirstMet, NoneMet, Answers, Writes, Between, EachBelow, NoTwoEqual, box_lines}
@@ -30,18 +29,18 @@ pub data Means : List Check → List TableLine → Type 1 where
   void : {e : Refusal} {ok : Bool} {cs : List Check} {ls : List TableLine} → ok ≡ true → Means cs ls → Means ((e unless ok) ∷ cs) ls
 
 -- what the checks find
-abbrev Finds : Checked → List TableLine → Type 0
-Finds Accepted ls = NoneMet ls
-Finds (Refused e) ls = FirstMet (number e) ls
+abbrev Finds : Result ⊤ Refusal → List TableLine → Type 0
+Finds (Ok tt) ls = NoneMet ls
+Finds (Err e) ls = FirstMet (number e) ls
 
 finds_line : (ok : Bool) (e : Refusal) (P : Type 0) (cs : List Check) (ls : List TableLine) → (ok ≡ true) ↔ P → (P → Finds (first cs) ls)
     → Finds (first ((e unless ok) ∷ cs)) ((number e unless_that P) ∷ ls)
 unfolding first
 finds_line true e P cs ls t h = next (first cs) (h (t.0 refl))
   where
-    next : (k : Checked) → Finds k ls → Finds k ((number e unless_that P) ∷ ls)
-    next Accepted f = (t.0 refl, f)
-    next (Refused r) f = inr (t.0 refl, f)
+    next : (k : Result ⊤ Refusal) → Finds k ls → Finds k ((number e unless_that P) ∷ ls)
+    next (Ok tt) f = (t.0 refl, f)
+    next (Err r) f = inr (t.0 refl, f)
 finds_line false e P cs ls t h = inl (refl, λ p. false≢true (t.1 p))
 
 finds_void : (ok : Bool) (e : Refusal) (cs : List Check) (ls : List TableLine) → ok ≡ true → Finds (first cs) ls
@@ -71,13 +70,13 @@ abbrev pub the_number : Reply → ℕ
 the_number (figures given) = 0
 the_number (refusal k) = k
 
-answers_by : (k : Checked) (given : List ℕ) (ls : List TableLine) → Finds k ls → Answers (reply_after k given) given ls
-answers_by Accepted given ls f = record {
+answers_by : (k : Result ⊤ Refusal) (given : List ℕ) (ls : List TableLine) → Finds k ls → Answers (reply_after k given) given ls
+answers_by (Ok tt) given ls f = record {
   figures_exactly = (λ e. f, λ n. refl);
   refused_exactly = λ k. (λ e. absurd (no_figures e), λ g. absurd (not_both ls k f g));
   one_of_them = inl refl;
 }
-answers_by (Refused r) given ls f = record {
+answers_by (Err r) given ls f = record {
   figures_exactly = (λ e. absurd (no_figures (sym e)), λ n. absurd (not_both ls (number r) n f));
   refused_exactly = λ k. (λ e. subst (λ (j : ℕ). FirstMet j ls) (ap the_number e) f, λ g. ap refusal (one_number ls (number r) k f g));
   one_of_them = inr (number r, refl);
@@ -95,15 +94,15 @@ pub writes : {A : Type 0} {cs : List Check} {ls : List TableLine} {given : List 
     → Wrote cs given result before said left → Writes said given ls result before left
 writes {A} {cs} {ls} {given} {result} {before} {left} {said} t w = by (first cs) (finds t) w.reply w.content
   where
-    by : (k : Checked) → Finds k ls → said ≡ reply_after k given → left ≡ after k result before
+    by : (k : Result ⊤ Refusal) → Finds k ls → said ≡ reply_after k given → left ≡ after k result before
         → Writes said given ls result before left
-    by Accepted f r l = record {
-      answers = rw r (answers_by Accepted given ls f);
+    by (Ok tt) f r l = record {
+      answers = rw r (answers_by (Ok tt) given ls f);
       result_left = λ n. l;
       nothing_changed = λ k g. absurd (not_both ls k f g);
     }
-    by (Refused e) f r l = record {
-      answers = rw r (answers_by (Refused e) given ls f);
+    by (Err e) f r l = record {
+      answers = rw r (answers_by (Err e) given ls f);
       result_left = λ n. absurd (not_both ls (number e) n f);
       nothing_changed = λ k g. l;
     }
@@ -142,12 +141,12 @@ pub table_means : (n : ℕ) (table : List ℕ) {cs : List Check} {ls : List Tabl
 table_means n table more = line (range 1 8 n) (λ a. line (same (length table) (2 ^ n)) (λ b. line (below 2 table) (λ c. more)))
 
 -- lines after lines, and checks that accept
-pub accepted_by : {cs : List Check} {ls : List TableLine} → Means cs ls → NoneMet ls → first cs ≡ Accepted
+pub accepted_by : {cs : List Check} {ls : List TableLine} → Means cs ls → NoneMet ls → first cs ≡ (Ok tt)
 accepted_by {cs} {ls} t none = go (first cs) (finds t)
   where
-    go : (k : Checked) → Finds k ls → k ≡ Accepted
-    go Accepted f = refl
-    go (Refused r) f = absurd (not_both ls (number r) none f)
+    go : (k : Result ⊤ Refusal) → Finds k ls → k ≡ (Ok tt)
+    go (Ok tt) f = refl
+    go (Err r) f = absurd (not_both ls (number r) none f)
 
 pub append : {cs ds : List Check} {ls ks : List TableLine} → Means cs ls → (NoneMet ls → Means ds ks) → Means (cs ++ ds) (ls ++ ks)
 append end more = more tt

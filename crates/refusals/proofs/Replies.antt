@@ -1,4 +1,6 @@
 -- What a reply of figures says: the call's checks accepted, and these are its figures.
+use Rattle.refusals.specs.declared.Refusal.{Refusal}
+use Rattle.std.specs.Prelude.{Result, Ok, Err, ⊤}
 use Prim.Native.Nat.{ℕ}
 use mathlib.Core.Path.{◌≡◌, refl, sym, ap, ◌∙◌}
 use mathlib.Core.Logic.{◌↔◌}
@@ -7,8 +9,6 @@ use mathlib.Core.List.{List, [], ◌∷◌}
 use native.Mathlib.Omega.{arith}
 use Rattle.boolean.specs.Functions.{at}
 use Rattle.refusals.specs.Table.{Reply, figures, refusal, reply_after, as_figure}
-use Rattle.refusals.specs.declared.Checked.{Checked}
-use Rattle.refusals.specs.declared.Checked.TheVariants.{Accepted, Refused}
 
 -- figures are no refusal
 pub no_figures : {given : List ℕ} {k : ℕ} → figures given ≡ refusal k → ⊥
@@ -35,10 +35,10 @@ pub same_figure : {reply : Reply} {d e : ℕ} {v w : List ℕ} → reply ≡ fig
 same_figure p q = head_same (same_figures p q)
 
 -- where a call replies figures its checks accepted, and they are those that it gives
-pub figures_accepted : (k : Checked) (given : List ℕ) {shows : List ℕ} → reply_after k given ≡ figures shows
-    → (k ≡ Accepted) × (shows ≡ given)
-figures_accepted Accepted given h = (refl, sym (same_figures refl h))
-figures_accepted (Refused e) given h = absurd (no_figures (sym h))
+pub figures_accepted : (k : Result ⊤ Refusal) (given : List ℕ) {shows : List ℕ} → reply_after k given ≡ figures shows
+    → (k ≡ (Ok tt)) × (shows ≡ given)
+figures_accepted (Ok tt) given h = (refl, sym (same_figures refl h))
+figures_accepted (Err e) given h = absurd (no_figures (sym h))
 
 -- the figure of a test is 1 exactly where it holds
 pub figure_true : (t : Bool) {f : ℕ} → (f ∷ []) ≡ as_figure t → (f ≡ 1) ↔ (t ≡ true)

@@ -1,5 +1,5 @@
 -- Documents 01, "Where a call stops", and 02: the numbers, the checks in their order, and what a call replies and leaves.
-use Rattle.std.specs.Prelude.{ℕ, ◌^◌, ◌≤◌, ◌<◌, ◌≡◌, List, [], ◌∷◌, ◌++◌, Bool, true, false, ◌&&◌, length, drop, replicate, ltb, leb, eqb}
+use Rattle.std.specs.Prelude.{Result, Ok, Err, ⊤, ℕ, ◌^◌, ◌≤◌, ◌<◌, ◌≡◌, List, [], ◌∷◌, ◌++◌, Bool, true, false, ◌&&◌, length, drop, replicate, ltb, leb, eqb}
 use Rattle.boolean.specs.Sums.{every}
 use Rattle.boolean.specs.Functions.{at}
 use Rattle.refusals.specs.declared.Refusal.{Refusal}
@@ -7,12 +7,6 @@ use Rattle.refusals.specs.declared.Refusal.TheVariants.{InputWidth, OutputWidth,
 use Rattle.refusals.specs.declared.Refusal.TheVariants.{Parameter, WrittenLength, NoFunction, ListTooShort, FileLength}
 use Rattle.refusals.specs.declared.Refusal.TheVariants.{BoxCount, OutputWidths, Catalogue, NoRoom, NoRecord}
 use Rattle.refusals.specs.declared.Refusal.TheVariants.{UnusedBit, UnsetMark, NoPlace, PlaceState}
-use Rattle.refusals.specs.declared.Checked.{Checked}
-use Rattle.refusals.specs.declared.Checked.TheVariants.{Accepted, Refused}
-use Rattle.refusals.specs.declared.Written.{Written}
-use Rattle.refusals.specs.declared.Written.TheVariants.{Done, Declined}
-use Rattle.refusals.specs.declared.Verdict.{Verdict}
-use Rattle.refusals.specs.declared.Verdict.TheVariants.{Yes, No, Undecided}
 
 -- the number of each refusal
 abbrev pub number : Refusal → ℕ
@@ -42,9 +36,9 @@ pub data Check : Type 0 where
   ◌unless◌ : Refusal → Bool → Check
 
 -- checks run down the table; the first that applies is given, and only then
-unfoldable pub first : List Check → Checked
-first [] = Accepted
-first ((e unless ok) ∷ cs) = elim ok [ true ↦ first cs | false ↦ Refused e ]
+unfoldable pub first : List Check → Result ⊤ Refusal
+first [] = Ok tt
+first ((e unless ok) ∷ cs) = elim ok [ true ↦ first cs | false ↦ Err e ]
 
 -- a is at least lo and at most hi
 abbrev pub in_range : (lo hi a : ℕ) → Bool
@@ -89,19 +83,19 @@ pub data Reply : Type 0 where
   refusal : ℕ → Reply
 
 -- the reply of a call whose checks found this
-abbrev pub reply_after : (checked : Checked) (given : List ℕ) → Reply
-reply_after Accepted given = figures given
-reply_after (Refused e) given = refusal (number e)
+abbrev pub reply_after : (checked : Result ⊤ Refusal) (given : List ℕ) → Reply
+reply_after (Ok _) given = figures given
+reply_after (Err e) given = refusal (number e)
 
 -- what stands after a call whose checks found this, as the content of a lent array or the state of a server: the result, or what was there
-abbrev pub after : {A : Type 0} (found : Checked) (result old : A) → A
-after Accepted result old = result
-after (Refused e) result old = old
+abbrev pub after : {A : Type 0} (found : Result ⊤ Refusal) (result old : A) → A
+after (Ok _) result old = result
+after (Err e) result old = old
 
 -- whether the checks accept
-abbrev pub is_accepted : Checked → Bool
-is_accepted Accepted = true
-is_accepted (Refused e) = false
+abbrev pub is_accepted : Result ⊤ Refusal → Bool
+is_accepted (Ok _) = true
+is_accepted (Err e) = false
 
 -- The outcome of a call that writes to one lent array, by its checks: it says the figures given, or the number of the refusal alone, and
 -- the array then holds the result, or what it held. A contract of such a call is this record, and so is what a theorem on such calls
@@ -111,20 +105,19 @@ pub record Wrote {A : Type 0} (checks : List Check) (given : List ℕ) (result o
   pub content : new ≡ after (first checks) result old
 
 -- what the answer of a call that only writes says: no figure, or the number
-abbrev pub said_written : Written → Reply
-said_written Done = figures []
-said_written (Declined e) = refusal (number e)
-
--- what a yes or no says: 1 or 0, or the number
-abbrev pub said_verdict : Verdict → Reply
-said_verdict Yes = figures (1 ∷ [])
-said_verdict No = figures (0 ∷ [])
-said_verdict (Undecided e) = refusal (number e)
+abbrev pub said_written : Result ⊤ Refusal → Reply
+said_written (Ok _) = figures []
+said_written (Err e) = refusal (number e)
 
 -- the figure of a test
 abbrev pub as_figure : Bool → List ℕ
 as_figure true = 1 ∷ []
 as_figure false = 0 ∷ []
+
+-- what a yes or no says: 1 or 0, or the number
+abbrev pub said_verdict : Result Bool Refusal → Reply
+said_verdict (Ok holds) = figures (as_figure holds)
+said_verdict (Err e) = refusal (number e)
 
 -- a box's rows in an array for the most rows that a box has: the rows, then zeros
 abbrev pub filled : (rows : List ℕ) → List ℕ

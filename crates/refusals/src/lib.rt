@@ -30,26 +30,11 @@ pub enum Refusal {
     PlaceState,
 }
 
-// What a call's checks find: nothing, or the first that applies.
+// The widths of a box, where they are the answer of a call.
 #[derive(Clone, Copy)]
-pub enum Checked {
-    Accepted,
-    Refused(Refusal),
-}
-
-// The answer of a call that only writes.
-#[derive(Clone, Copy)]
-pub enum Written {
-    Done,
-    Declined(Refusal),
-}
-
-// The answer of a call that says yes or no.
-#[derive(Clone, Copy)]
-pub enum Verdict {
-    Yes,
-    No,
-    Undecided(Refusal),
+pub struct BoxWidths {
+    pub n: u32,
+    pub m: u32,
 }
 
 // The number of a refusal, as documents 01 and 02 give it.
@@ -132,70 +117,70 @@ pub fn values_below(table: &[u8], limit: usize) -> bool
 }
 
 // The checks 1 to 4 of a box where at most `most` outputs are taken.
-pub fn check_box_up_to(most: u32, n: u32, m: u32, rows: &[u32]) -> Checked
+#[tactic(auto, unfolding(crate::specs::Table::first))]
+pub fn check_box_up_to(most: u32, n: u32, m: u32, rows: &[u32]) -> Result<(), Refusal>
     requires { most ≤ 32 }
     ensures { result ≡ first (box_checks_up_to most n m rows.now) }
 {
     if !in_range(1, 8, n) {
-        return Checked::Refused(Refusal::InputWidth);
+        return Err(Refusal::InputWidth);
     }
     if !in_range(1, most, m) {
-        return Checked::Refused(Refusal::OutputWidth);
+        return Err(Refusal::OutputWidth);
     }
     if rows.len() != boolean::power_of_two(n) {
-        return Checked::Refused(Refusal::ReadLength);
+        return Err(Refusal::ReadLength);
     }
     if !rows_below(rows, boolean::power_of_two(m)) {
-        return Checked::Refused(Refusal::Value);
+        return Err(Refusal::Value);
     }
-    Checked::Accepted
+    Ok(())
 }
 
 // The checks 1 to 4 of a box.
-pub fn check_box(n: u32, m: u32, rows: &[u32]) -> Checked
+pub fn check_box(n: u32, m: u32, rows: &[u32]) -> Result<(), Refusal>
     ensures { result ≡ first (box_checks n m rows.now) }
 {
     check_box_up_to(32, n, m, rows)
 }
 
 // The checks 1 to 4 of a box, and 6 for the limit on its combinations.
-pub fn check_limited(n: u32, m: u32, rows: &[u32], i: u32) -> Checked
+#[tactic(auto, unfolding(crate::specs::Table::first, crate::specs::Table::limit_checks))]
+pub fn check_limited(n: u32, m: u32, rows: &[u32], i: u32) -> Result<(), Refusal>
     ensures { result ≡ first (limit_checks n m rows.now i) }
 {
-    if let Checked::Refused(e) = check_box(n, m, rows) {
-        return Checked::Refused(e);
-    }
+    check_box(n, m, rows)?;
     if !in_range(1, m, i) {
-        return Checked::Refused(Refusal::Parameter);
+        return Err(Refusal::Parameter);
     }
-    Checked::Accepted
+    Ok(())
 }
 
 // The checks 1, 3 and 4 of a truth table.
-pub fn check_table(n: u32, table: &[u8]) -> Checked
+#[tactic(auto, unfolding(crate::specs::Table::first))]
+pub fn check_table(n: u32, table: &[u8]) -> Result<(), Refusal>
     ensures { result ≡ first (table_checks n table.now) }
 {
     if !in_range(1, 8, n) {
-        return Checked::Refused(Refusal::InputWidth);
+        return Err(Refusal::InputWidth);
     }
     if table.len() != boolean::power_of_two(n) {
-        return Checked::Refused(Refusal::ReadLength);
+        return Err(Refusal::ReadLength);
     }
     if !values_below(table, 2) {
-        return Checked::Refused(Refusal::Value);
+        return Err(Refusal::Value);
     }
-    Checked::Accepted
+    Ok(())
 }
 
 // The checks of a call that reads a truth table and writes as many values: 1, 3, 4 and 7.
-pub fn check_table_call(n: u32, table: &[u8], room: usize) -> Checked
+#[tactic(auto, unfolding(crate::specs::Table::first, crate::specs::Table::table_call_checks))]
+pub fn check_table_call(n: u32, table: &[u8], room: usize) -> Result<(), Refusal>
     ensures { result ≡ first (table_call_checks n table.now room) }
 {
-    if let Checked::Refused(e) = check_table(n, table) {
-        return Checked::Refused(e);
-    }
+    check_table(n, table)?;
     if room != boolean::power_of_two(n) {
-        return Checked::Refused(Refusal::WrittenLength);
+        return Err(Refusal::WrittenLength);
     }
-    Checked::Accepted
+    Ok(())
 }

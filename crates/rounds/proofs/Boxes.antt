@@ -1,4 +1,6 @@
 -- The sum as a box: its nonlinearity is that of the box of N inputs, and of one box it is the box's own, figure and witness. Assumes nothing.
+use Rattle.std.specs.Prelude.{Result, ⊤}
+use Rattle.refusals.specs.declared.Refusal.{Refusal}
 use mathlib.Core.Path.{◌≡◌, refl, sym, ap, ap₂, ◌∙◌, subst}
 use mathlib.Core.Bool.{true, false}
 use mathlib.Core.Logic.{◌⊎◌, inl, inr}
@@ -19,7 +21,6 @@ use Rattle.boolean.proofs.Distances.{distance_cong}
 use Rattle.boolean.proofs.Kept.{each_cong, each_each}
 use Rattle.refusals.specs.Table.{Check, ◌unless◌, in_range, first, limit_checks, reply_after}
 use Rattle.refusals.specs.declared.Refusal.TheVariants.{OutputWidths, Parameter}
-use Rattle.refusals.specs.declared.Checked.{Checked}
 use Rattle.linear.specs.Nonlinearity.{pair, pairs_of, pairs, nonlinearity, nonlinearity_reply}
 use Rattle.linear.specs.Statements.{IsPair, PairBefore}
 use Rattle.linear.proofs.Theorems as linear
@@ -148,4 +149,4 @@ module _ (s : Summand) where
   -- its refusal.
   pub one_box_reply : (others : List Summand) (i : ℕ) → sum_reply 1 (s ∷ others) i ≡ nonlinearity_reply s.inputs s.outputs s.rows i
   one_box_reply others i =
-      ap₂ (λ (k : Checked) (p : Candidate). reply_after k (shown p)) (alone_checks_lem others i) (one_box s.outputs i)
+      ap₂ (λ (k : Result ⊤ Refusal) (p : Candidate). reply_after k (shown p)) (alone_checks_lem others i) (one_box s.outputs i)

@@ -1,4 +1,5 @@
 -- The boxes that are read, the checks in their order, and what acceptance says of the boxes and the limit. Assumes nothing.
+use Rattle.std.specs.Prelude.{Result, Ok, Err, ⊤}
 use mathlib.Core.Path.{◌≡◌, refl, sym, ap, ◌∙◌, subst}
 use mathlib.Core.Bool.{Bool, true, false, ◌&&◌}
 use mathlib.Core.List.Memᴰ
@@ -14,8 +15,6 @@ use Rattle.boolean.proofs.Selection.{of_cons}
 use Rattle.refusals.specs.Table.{Check, ◌unless◌, in_range, first}
 use Rattle.refusals.specs.declared.Refusal.{Refusal}
 use Rattle.refusals.specs.declared.Refusal.TheVariants.{BoxCount, OutputWidths, Parameter}
-use Rattle.refusals.specs.declared.Checked.{Checked}
-use Rattle.refusals.specs.declared.Checked.TheVariants.{Accepted, Refused}
 use Rattle.refusals.proofs.Bounds.{range_low, range_high}
 use Rattle.refusals.proofs.Checks.{Walk, found_after, box, first_passed, first_failed, first_append, first_refused, accepted_before, accepted_after, passed}
 use Rattle.rounds.specs.Round.{Summand, inputs_of, first_given, outputs_of, same_outputs, summand_checks, sum_checks, summand_of}
@@ -50,18 +49,18 @@ module _ (xs bs cs ds : List Check) where
   abbrev four : List Check
   four = xs ++ (bs ++ (cs ++ ds))
 
-  pub refused_1 : {e : Refusal} → first xs ≡ Refused e → Refused e ≡ first four
+  pub refused_1 : {e : Refusal} → first xs ≡ Err e → Err e ≡ first four
   refused_1 h = sym (first_refused xs (bs ++ (cs ++ ds)) h)
 
-  module _ (a : first xs ≡ Accepted) where
-    pub refused_2 : {e : Refusal} → first bs ≡ Refused e → Refused e ≡ first four
+  module _ (a : first xs ≡ (Ok tt)) where
+    pub refused_2 : {e : Refusal} → first bs ≡ Err e → Err e ≡ first four
     refused_2 h = sym (first_append xs (bs ++ (cs ++ ds)) a ∙ first_refused bs (cs ++ ds) h)
 
-    module _ (b : first bs ≡ Accepted) where
-      pub refused_3 : {e : Refusal} → first cs ≡ Refused e → Refused e ≡ first four
+    module _ (b : first bs ≡ (Ok tt)) where
+      pub refused_3 : {e : Refusal} → first cs ≡ Err e → Err e ≡ first four
       refused_3 h = sym (first_append xs (bs ++ (cs ++ ds)) a ∙ first_append bs (cs ++ ds) b ∙ first_refused cs ds h)
 
-      pub found_4 : {k : Checked} → first cs ≡ Accepted → k ≡ first ds → k ≡ first four
+      pub found_4 : {k : Result ⊤ Refusal} → first cs ≡ (Ok tt) → k ≡ first ds → k ≡ first four
       found_4 c h = h ∙ sym (first_append xs (bs ++ (cs ++ ds)) a ∙ first_append bs (cs ++ ds) b ∙ first_append cs ds c)
 
 -- ---- three tests, one after the other
@@ -179,7 +178,7 @@ module _ (s1 s2 s3 s4 : Summand) where
       used_4 e = (box_4 e, as_first s4 (r.same s4 (member_4 count (ltb-true 3 count e))))
 
 -- ---- what the boxes' own checks and the test of their widths say: each is a box
-all_boxed : (ss : List Summand) → first (each ss summand_checks) ≡ Accepted → (s : Summand) → Memᴰ s ss → IsBox s
+all_boxed : (ss : List Summand) → first (each ss summand_checks) ≡ (Ok tt) → (s : Summand) → Memᴰ s ss → IsBox s
 unfolding each
 all_boxed [] h s m = absurd (Memᴰ.not-nil m)
 all_boxed (t ∷ ts) h s m =
@@ -212,7 +211,7 @@ module _ (count : ℕ) (handed : List Summand) (i : ℕ) where
   abbrev tests : List Check
   tests = (OutputWidths unless same_outputs ss) ∷ (Parameter unless in_range 1 (outputs_of ss) i) ∷ []
 
-  pub wrong_number : in_range 1 4 count ≡ false → Refused BoxCount ≡ first (sum_checks count handed i)
+  pub wrong_number : in_range 1 4 count ≡ false → Err BoxCount ≡ first (sum_checks count handed i)
   unfolding sum_checks
   wrong_number h = sym (first_failed BoxCount (in_range 1 4 count) (each ss summand_checks ++ tests) h)
 
@@ -221,14 +220,14 @@ module _ (count : ℕ) (handed : List Summand) (i : ℕ) where
     unfolding sum_checks
     past_number = first_passed BoxCount (in_range 1 4 count) (each ss summand_checks ++ tests) number
 
-    pub box_refused : {e : Refusal} → first (each ss summand_checks) ≡ Refused e → Refused e ≡ first (sum_checks count handed i)
+    pub box_refused : {e : Refusal} → first (each ss summand_checks) ≡ Err e → Err e ≡ first (sum_checks count handed i)
     box_refused h = sym (past_number ∙ first_refused (each ss summand_checks) tests h)
 
-    pub boxes_passed : {k : Checked} → first (each ss summand_checks) ≡ Accepted → Walk tests k → k ≡ first (sum_checks count handed i)
+    pub boxes_passed : {k : Result ⊤ Refusal} → first (each ss summand_checks) ≡ (Ok tt) → Walk tests k → k ≡ first (sum_checks count handed i)
     boxes_passed h w = found_after (each ss summand_checks) h w ∙ sym past_number
 
   -- ---- what acceptance says
-  module _ (accepted : first (sum_checks count handed i) ≡ Accepted) where
+  module _ (accepted : first (sum_checks count handed i) ≡ (Ok tt)) where
     abbrev number_test : List Check
     number_test = (BoxCount unless in_range 1 4 count) ∷ []
 
@@ -236,7 +235,7 @@ module _ (count : ℕ) (handed : List Summand) (i : ℕ) where
     unfolding sum_checks
     number_is = (passed number_test (accepted_before number_test (each ss summand_checks ++ tests) accepted)).0
 
-    after_number : first (each ss summand_checks ++ tests) ≡ Accepted
+    after_number : first (each ss summand_checks ++ tests) ≡ (Ok tt)
     unfolding sum_checks
     after_number = accepted_after number_test (each ss summand_checks ++ tests) accepted
 
@@ -274,7 +273,7 @@ module _ (count : ℕ) (handed : List Summand) (i : ℕ) where
     at_most_32 = omega (arith, inputs_few ss accepted_round.boxed, length-take count handed, accepted_round.count_high)
 
 -- box 1 of an accepted call has at most 32 outputs
-pub first_outputs : (s1 s2 s3 s4 : Summand) (count i : ℕ) → first (sum_checks count (s1 ∷ s2 ∷ s3 ∷ s4 ∷ []) i) ≡ Accepted → s1.outputs ≤ 32
+pub first_outputs : (s1 s2 s3 s4 : Summand) (count i : ℕ) → first (sum_checks count (s1 ∷ s2 ∷ s3 ∷ s4 ∷ []) i) ≡ (Ok tt) → s1.outputs ≤ 32
 first_outputs s1 s2 s3 s4 count i accepted =
     let r = accepted_round count (s1 ∷ s2 ∷ s3 ∷ s4 ∷ []) i accepted in
     (r.boxed s1 (member_1 s1 s2 s3 s4 count r.count_low)).m_high

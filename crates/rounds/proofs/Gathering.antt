@@ -1,5 +1,7 @@
 -- The sum by parts: merging the replies of parts, cut anywhere, in any order and grouping, gives the plain call's reply. It is the law of sweeps in parts
 -- (masks, proofs/Gathering), of the sum's pairs. Assumes nothing.
+use Rattle.std.specs.Prelude.{Result, Ok, Err, ⊤}
+use Rattle.refusals.specs.declared.Refusal.{Refusal}
 use mathlib.Core.Path.{◌≡◌, refl, ap, ◌∙◌}
 use mathlib.Core.Bool.{Bool, true}
 use mathlib.Core.List.{List, ◌∷◌}
@@ -13,8 +15,6 @@ use Rattle.boolean.proofs.Components.{in_components, first_mask}
 use Rattle.boolean.proofs.Lists.{some_member}
 use Rattle.boolean.proofs.Selection.{least, by_least}
 use Rattle.refusals.specs.Table.{Reply, reply_after, first, in_range}
-use Rattle.refusals.specs.declared.Checked.{Checked}
-use Rattle.refusals.specs.declared.Checked.TheVariants.{Accepted, Refused}
 use Rattle.masks.specs.Parts.{shown_best, merged_reply, merged_in_turn}
 use Rattle.masks.specs.Statements.{Blocks, Cut, Gathered, Covered, replies}
 use Rattle.masks.proofs.Gathering as law
@@ -47,12 +47,12 @@ module _ (count : ℕ) (handed : List Summand) (i : ℕ) where
   unfolding sum_pairs
   whole_is = go (first (sum_checks count handed i)) refl
     where
-      go : (k : Checked) → first (sum_checks count handed i) ≡ k
+      go : (k : Result ⊤ Refusal) → first (sum_checks count handed i) ≡ k
           → reply_after k (shown_best lower (each (components m i) (sum_pairs_of ss))) ≡ reply_after k (shown (sum_nonlinearity ss (components m i)))
-      go Accepted e =
+      go (Ok tt) e =
           let one = first_mask m i (some_outputs count handed i e) (limit_low count handed i e) in
-          ap (reply_after Accepted) (shown_pairs ss (components m i) 1 (in_components m i 1 one))
-      go (Refused r) e = refl
+          ap (reply_after (Ok tt)) (shown_pairs ss (components m i) 1 (in_components m i 1 one))
+      go (Err r) e = refl
 
   -- Merged replies that cover a part, and no other mask, are its reply,
   pub gathered_part : {p : ℕ → Bool} {x : Reply} → Gathered ltb m (sum_cut_reply count handed i) p x → (c : Cut m)

@@ -1,5 +1,6 @@
 -- What the call over a part of the combinations reports: the least count of the part's pairs and the first of them that has it; and no figure exactly
 -- where no combination within the limit lies in the part.
+use Rattle.std.specs.Prelude.{Ok}
 use mathlib.Core.Path.{◌≡◌, refl, sym, ap, ◌∙◌}
 use mathlib.Core.Logic.{◌↔◌}
 use mathlib.Core.List.{List, [], ◌∷◌, Memᴰ}
@@ -9,7 +10,6 @@ use Rattle.boolean.specs.Sums.{each}
 use Rattle.boolean.specs.Functions.{mask_rank}
 use Rattle.boolean.specs.Selection.{Candidate, shown, lower}
 use Rattle.refusals.specs.Table.{figures, first}
-use Rattle.refusals.specs.declared.Checked.TheVariants.{Accepted}
 use Rattle.refusals.proofs.Checks.{reply_accepted}
 use Rattle.masks.specs.Parts.{components_between, shown_best, best_between}
 use Rattle.masks.specs.Statements.{MaskBetween}
@@ -43,7 +43,7 @@ module _ (count : ℕ) (handed : List Summand) (i low high : ℕ) where
   inside : (c : ℕ) → MaskBetween m i low high c → Memᴰ c cs
   inside c t = in_between m i low high c t.mask t.from t.to
 
-  module _ (ok : first (sum_part_checks count handed i low high) ≡ Accepted) where
+  module _ (ok : first (sum_part_checks count handed i low high) ≡ (Ok tt)) where
     some : 1 ≤ inputs_of ss
     unfolding sum_part_checks
     some = some_inputs count handed i (part_lies (sum_checks count handed i) m low high ok).0

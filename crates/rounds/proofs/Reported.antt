@@ -1,5 +1,6 @@
 -- What may be relied on of the figure and its witness: the least count over all 2^N inputs, reached, and every pair before the witness at more.
 -- Assumes nothing.
+use Rattle.std.specs.Prelude.{Ok}
 use mathlib.Core.Path.{◌≡◌, refl, sym, ap, ◌∙◌, subst}
 use mathlib.Core.List.{List, [], ◌∷◌, ◌++◌, Memᴰ}
 use Prim.Native.Nat.{ℕ, suc, ◌+◌, ◌/◌, ◌%◌, ◌^◌, ◌<◌, ◌≤◌}
@@ -12,7 +13,6 @@ use Rattle.boolean.specs.Selection.{Candidate, shown}
 use Rattle.boolean.proofs.Components.{mem_components, in_components, ascending_components, first_mask}
 use Rattle.boolean.proofs.Lists.{length_list_below, get_or_list_below}
 use Rattle.refusals.specs.Table.{Reply, figures, refusal, first, Box}
-use Rattle.refusals.specs.declared.Checked.TheVariants.{Accepted}
 use Rattle.refusals.proofs.Bounds.{below_at, below_true}
 use Rattle.refusals.proofs.Checks.{reply_accepted, limit_accepted}
 use Rattle.linear.specs.Nonlinearity.{nonlinearity, nonlinearity_reply}
@@ -26,7 +26,7 @@ use Rattle.rounds.proofs.Entry.{boxes, accepted_round, limit_low, limit_high, so
 -- "The desk must be able to rely on it as the least count of differing inputs over all 2^N inputs, though nobody can run that count." "The witness is c,
 -- one mask for each box from box 1 on, and b, the first in that order." "It is 2^(N−1) less half the largest, over combinations within the limit i, of
 -- the product of the boxes' largest spectrum magnitudes."
-pub sum_reported : (count : ℕ) (handed : List Summand) (i : ℕ) → first (sum_checks count handed i) ≡ Accepted → SumReported count handed i
+pub sum_reported : (count : ℕ) (handed : List Summand) (i : ℕ) → first (sum_checks count handed i) ≡ (Ok tt) → SumReported count handed i
 sum_reported count handed i accepted =
     let ss : List Summand = first_given count handed in
     let m = outputs_of ss in
@@ -58,7 +58,7 @@ row_below m (s ∷ ss) boxed same x =
     (subst (λ (k : ℕ). at s.rows (x % 2 ^ s.inputs) < 2 ^ k) (same s (Memᴰ.head refl)) ((boxed s (Memᴰ.head refl)).below (x % 2 ^ s.inputs)))
     (row_below m ss (λ t k. boxed t (Memᴰ.tail k)) (λ t k. same t (Memᴰ.tail k)) (x / 2 ^ s.inputs))
 
-module _ (count : ℕ) (handed : List Summand) (i : ℕ) (accepted : first (sum_checks count handed i) ≡ Accepted) where
+module _ (count : ℕ) (handed : List Summand) (i : ℕ) (accepted : first (sum_checks count handed i) ≡ (Ok tt)) where
   abbrev ss : List Summand
   ss = first_given count handed
 
@@ -99,7 +99,7 @@ fits_length [] (w ∷ ws) h = absurd h
 fits_length (s ∷ ss) [] h = absurd h
 fits_length (s ∷ ss) (w ∷ ws) h = ap suc (fits_length ss ws h.1)
 
-pub figures_number : (count : ℕ) (s1 s2 s3 s4 : Summand) (i : ℕ) → first (sum_checks count (s1 ∷ s2 ∷ s3 ∷ s4 ∷ []) i) ≡ Accepted
+pub figures_number : (count : ℕ) (s1 s2 s3 s4 : Summand) (i : ℕ) → first (sum_checks count (s1 ∷ s2 ∷ s3 ∷ s4 ∷ []) i) ≡ (Ok tt)
     → let ss = boxes count s1 s2 s3 s4 in length (shown (sum_nonlinearity ss (components (outputs_of ss) i))) ≡ 3 + count
 figures_number count s1 s2 s3 s4 i accepted =
     let handed : List Summand = s1 ∷ s2 ∷ s3 ∷ s4 ∷ [] in

@@ -1,4 +1,5 @@
 -- What the analyser gives of a component: the peak, by its least count; and, by its spectrum, the peak's place and the sign there. Assumes nothing.
+use Rattle.std.specs.Prelude.{Ok}
 use mathlib.Core.Path.{◌≡◌, refl, sym, ap, ◌∙◌}
 use mathlib.Core.List.{List}
 use Prim.Native.Nat.{ℕ, ◌+◌, ◌-◌, ◌*◌, ◌<◌, ◌≤◌, ◌^◌}
@@ -12,7 +13,6 @@ use Rattle.boolean.specs.Selection.{first_least}
 use Rattle.boolean.proofs.Lists.{length_list_below, get_or_list_below}
 use Rattle.boolean.proofs.Approximations.{walsh_twice, walsh_size, half_power}
 use Rattle.refusals.specs.Table.{first, box_checks, after, Box}
-use Rattle.refusals.specs.declared.Checked.TheVariants.{Accepted}
 use Rattle.refusals.proofs.Bounds.{range_true}
 use Rattle.refusals.proofs.Checks.{accepted, box_accepted, first_append, after_accepted}
 use Rattle.linear.specs.Nonlinearity.{pairs_of}
@@ -73,7 +73,7 @@ twice_largest n m rows c low e =
 
 -- ---- the call of the component's spectrum is accepted
 module _ (n m : ℕ) (rows : List ℕ) (c : ℕ) (b : Box n m rows) (low : 1 ≤ c) (high : c < 2 ^ m) where
-  component_accepted : (room : ℕ) → room ≡ 2 ^ n → first (component_checks n m rows c room) ≡ Accepted
+  component_accepted : (room : ℕ) → room ≡ 2 ^ n → first (component_checks n m rows c room) ≡ (Ok tt)
   unfolding component_checks
   component_accepted room e =
       first_append (box_checks n m rows) _ (box_accepted n m rows b)

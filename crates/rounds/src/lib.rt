@@ -19,7 +19,7 @@ ghost use Rattle.rounds.specs.Parts.{PartSumAnswer, SumsMerged};
 ghost use Rattle.rounds.specs.Work.{checks_if, same_if, inputs_if, size_if, Round, Stepped, AllStepped};
 ghost use Rattle.rounds.specs.Work.{found_candidate, Highest, TopOf, TopIf, WitnessOf, NearestOf};
 
-use refusals::{Checked, Refusal};
+use refusals::Refusal;
 
 // The inputs and outputs of the four boxes that are handed over.
 #[derive(Clone, Copy)]
@@ -60,45 +60,14 @@ struct Found {
 
 // The first nearest pair of a sum: the figure, c, a mask for each box (0 past the number given) and b.
 #[derive(Clone, Copy)]
-struct NearestSum {
-    figure: u32,
-    c: u32,
-    w1: u32,
-    w2: u32,
-    w3: u32,
-    w4: u32,
-    b: u32,
-}
-
-// The answer of the call: the figure, c, a mask for each box (0 past the number given) and b.
-#[derive(Clone, Copy)]
-pub enum LeastSum {
-    Reached {
-        figure: u32,
-        c: u32,
-        w1: u32,
-        w2: u32,
-        w3: u32,
-        w4: u32,
-        b: u32,
-    },
-    Declined(Refusal),
-}
-
-// The answer of the call over a part of the combinations: the same, or that none within the limit lies in the part.
-#[derive(Clone, Copy)]
-pub enum PartSum {
-    Reached {
-        figure: u32,
-        c: u32,
-        w1: u32,
-        w2: u32,
-        w3: u32,
-        w4: u32,
-        b: u32,
-    },
-    Nothing,
-    Declined(Refusal),
+pub struct NearestSum {
+    pub figure: u32,
+    pub c: u32,
+    pub w1: u32,
+    pub w2: u32,
+    pub w3: u32,
+    pub w4: u32,
+    pub b: u32,
 }
 
 // The step tables of a box that the sum has, and the truth table of its component c, each in as much of its array as the box needs.
@@ -441,17 +410,19 @@ fn witness_at(
 }
 
 // The checks of a box that the sum has.
-fn check_if(used: bool, n: u32, m: u32, rows: &[u32]) -> Checked
+#[tactic(auto, unfolding(refusals::specs::Table::first, crate::specs::Work::checks_if))]
+fn check_if(used: bool, n: u32, m: u32, rows: &[u32]) -> Result<(), Refusal>
     ensures { result ≡ first (checks_if used (summand_of n m rows.now)) }
 {
     if used {
         refusals::check_box(n, m, rows)
     } else {
-        Checked::Accepted
+        Ok(())
     }
 }
 
 // Each box's own checks, in box order.
+#[tactic(auto, unfolding(refusals::specs::Table::first, boolean::specs::Sums::each))]
 fn check_boxes(
     count: u32,
     widths: Widths,
@@ -459,21 +430,15 @@ fn check_boxes(
     rows2: &[u32],
     rows3: &[u32],
     rows4: &[u32],
-) -> Checked
+) -> Result<(), Refusal>
     requires { (1 ≤ count) × (count ≤ 4) }
     ensures { result
         ≡ first (each (boxes_read count widths rows1.now rows2.now rows3.now rows4.now)
         summand_checks) }
 {
-    if let Checked::Refused(e) = refusals::check_box(widths.n1, widths.m1, rows1) {
-        return Checked::Refused(e);
-    }
-    if let Checked::Refused(e) = check_if(1 < count, widths.n2, widths.m2, rows2) {
-        return Checked::Refused(e);
-    }
-    if let Checked::Refused(e) = check_if(2 < count, widths.n3, widths.m3, rows3) {
-        return Checked::Refused(e);
-    }
+    refusals::check_box(widths.n1, widths.m1, rows1)?;
+    check_if(1 < count, widths.n2, widths.m2, rows2)?;
+    check_if(2 < count, widths.n3, widths.m3, rows3)?;
     check_if(3 < count, widths.n4, widths.m4, rows4)
 }
 
@@ -498,6 +463,7 @@ fn same_outputs(count: u32, m1: u32, m2: u32, m3: u32, m4: u32) -> bool
 }
 
 // The checks of the call: the number of boxes, each box's own, the output widths, the limit.
+#[tactic(auto, unfolding(refusals::specs::Table::first, crate::specs::Round::sum_checks))]
 pub fn check_sum(
     count: u32,
     widths: Widths,
@@ -506,24 +472,21 @@ pub fn check_sum(
     rows3: &[u32],
     rows4: &[u32],
     i: u32,
-) -> Checked
+) -> Result<(), Refusal>
     ensures { result
         ≡ first (sum_checks count (summands_of widths rows1.now rows2.now rows3.now rows4.now) i) }
 {
     if !refusals::in_range(1, 4, count) {
-        return Checked::Refused(Refusal::BoxCount);
+        return Err(Refusal::BoxCount);
     }
-    let found = check_boxes(count, widths, rows1, rows2, rows3, rows4);
-    if let Checked::Refused(e) = found {
-        return Checked::Refused(e);
-    }
+    check_boxes(count, widths, rows1, rows2, rows3, rows4)?;
     if !same_outputs(count, widths.m1, widths.m2, widths.m3, widths.m4) {
-        return Checked::Refused(Refusal::OutputWidths);
+        return Err(Refusal::OutputWidths);
     }
     if !refusals::in_range(1, widths.m1, i) {
-        return Checked::Refused(Refusal::Parameter);
+        return Err(Refusal::Parameter);
     }
-    Checked::Accepted
+    Ok(())
 }
 
 // The inputs of a box that the sum has.
@@ -587,28 +550,18 @@ pub fn sum_nonlinearity(
     rows3: &[u32],
     rows4: &[u32],
     i: u32,
-) -> LeastSum
+) -> Result<NearestSum, Refusal>
     ensures { SumAnswer count result
         (sum_reply count (summands_of widths rows1.now rows2.now rows3.now rows4.now) i) }
 {
-    let checked = check_sum(count, widths, rows1, rows2, rows3, rows4, i);
-    if let Checked::Refused(e) = checked {
-        return LeastSum::Declined(e);
-    }
+    check_sum(count, widths, rows1, rows2, rows3, rows4, i)?;
     let masks = (boolean::power_of_two(widths.m1) - 1) as u32;
     let nearest = least_between(count, widths, rows1, rows2, rows3, rows4, i, 1, masks);
-    LeastSum::Reached {
-        figure: nearest.figure,
-        c: nearest.c,
-        w1: nearest.w1,
-        w2: nearest.w2,
-        w3: nearest.w3,
-        w4: nearest.w4,
-        b: nearest.b,
-    }
+    Ok(nearest)
 }
 
 // The checks of a part: the plain call's, then that it lies from 1 to 2^m − 1.
+#[tactic(auto, unfolding(refusals::specs::Table::first, crate::specs::Round::sum_part_checks))]
 pub fn check_sum_part(
     count: u32,
     widths: Widths,
@@ -619,23 +572,20 @@ pub fn check_sum_part(
     i: u32,
     low: u32,
     high: u32,
-) -> Checked
+) -> Result<(), Refusal>
     ensures { result
         ≡ first (sum_part_checks count
         (summands_of widths rows1.now rows2.now rows3.now rows4.now) i low high) }
 {
-    let checked = check_sum(count, widths, rows1, rows2, rows3, rows4, i);
-    if let Checked::Refused(e) = checked {
-        return Checked::Refused(e);
-    }
+    check_sum(count, widths, rows1, rows2, rows3, rows4, i)?;
     let masks = (boolean::power_of_two(widths.m1) - 1) as u32;
     if !refusals::in_range(1, masks, low) {
-        return Checked::Refused(Refusal::Parameter);
+        return Err(Refusal::Parameter);
     }
     if !refusals::in_range(low, masks, high) {
-        return Checked::Refused(Refusal::Parameter);
+        return Err(Refusal::Parameter);
     }
-    Checked::Accepted
+    Ok(())
 }
 
 // The same over the combinations of at most i outputs whose masks lie from `first` to `last`: a part of a sweep.
@@ -649,18 +599,15 @@ pub fn sum_nonlinearity_between(
     i: u32,
     first: u32,
     last: u32,
-) -> PartSum
+) -> Result<Option<NearestSum>, Refusal>
     ensures { PartSumAnswer count result
         (sum_between_reply count (summands_of widths rows1.now rows2.now rows3.now rows4.now)
         i first last) }
 {
-    let checked = check_sum_part(count, widths, rows1, rows2, rows3, rows4, i, first, last);
-    if let Checked::Refused(e) = checked {
-        return PartSum::Declined(e);
-    }
+    check_sum_part(count, widths, rows1, rows2, rows3, rows4, i, first, last)?;
     let start = masks::first_mask(i, first as u64);
     if (last as u64) < start {
-        return PartSum::Nothing;
+        return Ok(None);
     }
     let nearest = least_between(
         count,
@@ -673,50 +620,25 @@ pub fn sum_nonlinearity_between(
         start as u32,
         last,
     );
-    PartSum::Reached {
-        figure: nearest.figure,
-        c: nearest.c,
-        w1: nearest.w1,
-        w2: nearest.w2,
-        w3: nearest.w3,
-        w4: nearest.w4,
-        b: nearest.b,
-    }
+    Ok(Some(nearest))
 }
 
 // Two parts' answers as one: the fewer inputs, then the fewer outputs, then the smaller mask; a refusal stays one.
-pub fn merge_sums(x: PartSum, y: PartSum) -> PartSum
+pub fn merge_sums(
+    x: Result<Option<NearestSum>, Refusal>,
+    y: Result<Option<NearestSum>, Refusal>,
+) -> Result<Option<NearestSum>, Refusal>
     ensures { SumsMerged x y result }
 {
-    match x {
-        PartSum::Declined(e) => PartSum::Declined(e),
-        PartSum::Nothing => y,
-        PartSum::Reached {
-            figure,
-            c,
-            w1: _,
-            w2: _,
-            w3: _,
-            w4: _,
-            b: _,
-        } => match y {
-            PartSum::Declined(e) => PartSum::Declined(e),
-            PartSum::Nothing => x,
-            PartSum::Reached {
-                figure: other,
-                c: mask,
-                w1: _,
-                w2: _,
-                w3: _,
-                w4: _,
-                b: _,
-            } => {
-                if masks::is_sooner(other, figure, mask, c) {
-                    y
-                } else {
-                    x
-                }
-            }
-        },
+    let Some(first) = x? else {
+        return y;
+    };
+    let Some(second) = y? else {
+        return x;
+    };
+    if masks::is_sooner(second.figure, first.figure, second.c, first.c) {
+        y
+    } else {
+        x
     }
 }

@@ -1,4 +1,5 @@
 -- How many figures each call that sweeps over combinations or searches gives. Assumes nothing.
+use Rattle.std.specs.Prelude.{Ok}
 use Prim.Native.Nat.{ℕ}
 use mathlib.Core.Path.{◌≡◌, refl, sym, ap}
 use mathlib.Core.List.{List, [], ◌∷◌}
@@ -6,7 +7,6 @@ use lib.ListN.{length}
 use Rattle.boolean.specs.Sums.{first_of}
 use Rattle.boolean.specs.Selection.{Candidate, shown}
 use Rattle.refusals.specs.Table.{first, limit_checks}
-use Rattle.refusals.specs.declared.Checked.TheVariants.{Accepted}
 use Rattle.refusals.proofs.Checks.{limited, reply_accepted}
 use Rattle.refusals.proofs.Replies.{same_figures}
 use Rattle.linear.specs.Nonlinearity.{nonlinearity}
@@ -18,7 +18,7 @@ use Rattle.algebraic.specs.Algebraic.{box_degree}
 use Rattle.algebraic.proofs.Theorems.{degree_reported}
 use Rattle.swaps.specs.Swaps.{Swap, swaps, raises, shown_swap, raised}
 
-module _ (n m : ℕ) (rows : List ℕ) (i : ℕ) (accepted : first (limit_checks n m rows i) ≡ Accepted) where
+module _ (n m : ℕ) (rows : List ℕ) (i : ℕ) (accepted : first (limit_checks n m rows i) ≡ (Ok tt)) where
   pub pair_size : length (shown (nonlinearity n m rows i)) ≡ 4
   pair_size =
       let l = limited n m rows i accepted in
@@ -32,7 +32,7 @@ module _ (n m : ℕ) (rows : List ℕ) (i : ℕ) (accepted : first (limit_checks
   degree_size =
       ap length (same_figures (sym (reply_accepted accepted (shown (box_degree n m rows i)))) (degree_reported n m rows i accepted).reply)
 
-pub distance_size : (n m : ℕ) (rows : List ℕ) (i j : ℕ) → first (distance_checks n m rows i j) ≡ Accepted → length (shown (dynamic_distance n m rows i j)) ≡ 3
+pub distance_size : (n m : ℕ) (rows : List ℕ) (i j : ℕ) → first (distance_checks n m rows i j) ≡ (Ok tt) → length (shown (dynamic_distance n m rows i j)) ≡ 3
 distance_size n m rows i j ok =
     ap length (same_figures (sym (reply_accepted ok (shown (dynamic_distance n m rows i j)))) (distance_reported n m rows i j ok).reply)
 

@@ -5,28 +5,28 @@ ghost use Rattle.avalanche.specs.Calls.{said_largest_change};
 ghost use Rattle.rounds.specs.Calls.{said_least_sum};
 ghost use Rattle.border.specs.Border.{FiguresOut};
 
-use avalanche::LargestChange;
-use refusals::Verdict;
-use rounds::LeastSum;
+use avalanche::FoundChange;
+use refusals::Refusal;
+use rounds::NearestSum;
 
 // The largest change: the figure, c and the input change.
-pub fn give_change(answer: LargestChange, figures: &mut [u32]) -> u32
+pub fn give_change(answer: Result<FoundChange, Refusal>, figures: &mut [u32]) -> u32
     ensures { FiguresOut (said_largest_change answer) figures.old result figures.new }
 {
     match answer {
-        LargestChange::Reached { figure, c, s } => border::give(&[figure, c, s], figures),
-        LargestChange::Declined(e) => refusals::number_of(e),
+        Ok(FoundChange { figure, c, s }) => border::give(&[figure, c, s], figures),
+        Err(e) => refusals::number_of(e),
     }
 }
 
 // Yes is 1, and no is 0.
-pub fn give_verdict(answer: Verdict, figures: &mut [u32]) -> u32
+pub fn give_verdict(answer: Result<bool, Refusal>, figures: &mut [u32]) -> u32
     ensures { FiguresOut (said_verdict answer) figures.old result figures.new }
 {
     match answer {
-        Verdict::Yes => border::give(&[1u32], figures),
-        Verdict::No => border::give(&[0u32], figures),
-        Verdict::Undecided(e) => refusals::number_of(e),
+        Ok(true) => border::give(&[1u32], figures),
+        Ok(false) => border::give(&[0u32], figures),
+        Err(e) => refusals::number_of(e),
     }
 }
 
@@ -61,11 +61,11 @@ fn give_masks(
 }
 
 // The nearest pair of a sum of so many boxes.
-pub fn give_sum(count: u32, answer: LeastSum, figures: &mut [u32]) -> u32
+pub fn give_sum(count: u32, answer: Result<NearestSum, Refusal>, figures: &mut [u32]) -> u32
     ensures { FiguresOut (said_least_sum count answer) figures.old result figures.new }
 {
     match answer {
-        LeastSum::Reached {
+        Ok(NearestSum {
             figure,
             c,
             w1,
@@ -73,7 +73,7 @@ pub fn give_sum(count: u32, answer: LeastSum, figures: &mut [u32]) -> u32
             w3,
             w4,
             b,
-        } => { give_masks(count, figure, c, w1, w2, w3, w4, b, figures) }
-        LeastSum::Declined(e) => refusals::number_of(e),
+        }) => { give_masks(count, figure, c, w1, w2, w3, w4, b, figures) }
+        Err(e) => refusals::number_of(e),
     }
 }

@@ -31,15 +31,13 @@ ghost use Rattle.catalogue.specs.Calls.{check_reply, fetch_reply, catalogue_chec
 ghost use Rattle.catalogue.specs.Calls.{gap_for, gap_index, removed, added, compacted};
 ghost use Rattle.packing.specs.Packing.{packed as packedForm, unpacked, pack_checks, unpack_checks};
 
-use algebraic::DegreeFound;
-use boxfile::BoxFile;
-use catalogue::{Fetched, Told};
-use differential::{CellList, LargestCell};
-use linear::LeastPair;
-use nearest::PairList;
-use refusals::{Checked, Refusal};
+use algebraic::FoundDegree;
+use catalogue::Extent;
+use differential::FoundCell;
+use linear::Found;
+use refusals::{BoxWidths, Refusal};
 use rounds::Widths;
-use swaps::RaisingSwap;
+use swaps::Raise;
 
 // The spectrum of a truth table.
 pub fn satmegwo_spectrum(n: u32, table: &[u8], out: &mut [i32]) -> u32
@@ -73,8 +71,8 @@ pub fn satmegwo_nonlinearity(n: u32, m: u32, rows: &[u32], i: u32, figures: &mut
         return border::number_for_room(refusals::check_limited(n, m, rows, i));
     }
     match linear::nonlinearity(n, m, rows, i) {
-        LeastPair::Reached { count, c, w, b } => border::give(&[count, c, w, b], figures),
-        LeastPair::Declined(e) => refusals::number_of(e),
+        Ok(Found { count, c, w, b }) => border::give(&[count, c, w, b], figures),
+        Err(e) => refusals::number_of(e),
     }
 }
 
@@ -107,8 +105,8 @@ pub fn satmegwo_largest_cell(n: u32, m: u32, rows: &[u32], figures: &mut [u32]) 
     ensures { FiguresOut (largest_cell_reply n m rows.now) figures.old result figures.new }
 {
     match differential::largest_cell(n, m, rows) {
-        LargestCell::Reached { count, a, beta } => border::give(&[count, a, beta], figures),
-        LargestCell::Declined(e) => refusals::number_of(e),
+        Ok(FoundCell { count, a, beta }) => border::give(&[count, a, beta], figures),
+        Err(e) => refusals::number_of(e),
     }
 }
 
@@ -129,8 +127,8 @@ pub fn satmegwo_largest_cells(
         return border::number_for_room(refusals::check_box(n, m, rows));
     }
     match differential::largest_cells(n, m, rows, list) {
-        CellList::Listed { count } => border::give(&[count], figures),
-        CellList::Unlisted(e) => refusals::number_of(e),
+        Ok(count) => border::give(&[count], figures),
+        Err(e) => refusals::number_of(e),
     }
 }
 
@@ -177,8 +175,8 @@ pub fn satmegwo_degree(n: u32, m: u32, rows: &[u32], i: u32, figures: &mut [u32]
         return border::number_for_room(refusals::check_limited(n, m, rows, i));
     }
     match algebraic::degree(n, m, rows, i) {
-        DegreeFound::Reached { degree, c } => border::give(&[degree, c], figures),
-        DegreeFound::Declined(e) => refusals::number_of(e),
+        Ok(FoundDegree { degree, c }) => border::give(&[degree, c], figures),
+        Err(e) => refusals::number_of(e),
     }
 }
 
@@ -231,8 +229,8 @@ pub fn satmegwo_read_box(file: &[u8], rows: &mut [u32], figures: &mut [u32]) -> 
         return border::number_for_room(boxfile::check_file(file, rows.len()));
     }
     match boxfile::read_box(file, rows) {
-        BoxFile::Read { n, m } => border::give(&[n, m], figures),
-        BoxFile::Declined(e) => refusals::number_of(e),
+        Ok(BoxWidths { n, m }) => border::give(&[n, m], figures),
+        Err(e) => refusals::number_of(e),
     }
 }
 
@@ -282,8 +280,8 @@ pub fn satmegwo_check_catalogue(catalogue: &[u8], figures: &mut [u32]) -> u32
     ensures { FiguresOut (check_reply catalogue.now) figures.old result figures.new }
 {
     match catalogue::check(catalogue) {
-        Told::Number(records) => border::give(&[records], figures),
-        Told::Declined(e) => refusals::number_of(e),
+        Ok(records) => border::give(&[records], figures),
+        Err(e) => refusals::number_of(e),
     }
 }
 
@@ -298,8 +296,8 @@ pub fn satmegwo_add_record(catalogue: &mut [u8], file: &[u8], figures: &mut [u32
         return border::number_for_room(catalogue::check_offered(catalogue, file));
     }
     match catalogue::add(catalogue, file) {
-        Told::Number(index) => border::give(&[index], figures),
-        Told::Declined(e) => refusals::number_of(e),
+        Ok(index) => border::give(&[index], figures),
+        Err(e) => refusals::number_of(e),
     }
 }
 
@@ -316,8 +314,8 @@ pub fn satmegwo_fetch_record(catalogue: &[u8], index: u32, figures: &mut [u32]) 
     ensures { FiguresOut (fetch_reply catalogue.now index) figures.old result figures.new }
 {
     match catalogue::fetch_status(catalogue, index) {
-        Fetched::Lies { offset, size } => border::give(&[offset, size], figures),
-        Fetched::Unfetched(e) => refusals::number_of(e),
+        Ok(Extent { offset, size }) => border::give(&[offset, size], figures),
+        Err(e) => refusals::number_of(e),
     }
 }
 
@@ -354,9 +352,9 @@ pub fn satmegwo_raising_swap(n: u32, m: u32, rows: &[u32], figures: &mut [u32]) 
         return border::number_for_room(refusals::check_box_up_to(8, n, m, rows));
     }
     match swaps::raising_swap(n, m, rows) {
-        RaisingSwap::Raised { low, high, figure } => border::give(&[1, low, high, figure], figures),
-        RaisingSwap::NoSwap => border::give(&[0u32, 0, 0, 0], figures),
-        RaisingSwap::Declined(e) => refusals::number_of(e),
+        Ok(Some(Raise { low, high, figure })) => border::give(&[1, low, high, figure], figures),
+        Ok(None) => border::give(&[0u32, 0, 0, 0], figures),
+        Err(e) => refusals::number_of(e),
     }
 }
 
@@ -365,8 +363,8 @@ pub fn satmegwo_check_box(n: u32, m: u32, rows: &[u32]) -> u32
     ensures { result ≡ status (reply_after (first (box_checks n m rows.now)) []) }
 {
     match refusals::check_box(n, m, rows) {
-        Checked::Accepted => 0,
-        Checked::Refused(e) => refusals::number_of(e),
+        Ok(()) => 0,
+        Err(e) => refusals::number_of(e),
     }
 }
 
@@ -425,10 +423,10 @@ pub fn satmegwo_nearest_pairs(
         return border::number_for_room(refusals::check_limited(n, m, rows, i));
     }
     match nearest::nearest_pairs(n, m, rows, i, list) {
-        PairList::Listed { count } => {
+        Ok(count) => {
             figures[0] = count;
             0
         }
-        PairList::Declined(e) => refusals::number_of(e),
+        Err(e) => refusals::number_of(e),
     }
 }

@@ -1,4 +1,5 @@
 -- An operation's answer as a number: what its contract says of the answer holds of the number. Assumes nothing.
+use Rattle.std.specs.Prelude.{Result, Ok, Err, ⊤}
 use Prim.Native.Nat.{ℕ, ◌^◌}
 use mathlib.Core.Path.{◌≡◌, refl}
 use mathlib.Core.Bool.{Bool, true, false}
@@ -7,8 +8,6 @@ use lib.Dec.{eqb}
 use Rattle.refusals.specs.Table.{◌unless◌, first, Reply, refusal, number, in_range, said_written}
 use Rattle.refusals.specs.declared.Refusal.{Refusal}
 use Rattle.refusals.specs.declared.Refusal.TheVariants.{InputWidth, OutputWidth, ReadLength, Value, Permutation, Parameter, WrittenLength, NoFunction, ListTooShort, FileLength, BoxCount, OutputWidths, Catalogue, NoRoom, NoRecord, UnusedBit, UnsetMark, NoPlace, PlaceState}
-use Rattle.refusals.specs.declared.Written.{Written}
-use Rattle.refusals.specs.declared.Written.TheVariants.{Done, Declined}
 use Rattle.design.specs.declared.Design.{Design}
 use Rattle.design.specs.Model.{DesignState, design_read_checks}
 use Rattle.border.specs.Border.{status, room_number}
@@ -36,10 +35,10 @@ says_refusal UnsetMark = refl
 says_refusal NoPlace = refl
 says_refusal PlaceState = refl
 
-pub says_answer : (answer : Written) → number_says (status (said_written answer)) ≡ said_written answer
+pub says_answer : (answer : Result ⊤ Refusal) → number_says (status (said_written answer)) ≡ said_written answer
 unfolding status
-says_answer Done = refl
-says_answer (Declined e) = says_refusal e
+says_answer (Ok tt) = refl
+says_answer (Err e) = says_refusal e
 
 -- what a call's contract says, of the number and the design that are handed out
 pub handed_out : (Contract : Reply → Design → Type 0) {said told : Reply} {made out : Design} → (out ≡ made) × (told ≡ said) → Contract said made → Contract told out

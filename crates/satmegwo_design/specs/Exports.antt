@@ -1,8 +1,9 @@
 -- What the C library says in place of an answer: a number, and for reading an array that is lent for n and m.
+use Rattle.std.specs.Prelude.{Result, ⊤}
+use Rattle.refusals.specs.declared.Refusal.{Refusal}
 use Rattle.std.specs.Prelude.{ℕ, zero, suc, List, [], ◌∷◌, ◌++◌, ◌≡◌, eqb, length}
 use Rattle.refusals.specs.Table.{Check, ◌unless◌, first, Reply, figures, refusal, reply_after, after}
 use Rattle.refusals.specs.declared.Refusal.TheVariants.{WrittenLength}
-use Rattle.refusals.specs.declared.Checked.{Checked}
 use Rattle.design.specs.declared.Design.{Design}
 use Rattle.design.specs.Model.{DesignState, design_read_checks}
 use Rattle.design.specs.Calls.{design_rows, state_of_design}
@@ -19,7 +20,7 @@ unfolding design_read_checks
 read_design_checks s room listed = design_read_checks s room ++ ((WrittenLength unless eqb listed 2) ∷ [])
 
 -- Reading, of every design, by what its checks found: what is returned, and what the array for n and m and that for the rows hold then.
-pub record BoxOut (d : Design) (found : Checked) (old_rows old_figures : List ℕ) (returned : ℕ)
+pub record BoxOut (d : Design) (found : Result ⊤ Refusal) (old_rows old_figures : List ℕ) (returned : ℕ)
     (new_rows new_figures : List ℕ) : Type 0 where
   pub number : returned ≡ status (reply_after found (d.n ∷ d.m ∷ []))
   pub widths : new_figures ≡ after found (d.n ∷ d.m ∷ []) old_figures

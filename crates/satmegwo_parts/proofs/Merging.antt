@@ -1,4 +1,5 @@
 -- Two parts as C has them: what their merging asks, and which of the two is taken. Assumes nothing.
+use Rattle.std.specs.Prelude.{Ok}
 use Prim.Native.Nat.{ℕ, zero, suc, ◌+◌, ◌≤◌}
 use mathlib.Core.Path.{◌≡◌, refl, sym, ap, ◌∙◌}
 use mathlib.Core.Bool.{Bool, true, false, ◌&&◌, ◌||◌}
@@ -10,7 +11,6 @@ use lib.ListN.{length, replicate, take, length-replicate}
 use lib.Seq.{take_all}
 use Rattle.boolean.specs.Functions.{at}
 use Rattle.refusals.specs.Table.{first}
-use Rattle.refusals.specs.declared.Checked.TheVariants.{Accepted}
 use Rattle.refusals.specs.Statements.{◌unless_that◌}
 use Rattle.refusals.proofs.Checks.{passed}
 use Rattle.refusals.proofs.Means.{Means, line, end, same, at_most}
@@ -23,7 +23,7 @@ pub record Merges (x y : List ℕ) (room : ℕ) : Type 0 where
   pub same : length y ≡ length x
   pub fits : room ≡ length x
 
-pub merges : (x y : List ℕ) (room : ℕ) → first (merge_checks x y room) ≡ Accepted → Merges x y room
+pub merges : (x y : List ℕ) (room : ℕ) → first (merge_checks x y room) ≡ (Ok tt) → Merges x y room
 unfolding merge_checks
 merges x y room h =
     let p = passed (merge_checks x y room) h in

@@ -8,29 +8,30 @@ ghost use Rattle.rounds.specs.Parts.{said_part_sum};
 ghost use Rattle.border.specs.Border.{FiguresOut};
 ghost use Rattle.satmegwo_parts.specs.Exports.{flagged, sum_size};
 
-use avalanche::PartChange;
-use linear::PartPair;
-use rounds::PartSum;
+use avalanche::FoundChange;
+use linear::Found;
+use refusals::Refusal;
+use rounds::NearestSum;
 
 // The nearest pair of a part: the count, c, w and b.
-pub fn give_pair(answer: PartPair, part: &mut [u32]) -> u32
+pub fn give_pair(answer: Result<Option<Found>, Refusal>, part: &mut [u32]) -> u32
     ensures { FiguresOut (flagged 5 (said_part answer)) part.old result part.new }
 {
     match answer {
-        PartPair::Reached { count, c, w, b } => border::give(&[1, count, c, w, b], part),
-        PartPair::Nothing => border::give(&[0, 0, 0, 0, 0], part),
-        PartPair::Declined(e) => refusals::number_of(e),
+        Ok(Some(Found { count, c, w, b })) => border::give(&[1, count, c, w, b], part),
+        Ok(None) => border::give(&[0, 0, 0, 0, 0], part),
+        Err(e) => refusals::number_of(e),
     }
 }
 
 // The largest change of a part: the figure, c and the input change.
-pub fn give_change(answer: PartChange, part: &mut [u32]) -> u32
+pub fn give_change(answer: Result<Option<FoundChange>, Refusal>, part: &mut [u32]) -> u32
     ensures { FiguresOut (flagged 4 (said_part_change answer)) part.old result part.new }
 {
     match answer {
-        PartChange::Reached { figure, c, s } => border::give(&[1, figure, c, s], part),
-        PartChange::Nothing => border::give(&[0, 0, 0, 0], part),
-        PartChange::Declined(e) => refusals::number_of(e),
+        Ok(Some(FoundChange { figure, c, s })) => border::give(&[1, figure, c, s], part),
+        Ok(None) => border::give(&[0, 0, 0, 0], part),
+        Err(e) => refusals::number_of(e),
     }
 }
 
@@ -66,11 +67,11 @@ fn give_masks(
 }
 
 // The nearest pair of a part of a sum of so many boxes.
-pub fn give_sum(count: u32, answer: PartSum, part: &mut [u32]) -> u32
+pub fn give_sum(count: u32, answer: Result<Option<NearestSum>, Refusal>, part: &mut [u32]) -> u32
     ensures { FiguresOut (flagged (sum_size count) (said_part_sum count answer)) part.old result part.new }
 {
     match answer {
-        PartSum::Reached {
+        Ok(Some(NearestSum {
             figure,
             c,
             w1,
@@ -78,8 +79,8 @@ pub fn give_sum(count: u32, answer: PartSum, part: &mut [u32]) -> u32
             w3,
             w4,
             b,
-        } => { give_masks(count, 1, figure, c, w1, w2, w3, w4, b, part) }
-        PartSum::Nothing => give_masks(count, 0, 0, 0, 0, 0, 0, 0, 0, part),
-        PartSum::Declined(e) => refusals::number_of(e),
+        })) => { give_masks(count, 1, figure, c, w1, w2, w3, w4, b, part) }
+        Ok(None) => give_masks(count, 0, 0, 0, 0, 0, 0, 0, 0, part),
+        Err(e) => refusals::number_of(e),
     }
 }

@@ -13,7 +13,7 @@ ghost use Rattle.rounds.specs.Round.{summand_of, sum_between_reply};
 ghost use Rattle.border.specs.Border.{FiguresOut, WroteOut};
 ghost use Rattle.satmegwo_parts.specs.Exports.{flagged, sum_size, second_taken, merged_part, merge_checks};
 
-use refusals::{Checked, Refusal};
+use refusals::Refusal;
 use rounds::Widths;
 
 // The nonlinearity over the combinations of at most i outputs from `first` to `last`.
@@ -115,25 +115,25 @@ pub fn satmegwo_sum_nonlinearity_between(
 }
 
 // The checks of a merging.
-fn check_merging(x: &[u32], y: &[u32], room: usize) -> Checked
+fn check_merging(x: &[u32], y: &[u32], room: usize) -> Result<(), Refusal>
     ensures { result ≡ firstMet (merge_checks x.now y.now room) }
 {
     if x.len() < 3 { // a flag, a figure and a combination
-        return Checked::Refused(Refusal::ReadLength);
+        return Err(Refusal::ReadLength);
     }
     if y.len() != x.len() {
-        return Checked::Refused(Refusal::ReadLength);
+        return Err(Refusal::ReadLength);
     }
     if 1 < x[0] {
-        return Checked::Refused(Refusal::Value);
+        return Err(Refusal::Value);
     }
     if 1 < y[0] {
-        return Checked::Refused(Refusal::Value);
+        return Err(Refusal::Value);
     }
     if room != x.len() {
-        return Checked::Refused(Refusal::WrittenLength);
+        return Err(Refusal::WrittenLength);
     }
-    Checked::Accepted
+    Ok(())
 }
 
 // Whether the second of two parts is taken, the smaller figure being the better one.
@@ -169,9 +169,7 @@ pub fn satmegwo_merge_least(x: &[u32], y: &[u32], merged: &mut [u32]) -> u32
     ensures { WroteOut (merge_checks x.now y.now (length merged.old))
         (merged_part ltb x.now y.now) merged.old result merged.new }
 {
-    if let Checked::Refused(e) = check_merging(x, y, merged.len()) {
-        return refusals::number_of(e);
-    }
+    check_merging(x, y, merged.len())?;
     if is_second_less(x, y) {
         boolean::copy(y, merged);
         return 0;
@@ -185,9 +183,7 @@ pub fn satmegwo_merge_largest(x: &[u32], y: &[u32], merged: &mut [u32]) -> u32
     ensures { WroteOut (merge_checks x.now y.now (length merged.old))
         (merged_part above x.now y.now) merged.old result merged.new }
 {
-    if let Checked::Refused(e) = check_merging(x, y, merged.len()) {
-        return refusals::number_of(e);
-    }
+    check_merging(x, y, merged.len())?;
     if is_second_larger(x, y) {
         boolean::copy(y, merged);
         return 0;

@@ -6,7 +6,9 @@ ghost use Rattle.server.specs.Calls.{said_asked, ServerBegan, ServerPut, ServerW
 ghost use Rattle.border.specs.Border.{FiguresOut};
 ghost use Rattle.satmegwo_server.specs.Exports.{progress_reply, NumberedCall, ToldOut};
 
-use server::{Asked, Server};
+use linear::Found;
+use refusals::Refusal;
+use server::Server;
 
 // The server after a call that may be refused, with the status.
 #[repr(C)]
@@ -64,13 +66,13 @@ pub fn satmegwo_server_run(server: Server, budget: u32) -> Server
 }
 
 // The figures of an answer to asking, or the number of its refusal.
-fn give_standing(answer: Asked, figures: &mut [u32]) -> u32
+fn give_standing(answer: Result<Option<Found>, Refusal>, figures: &mut [u32]) -> u32
     ensures { FiguresOut (progress_reply (said_asked answer)) figures.old result figures.new }
 {
     match answer {
-        Asked::Unfinished => border::give(&[0u32, 0, 0, 0, 0], figures),
-        Asked::Finished { count, c, w, b } => border::give(&[1, count, c, w, b], figures),
-        Asked::Declined(e) => refusals::number_of(e),
+        Ok(None) => border::give(&[0u32, 0, 0, 0, 0], figures),
+        Ok(Some(Found { count, c, w, b })) => border::give(&[1, count, c, w, b], figures),
+        Err(e) => refusals::number_of(e),
     }
 }
 

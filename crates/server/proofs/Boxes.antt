@@ -1,4 +1,5 @@
 -- A box that is put on a place, and one of which one combination more was examined. Assumes nothing.
+use Rattle.std.specs.Prelude.{Result, Ok, Err, ⊤}
 use Prim.Native.Nat.{ℕ, suc, ◌+◌, ◌-◌, ◌^◌, ◌<◌, ◌≤◌}
 use mathlib.Core.Path.{◌≡◌, sym, ap, ap₂, ◌∙◌, subst}
 use mathlib.Core.Bool.{true}
@@ -10,8 +11,6 @@ use lib.Pow.{pow_mono}
 use Rattle.boolean.specs.Selection.{Candidate, best, lower, first_least, ranked}
 use Rattle.refusals.specs.Table.{Box, first, box_checks, filled, after}
 use Rattle.refusals.specs.declared.Refusal.{Refusal}
-use Rattle.refusals.specs.declared.Checked.{Checked}
-use Rattle.refusals.specs.declared.Checked.TheVariants.{Accepted, Refused}
 use Rattle.refusals.proofs.Checks.{box_accepted}
 use Rattle.refusals.proofs.Bounds.{range_high}
 use Rattle.masks.specs.Masks.{outputs}
@@ -42,13 +41,13 @@ fresh_place n m rows copied size same =
 
 -- ---- the better of two pairs
 module _ (n m : ℕ) (rows : List ℕ) (held : Candidate) (c : ℕ) where
-  pub better_none : {e : Refusal} → first (box_checks n m rows) ≡ Refused e → better n m rows held c ≡ held
+  pub better_none : {e : Refusal} → first (box_checks n m rows) ≡ Err e → better n m rows held c ≡ held
   unfolding better
-  better_none h = ap (λ (k : Checked). after k (best (ranked lower outputs) held (first_least (pairs_of n rows c) ∷ [])) held) h
+  better_none h = ap (λ (k : Result ⊤ Refusal). after k (best (ranked lower outputs) held (first_least (pairs_of n rows c) ∷ [])) held) h
 
-  pub better_some : first (box_checks n m rows) ≡ Accepted → better n m rows held c ≡ best (ranked lower outputs) held (nearest_of n rows c)
+  pub better_some : first (box_checks n m rows) ≡ (Ok tt) → better n m rows held c ≡ best (ranked lower outputs) held (nearest_of n rows c)
   unfolding better
-  better_some h = ap (λ (k : Checked). after k (best (ranked lower outputs) held (first_least (pairs_of n rows c) ∷ [])) held) h
+  better_some h = ap (λ (k : Result ⊤ Refusal). after k (best (ranked lower outputs) held (first_least (pairs_of n rows c) ∷ [])) held) h
 
   better_box : Box n m rows → better n m rows held c ≡ best (ranked lower outputs) held (nearest_of n rows c)
   better_box b = better_some (box_accepted n m rows b)

@@ -1,4 +1,5 @@
 -- What the checks of a call leave known, and what the call says and leaves then, refused or not. Assumes nothing.
+use Rattle.std.specs.Prelude.{Result, Ok, Err, ⊤}
 use Prim.Native.Nat.{ℕ, ◌-◌, ◌≤◌}
 use mathlib.Core.Path.{◌≡◌, refl, sym, ap, ◌∙◌}
 use mathlib.Core.Bool.{Bool, true, false, not}
@@ -9,9 +10,6 @@ use lib.ListN.{get_or}
 use Rattle.refusals.specs.Table.{first, in_range, number, ◌unless◌, box_checks_up_to, Box, figures, said_written}
 use Rattle.refusals.specs.declared.Refusal.{Refusal}
 use Rattle.refusals.specs.declared.Refusal.TheVariants.{NoPlace, PlaceState}
-use Rattle.refusals.specs.declared.Checked.{Checked}
-use Rattle.refusals.specs.declared.Checked.TheVariants.{Accepted, Refused}
-use Rattle.refusals.specs.declared.Written.TheVariants.{Declined}
 use Rattle.refusals.proofs.Checks.{passed, accepted_after, box_up_to, few_outputs, reply_refused, reply_accepted, after_refused, after_accepted}
 use Rattle.refusals.proofs.Bounds.{range_low, range_high}
 use Rattle.linear.specs.Calls.{pair_candidate}
@@ -24,7 +22,7 @@ use Rattle.server.specs.Calls.{spot_in, state_of_server, with_place, ServerPut, 
 use Rattle.server.proofs.Places.{nowhere, spots_at, spot_taken, spot_box}
 
 -- ---- a place with a box on it
-module _ (s : ServerState) (q : ℕ) (h : first (held_checks s q) ≡ Accepted) where
+module _ (s : ServerState) (q : ℕ) (h : first (held_checks s q) ≡ (Ok tt)) where
   pub held_low : 1 ≤ q
   unfolding held_checks
   held_low = range_low 1 8 q (passed (held_checks s q) h).0
@@ -38,7 +36,7 @@ module _ (s : ServerState) (q : ℕ) (h : first (held_checks s q) ≡ Accepted) 
   held_taken = (passed (held_checks s q) h).1.0
 
 -- ---- an empty place and a box
-module _ (s : ServerState) (q n m : ℕ) (rows : List ℕ) (h : first (put_checks s q n m rows) ≡ Accepted) where
+module _ (s : ServerState) (q n m : ℕ) (rows : List ℕ) (h : first (put_checks s q n m rows) ≡ (Ok tt)) where
   pub put_low : 1 ≤ q
   unfolding put_checks
   put_low = range_low 1 8 q (passed (put_checks s q n m rows) h).0
@@ -55,7 +53,7 @@ module _ (s : ServerState) (q n m : ℕ) (rows : List ℕ) (h : first (put_check
       not_true true e = sym e
       not_true false e = refl
 
-  boxed : first (box_checks_up_to 16 n m rows) ≡ Accepted
+  boxed : first (box_checks_up_to 16 n m rows) ≡ (Ok tt)
   unfolding put_checks
   boxed = accepted_after ((NoPlace unless in_range 1 8 q) ∷ (PlaceState unless not (is_taken (spot_at s q))) ∷ []) (box_checks_up_to 16 n m rows) h
 
@@ -67,20 +65,20 @@ module _ (s : ServerState) (q n m : ℕ) (rows : List ℕ) (h : first (put_check
 
 -- ---- putting and withdrawing
 module _ (s : Server) (q n m : ℕ) (rows : List ℕ) where
-  pub refused_put : {e : Refusal} → first (put_checks (state_of_server s) q n m rows) ≡ Refused e → {r : Served} → (r.server ≡ s) × (r.answer ≡ Declined e)
+  pub refused_put : {e : Refusal} → first (put_checks (state_of_server s) q n m rows) ≡ Err e → {r : Served} → (r.server ≡ s) × (r.answer ≡ Err e)
       → ServerPut s q n m rows (said_written r.answer) r.server
   refused_put h g = record { reply = ap said_written g.1 ∙ reply_refused h []; server = g.0 ∙ after_refused h _ s }
 
-  pub accepted_put : first (put_checks (state_of_server s) q n m rows) ≡ Accepted → {r : Server} → r ≡ with_place s q (holds (analysis_of n m rows 0))
+  pub accepted_put : first (put_checks (state_of_server s) q n m rows) ≡ (Ok tt) → {r : Server} → r ≡ with_place s q (holds (analysis_of n m rows 0))
       → ServerPut s q n m rows (figures []) r
   accepted_put h e = record { reply = reply_accepted h []; server = e ∙ after_accepted h _ s }
 
 module _ (s : Server) (q : ℕ) where
-  pub refused_withdrawal : {e : Refusal} → first (held_checks (state_of_server s) q) ≡ Refused e → {r : Served} → (r.server ≡ s) × (r.answer ≡ Declined e)
+  pub refused_withdrawal : {e : Refusal} → first (held_checks (state_of_server s) q) ≡ Err e → {r : Served} → (r.server ≡ s) × (r.answer ≡ Err e)
       → ServerWithdrew s q (said_written r.answer) r.server
   refused_withdrawal h g = record { reply = ap said_written g.1 ∙ reply_refused h []; server = g.0 ∙ after_refused h _ s }
 
-  pub accepted_withdrawal : first (held_checks (state_of_server s) q) ≡ Accepted → {r : Server} → r ≡ with_place s q empty → ServerWithdrew s q (figures []) r
+  pub accepted_withdrawal : first (held_checks (state_of_server s) q) ≡ (Ok tt) → {r : Server} → r ≡ with_place s q empty → ServerWithdrew s q (figures []) r
   accepted_withdrawal h e = record { reply = reply_accepted h []; server = e ∙ after_accepted h _ s }
 
 -- ---- asking
@@ -98,15 +96,15 @@ module _ (s : Server) (q : ℕ) where
   abbrev here : Place
   here = get_or s.places (q - 1) nowhere
 
-  pub ask_refused : {e : Refusal} → first (held_checks (state_of_server s) q) ≡ Refused e → ServerTold s q (declined (number e))
+  pub ask_refused : {e : Refusal} → first (held_checks (state_of_server s) q) ≡ Err e → ServerTold s q (declined (number e))
   unfolding ask
-  ask_refused h = record { standing = sym (ap (λ (k : Checked). progress_after k (spot_at (state_of_server s) q)) h) }
+  ask_refused h = record { standing = sym (ap (λ (k : Result ⊤ Refusal). progress_after k (spot_at (state_of_server s) q)) h) }
 
-  module _ (h : first (held_checks (state_of_server s) q) ≡ Accepted) where
+  module _ (h : first (held_checks (state_of_server s) q) ≡ (Ok tt)) where
     told : {said : _} → progress_in (spot_in here) ≡ said → ServerTold s q said
     unfolding ask
     told e = record {
-      standing = sym (ap (λ (k : Checked). progress_after k (spot_at (state_of_server s) q)) h ∙ ap progress_in (spots_at s.places (q - 1)) ∙ e);
+      standing = sym (ap (λ (k : Result ⊤ Refusal). progress_after k (spot_at (state_of_server s) q)) h ∙ ap progress_in (spots_at s.places (q - 1)) ∙ e);
     }
 
     here_taken : here.taken ≡ 1

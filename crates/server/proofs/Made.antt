@@ -1,5 +1,6 @@
 -- From the calls' outcomes to the promises: a server that its own calls made holds exactly what those calls make of the model's, so what
 -- is proved of any calls holds of it. Assumes nothing.
+use Rattle.std.specs.Prelude.{Ok}
 use Prim.Native.Nat.{ℕ, ◌*◌, ◌-◌, ◌^◌, ◌<◌, ◌≤◌}
 use mathlib.Core.Path.{◌≡◌, sym, ap, ◌∙◌, subst}
 use mathlib.Core.Logic.{◌↔◌}
@@ -9,7 +10,6 @@ use lib.ListN.{get_or}
 use Rattle.boolean.specs.Selection.{shown}
 use Rattle.boolean.proofs.Histories.{stands as Stands-by}
 use Rattle.refusals.specs.Table.{first}
-use Rattle.refusals.specs.declared.Checked.TheVariants.{Accepted}
 use Rattle.linear.specs.Nonlinearity.{nonlinearity}
 use Rattle.server.specs.declared.Place.{Place}
 use Rattle.server.specs.declared.Server.{Server}
@@ -39,7 +39,7 @@ made_whole t = let u = made_stands t in u.0.only ∙ ap server_of u.1
 
 -- A box was put on place q, and the calls that followed did not withdraw it.
 module _ (n m : ℕ) (rows : List ℕ) (q : ℕ) (before calls : List Call) {s : Server} (t : ServerMade (before ++ (puts q n m rows ∷ calls)) s)
-    (accepted : first (put_checks (after_all start before) q n m rows) ≡ Accepted) (kept : keeps q calls ≡ true) where
+    (accepted : first (put_checks (after_all start before) q n m rows) ≡ (Ok tt)) (kept : keeps q calls ≡ true) where
   abbrev then : ServerState
   then = after_all (put (after_all start before) q n m rows) calls
 

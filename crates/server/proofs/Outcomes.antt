@@ -1,5 +1,6 @@
 -- From the outcome of a call, which is its contract, to the model's: what stands on the places afterwards, that a server which the calls
 -- made stays one, and that a refusal leaves every server as it was. Assumes nothing.
+use Rattle.std.specs.Prelude.{Ok}
 use Prim.Native.Nat.{ℕ, zero, suc, ◌+◌, ◌-◌, ◌*◌, ◌<◌, ◌≤◌, zero-le}
 use mathlib.Core.Path.{◌≡◌, refl, sym, ap, ap₂, ◌∙◌, subst}
 use mathlib.Core.Logic.{◌⊎◌, inl, inr, ⊎_elim}
@@ -11,7 +12,6 @@ use native.Mathlib.Decide.{ℕ_discrete}
 use lib.ListN.{length, get_or, set}
 use lib.Seq.{get_or-set_same}
 use Rattle.refusals.specs.Table.{first, Reply, figures, refusal}
-use Rattle.refusals.specs.declared.Checked.TheVariants.{Accepted}
 use Rattle.refusals.proofs.Checks.{after_cases, after_both, after_accepted}
 use Rattle.refusals.proofs.Outcomes.{refusal_leaves}
 use Rattle.refusals.proofs.Replies.{figures_accepted}
@@ -33,7 +33,7 @@ pub began_stands : {r : Server} → ServerBegan r → SoundServer r × (state_of
 began_stands b = stands_for start sound_start b.server
 
 -- ---- a call that may be refused
-fresh_sound : (s : ServerState) (q n m : ℕ) (rows : List ℕ) → first (put_checks s q n m rows) ≡ Accepted → SoundSpot (holds (analysis_of n m rows 0))
+fresh_sound : (s : ServerState) (q n m : ℕ) (rows : List ℕ) → first (put_checks s q n m rows) ≡ (Ok tt) → SoundSpot (holds (analysis_of n m rows 0))
 unfolding analysis_of
 fresh_sound s q n m rows h = record { box = put_box s q n m rows h; narrow = put_narrow s q n m rows h; few = zero-le; so_far = refl }
 

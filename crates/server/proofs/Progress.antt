@@ -1,5 +1,7 @@
 -- A box that is not withdrawn is finished within 8 × (2^m − 1) steps of being put there, whatever else is called, with the plain call's
 -- result. Assumes nothing.
+use Rattle.std.specs.Prelude.{Result, Ok, ⊤}
+use Rattle.refusals.specs.declared.Refusal.{Refusal}
 use Prim.Native.Nat.{ℕ, zero, suc, ◌+◌, ◌-◌, ◌*◌, ◌^◌, ◌%◌, ◌<◌, ◌≤◌}
 use mathlib.Core.Path.{◌≡◌, refl, sym, ap, ◌∙◌, subst}
 use mathlib.Core.Logic.{◌↔◌}
@@ -18,8 +20,6 @@ use Rattle.boolean.specs.Selection.{Candidate, first_least, shown}
 use Rattle.boolean.proofs.Lists.{length_list_below, get_or_list_below}
 use Rattle.boolean.proofs.Histories.{run_keeps}
 use Rattle.refusals.specs.Table.{first, in_range, figures, Box, after}
-use Rattle.refusals.specs.declared.Checked.{Checked}
-use Rattle.refusals.specs.declared.Checked.TheVariants.{Accepted}
 use Rattle.refusals.proofs.Checks.{passed, found, skip, end, limit_accepted, reply_accepted, after_cases}
 use Rattle.refusals.proofs.Bounds.{range_low, range_high, range_true}
 use Rattle.linear.specs.Nonlinearity.{pairs_of, pairs, nonlinearity, nonlinearity_reply}
@@ -261,9 +261,9 @@ size_start = length_list_below 8 (λ i. empty)
 -- ---- the promises
 module _ (n m : ℕ) (rows : List ℕ) (q : ℕ) where
   -- putting examines none, and 8 steps for each combination are left
-  track_begins : (s : ServerState) → length s.spots ≡ 8 → first (put_checks s q n m rows) ≡ Accepted → Track n m rows q (put s q n m rows) (8 * total m)
+  track_begins : (s : ServerState) → length s.spots ≡ 8 → first (put_checks s q n m rows) ≡ (Ok tt) → Track n m rows q (put s q n m rows) (8 * total m)
   unfolding put
-  track_begins s h e = subst (λ (k : Checked). Track n m rows q (after k new s) (8 * total m)) (sym e) record {
+  track_begins s h e = subst (λ (k : Result ⊤ Refusal). Track n m rows q (after k new s) (8 * total m)) (sym e) record {
     inputs = range_true 1 8 n box.n_low box.n_high;
     outputs = range_true 1 16 m box.m_low (put_narrow s q n m rows e);
     size = length-set s.spots (q - 1) _ ∙ h;
@@ -294,17 +294,17 @@ module _ (n m : ℕ) (rows : List ℕ) (q : ℕ) where
       a = somewhere s.last q low high
 
   -- what asking says, from what stands there
-  held_accepted : (s : ServerState) → 1 ≤ q → q ≤ 8 → is_taken (spot_at s q) ≡ true → first (held_checks s q) ≡ Accepted
+  held_accepted : (s : ServerState) → 1 ≤ q → q ≤ 8 → is_taken (spot_at s q) ≡ true → first (held_checks s q) ≡ (Ok tt)
   unfolding held_checks
   held_accepted s l h e = sym (found (skip (range_true 1 8 q l h) (skip e end)))
 
   ask_held : (s : ServerState) (x : Spot) → 1 ≤ q → q ≤ 8 → spot_at s q ≡ x → is_taken x ≡ true → ask s q ≡ progress_in x
   unfolding ask
-  ask_held s x l h e k = ap (λ (r : Checked). progress_after r (spot_at s q)) (held_accepted s l h (ap is_taken e ∙ k)) ∙ ap progress_in e
+  ask_held s x l h e k = ap (λ (r : Result ⊤ Refusal). progress_after r (spot_at s q)) (held_accepted s l h (ap is_taken e ∙ k)) ∙ ap progress_in e
 
   -- After the box was put, and calls none of which withdraws it: k of its combinations were examined, and what is held of it is the best
   -- pair among exactly those.
-  module _ (before calls : List Call) (accepted : first (put_checks (after_all start before) q n m rows) ≡ Accepted) (kept : keeps q calls ≡ true) where
+  module _ (before calls : List Call) (accepted : first (put_checks (after_all start before) q n m rows) ≡ (Ok tt)) (kept : keeps q calls ≡ true) where
     abbrev then : ServerState
     then = after_all (put (after_all start before) q n m rows) calls
 
@@ -416,7 +416,7 @@ step_serves s k l e none =
     ap (serve s) (found_first (λ p. unfinished (spot_at s p)) (λ k. (s.last + k) % 8 + 1) 0 8 k (omega arith) (omega arith) e (λ h a b. none h b))
 
 -- the plain call with the limit m gives that figure and witness
-pub plain_reply : (s : ServerState) (n m : ℕ) (rows : List ℕ) (q : ℕ) → first (put_checks s q n m rows) ≡ Accepted
+pub plain_reply : (s : ServerState) (n m : ℕ) (rows : List ℕ) (q : ℕ) → first (put_checks s q n m rows) ≡ (Ok tt)
     → nonlinearity_reply n m rows m ≡ figures (shown (nonlinearity n m rows m))
 plain_reply s n m rows q h =
     let b = put_box s q n m rows h in
@@ -432,9 +432,9 @@ unfolding step
 step_idle s h = ap (serve s) (served_none s h)
 
 -- a withdrawn place is empty again
-pub withdrawn_empty : (s : ServerState) (q : ℕ) → length s.spots ≡ 8 → first (held_checks s q) ≡ Accepted → spot_at (withdraw s q) q ≡ empty
+pub withdrawn_empty : (s : ServerState) (q : ℕ) → length s.spots ≡ 8 → first (held_checks s q) ≡ (Ok tt) → spot_at (withdraw s q) q ≡ empty
 unfolding withdraw held_checks
 withdrawn_empty s q h e =
     let p = passed (held_checks s q) e in
-    ap (λ (k : Checked). spot_at (after k (with_spot s q empty) s) q) e
+    ap (λ (k : Result ⊤ Refusal). spot_at (after k (with_spot s q empty) s) q) e
     ∙ get_or-set_same s.spots (q - 1) empty empty (omega (arith, range_low 1 8 q p.0, range_high 1 8 q p.0))

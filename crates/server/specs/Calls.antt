@@ -1,5 +1,7 @@
 -- What the code's server and its answers stand for, all that the code's values hold, and the outcome of each call: its contract, in
 -- Rattle and for C, and what the theorems on calls assume.
+use Rattle.refusals.specs.declared.Refusal.{Refusal}
+use Rattle.std.specs.Prelude.{Result, Ok, Err, Option, Some, None}
 use Rattle.std.specs.Prelude.{ℕ, zero, suc, ◌+◌, ◌-◌, ◌^◌, ◌≤◌, ◌≡◌, Bool, true, false, List, [], ◌∷◌, eqb, take, get_or, set, replicate}
 use Rattle.boolean.specs.Functions.{at}
 use Rattle.boolean.specs.Selection.{Candidate, best, lower, first_least, ranked}
@@ -10,8 +12,6 @@ use Rattle.linear.specs.Calls.{pair_candidate}
 use Rattle.linear.specs.Nonlinearity.{pairs_of}
 use Rattle.server.specs.declared.Place.{Place}
 use Rattle.server.specs.declared.Server.{Server}
-use Rattle.server.specs.declared.Asked.{Asked}
-use Rattle.server.specs.declared.Asked.TheVariants.{Unfinished, Finished, Declined}
 use Rattle.server.specs.Model.{Analysis, held_of, analysis_of, Spot, empty, holds, ServerState, start, put_checks, held_checks}
 use Rattle.server.specs.Model.{served, step, Progress, declined, still_unfinished, finished, ask}
 
@@ -41,10 +41,10 @@ abbrev pub state_of_server : Server → ServerState
 state_of_server s = record { spots = spots s.places; last = s.last }
 
 -- what an answer to asking says
-abbrev pub said_asked : Asked → Progress
-said_asked Unfinished = still_unfinished
-said_asked (Finished count c w b) = finished (count ∷ c ∷ w ∷ b ∷ [])
-said_asked (Declined e) = declined (number e)
+abbrev pub said_asked : Result (Option Found) Refusal → Progress
+said_asked (Ok None) = still_unfinished
+said_asked (Ok (Some found)) = finished (found.count ∷ found.c ∷ found.w ∷ found.b ∷ [])
+said_asked (Err e) = declined (number e)
 
 -- ---- all that the code's values hold
 abbrev pub found_of : Candidate → Found

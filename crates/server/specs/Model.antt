@@ -1,13 +1,13 @@
 -- Document 02 §14, "Several boxes under analysis": what the server holds, and what each call makes of it and answers. Places are counted
 -- from 1.
+use Rattle.std.specs.Prelude.{Result, Ok, Err, ⊤}
+use Rattle.refusals.specs.declared.Refusal.{Refusal}
 use Rattle.std.specs.Prelude.{ℕ, zero, suc, ◌+◌, ◌-◌, ◌%◌, ◌^◌, Bool, true, false, not, ◌&&◌, List, [], ◌∷◌, ltb, leb, get_or, set}
 use Rattle.boolean.specs.Sums.{list_below, each, keep, first_of}
 use Rattle.boolean.specs.Functions.{at, components}
 use Rattle.boolean.specs.Selection.{Candidate, first_least, shown}
 use Rattle.refusals.specs.Table.{Check, ◌unless◌, first, in_range, box_checks_up_to, after, number}
 use Rattle.refusals.specs.declared.Refusal.TheVariants.{NoPlace, PlaceState}
-use Rattle.refusals.specs.declared.Checked.{Checked}
-use Rattle.refusals.specs.declared.Checked.TheVariants.{Accepted, Refused}
 use Rattle.linear.specs.Nonlinearity.{pairs_of}
 
 -- A box under analysis: its widths and rows, how many of its combinations were examined, and the best pair among exactly those. They are
@@ -142,9 +142,9 @@ abbrev pub progress_in : Spot → Progress
 progress_in empty = still_unfinished
 progress_in (holds a) = progress_of (more a) a.found
 
-abbrev pub progress_after : (k : Checked) (x : Spot) → Progress
-progress_after Accepted x = progress_in x
-progress_after (Refused e) x = declined (number e)
+abbrev pub progress_after : (k : Result ⊤ Refusal) (x : Spot) → Progress
+progress_after (Ok tt) x = progress_in x
+progress_after (Err e) x = declined (number e)
 
 unfoldable pub ask : (s : ServerState) (p : ℕ) → Progress
 unfolding first held_checks

@@ -1,11 +1,10 @@
 // The evaluation server: up to eight boxes under analysis for their nonlinearity, one combination a step.
 #![tactic(auto)]
 
-ghost use Rattle.std.specs.Prelude.{◌≡◌, [], ◌∷◌, true, ◌^◌, ◌≤◌, ◌<◌, length};
+ghost use Rattle.std.specs.Prelude.{Err, ◌≡◌, [], ◌∷◌, true, ◌^◌, ◌≤◌, ◌<◌, length};
 ghost use Rattle.boolean.specs.Sums.{AnyContent};
 ghost use Rattle.boolean.specs.Selection.{best, lower, first_least, ranked};
 ghost use Rattle.refusals.specs.Table.{Box, first, said_written};
-ghost use Rattle.refusals.specs.declared.Written.TheVariants as answers;
 ghost use Rattle.walsh.specs.FixedTable.{Spectra};
 ghost use Rattle.masks.specs.Masks.{outputs};
 ghost use Rattle.linear.specs.Nonlinearity.{pairs_of};
@@ -17,7 +16,7 @@ ghost use Rattle.server.specs.Calls.{one_more_place, ServerBegan, ServerPut, Ser
 ghost use Rattle.server.specs.Work.{Waiting, turn};
 
 use linear::Found;
-use refusals::{Checked, Refusal, Written};
+use refusals::Refusal;
 
 // A place: a box with the number of its combinations that were examined and the best pair among exactly those, or, where `taken` is not
 // 1, none. A caller in C may hand in any number, so it is no bool.
@@ -44,15 +43,7 @@ pub struct Server {
 #[derive(Clone, Copy)]
 pub struct Served {
     pub server: Server,
-    pub answer: Written,
-}
-
-// The answer of asking.
-#[derive(Clone, Copy)]
-pub enum Asked {
-    Unfinished,
-    Finished { count: u32, c: u32, w: u32, b: u32 },
-    Declined(Refusal),
+    pub answer: Result<(), Refusal>,
 }
 
 // An empty place.
@@ -98,9 +89,9 @@ fn unfinished(p: Place) -> bool
 
 // A refused call hands the server back beside the number.
 fn declined(server: Server, e: Refusal) -> Served
-    ensures { (result.server ≡ server) × (result.answer ≡ answers.Declined e) }
+    ensures { (result.server ≡ server) × (result.answer ≡ Err e) }
 {
-    let answer = Written::Declined(e);
+    let answer = Err(e);
     Served { server, answer }
 }
 
@@ -155,7 +146,7 @@ fn with_component(fixed: &[i16; 2048], found: Found, n: u32, m: u32, rows: &[u32
     requires { Spectra fixed.now }
     ensures { result ≡ found_of (better n m rows.now (pair_candidate found) c) }
 {
-    if let Checked::Refused(_) = refusals::check_box(n, m, rows) {
+    if let Err(_) = refusals::check_box(n, m, rows) {
         return found;
     }
     let mut table = [0u8; 256];
@@ -236,52 +227,44 @@ impl Server {
     }
 
     // The checks of asking and withdrawing: a place of the server, and a box on it.
-    fn check_held(self, place: u32) -> Checked
+    fn check_held(self, place: u32) -> Result<(), Refusal>
         ensures { result ≡ first (model.held_checks (state_of_server self) place) }
     {
         if !refusals::in_range(1, 8, place) {
-            return Checked::Refused(Refusal::NoPlace);
+            return Err(Refusal::NoPlace);
         }
         let i = (place - 1) as usize;
         let here = self.places[i];
         if here.taken != 1 {
-            return Checked::Refused(Refusal::PlaceState);
+            return Err(Refusal::PlaceState);
         }
-        Checked::Accepted
+        Ok(())
     }
 
     // Whether a box is finished, and its nonlinearity with the first pair that reaches it.
-    pub fn ask(self, place: u32) -> Asked
+    pub fn ask(self, place: u32) -> Result<Option<Found>, Refusal>
         ensures { ServerTold self place (said_asked result) }
     {
-        if let Checked::Refused(e) = self.check_held(place) {
-            return Asked::Declined(e);
-        }
+        self.check_held(place)?;
         let i = (place - 1) as usize;
         let asked = self.places[i];
         if unfinished(asked) {
-            return Asked::Unfinished;
+            return Ok(None);
         }
-        let found = asked.found;
-        Asked::Finished {
-            count: found.count,
-            c: found.c,
-            w: found.w,
-            b: found.b,
-        }
+        Ok(Some(asked.found))
     }
 
     // Takes the box off a place.
     pub fn withdraw(self, place: u32) -> Served
         ensures { ServerWithdrew self place (said_written result.answer) result.server }
     {
-        if let Checked::Refused(reason) = self.check_held(place) {
+        if let Err(reason) = self.check_held(place) {
             return declined(self, reason);
         }
         let i = (place - 1) as usize;
         let none = vacant();
         let cleared = self.with_place(i, none);
-        let answer = Written::Done;
+        let answer = Ok(());
         Served {
             server: cleared,
             answer,
@@ -289,16 +272,16 @@ impl Server {
     }
 
     // The checks of putting: a place of the server, no box on it, and a box.
-    fn check_put(self, place: u32, n: u32, m: u32, rows: &[u32]) -> Checked
+    fn check_put(self, place: u32, n: u32, m: u32, rows: &[u32]) -> Result<(), Refusal>
         ensures { result ≡ first (model.put_checks (state_of_server self) place n m rows.now) }
     {
         if !refusals::in_range(1, 8, place) {
-            return Checked::Refused(Refusal::NoPlace);
+            return Err(Refusal::NoPlace);
         }
         let i = (place - 1) as usize;
         let here = self.places[i];
         if here.taken == 1 {
-            return Checked::Refused(Refusal::PlaceState);
+            return Err(Refusal::PlaceState);
         }
         refusals::check_box_up_to(16, n, m, rows)
     }
@@ -307,13 +290,13 @@ impl Server {
     pub fn put(self, place: u32, n: u32, m: u32, rows: &[u32]) -> Served
         ensures { ServerPut self place n m rows.now (said_written result.answer) result.server }
     {
-        if let Checked::Refused(e) = self.check_put(place, n, m, rows) {
+        if let Err(e) = self.check_put(place, n, m, rows) {
             return declined(self, e);
         }
         let i = (place - 1) as usize;
         let with_box = fresh(n, m, rows);
         let filled = self.with_place(i, with_box);
-        let answer = Written::Done;
+        let answer = Ok(());
         Served {
             server: filled,
             answer,

@@ -1,4 +1,6 @@
 -- The whole sheet, from what reading the file replied. Assumes nothing.
+use Rattle.std.specs.Prelude.{Result, Ok, Err, ⊤}
+use Rattle.refusals.specs.declared.Refusal.{Refusal}
 use Prim.Native.Nat.{ℕ, ◌+◌}
 use mathlib.Core.Path.{◌≡◌, refl, sym, ap, ◌∙◌}
 use mathlib.Core.List.{List, [], ◌∷◌, ◌++◌}
@@ -7,8 +9,6 @@ use lib.ListN.{length, get_or}
 use lib.Seq.{sets}
 use Rattle.boolean.specs.Functions.{at}
 use Rattle.refusals.specs.Table.{first, figures, refusal, reply_after, after}
-use Rattle.refusals.specs.declared.Checked.{Checked}
-use Rattle.refusals.specs.declared.Checked.TheVariants.{Accepted, Refused}
 use Rattle.refusals.proofs.Checks.{after_accepted}
 use Rattle.boxfile.specs.File.{file_rows, file_checks, room_of, file_found}
 use Rattle.boxfile.proofs.FileRoom.{room_same}
@@ -19,12 +19,12 @@ use Rattle.sheet.specs.Work.{box_text, TextWritten}
 use Rattle.sheet.specs.Calls.{SheetWritten}
 
 -- a call that replied figures was accepted, and these are what it gives
-pub reply_figures : (k : Checked) {given shows : List ℕ} → reply_after k given ≡ figures shows → (k ≡ Accepted) × (shows ≡ given)
-reply_figures Accepted h = (refl, cc)
-reply_figures (Refused e) h = (cc, cc)
+pub reply_figures : (k : Result ⊤ Refusal) {given shows : List ℕ} → reply_after k given ≡ figures shows → (k ≡ (Ok tt)) × (shows ≡ given)
+reply_figures (Ok tt) h = (refl, cc)
+reply_figures (Err e) h = (cc, cc)
 
 module _ (file : List ℕ) where
-  pub read_accepted : {shows : List ℕ} → file_reply file ≡ figures shows → (file_found file ≡ Accepted) × (shows ≡ at file 0 ∷ at file 1 ∷ [])
+  pub read_accepted : {shows : List ℕ} → file_reply file ≡ figures shows → (file_found file ≡ (Ok tt)) × (shows ≡ at file 0 ∷ at file 1 ∷ [])
   unfolding file_reply
   read_accepted h = reply_figures (file_found file) h
 
@@ -35,7 +35,7 @@ module _ (file : List ℕ) where
 
     pub reply_with_room : reply_after (first (file_checks file room)) (at file 0 ∷ at file 1 ∷ []) ≡ file_reply file
     unfolding file_reply
-    reply_with_room = ap (λ (k : Checked). reply_after k (at file 0 ∷ at file 1 ∷ [])) found_with_room
+    reply_with_room = ap (λ (k : Result ⊤ Refusal). reply_after k (at file 0 ∷ at file 1 ∷ [])) found_with_room
 
     pub rows_with_room : {shows : List ℕ} → file_reply file ≡ figures shows → (old : List ℕ)
         → after (first (file_checks file room)) (file_rows file (at file 0)) old ≡ file_rows file (at file 0)

@@ -1,4 +1,5 @@
 -- What can be relied on of the sheets. Assumes nothing.
+use Rattle.std.specs.Prelude.{Ok}
 use Prim.Native.Nat.{ℕ, ◌+◌, ◌*◌, ◌^◌, ◌≤◌, ◌<◌}
 use mathlib.Core.Path.{◌≡◌, refl, sym, ap, ap₂, ◌∙◌}
 use mathlib.Core.Bool.{Bool, true, false}
@@ -15,7 +16,6 @@ use Rattle.boolean.specs.Sums.{each}
 use Rattle.boolean.specs.Functions.{at}
 use Rattle.boolean.proofs.Selection.{of_cons}
 use Rattle.refusals.specs.Table.{first, in_range, box_checks, limit_checks, Box, figures, refusal}
-use Rattle.refusals.specs.declared.Checked.TheVariants.{Accepted}
 use Rattle.refusals.proofs.Bounds.{range_high, range_true}
 use Rattle.refusals.proofs.Checks.{found, found_after, skip, stop, end, box_accepted, limit_accepted, reply_refused, reply_accepted}
 use Rattle.linear.specs.Nonlinearity.{nonlinearity_reply}
@@ -60,16 +60,16 @@ print_each none l i = absurd (Memᴰ.not-nil i)
 print_each (more h t) l i = of_cons (λ (k : SheetLine). outcome_of k ≡ stops → ⊥) (λ e. let z : ◌≡◌ {A = ℕ} 0 1 = cc in omega arith) (λ j. print_each t l j) i
 
 module _ (n m : ℕ) (rows : List ℕ) (b : Box n m rows) where
-  all_accepted : first (box_checks n m rows) ≡ Accepted
+  all_accepted : first (box_checks n m rows) ≡ (Ok tt)
   all_accepted = box_accepted n m rows b
 
-  within_accepted : first (limit_checks n m rows (sheet_limit m)) ≡ Accepted
+  within_accepted : first (limit_checks n m rows (sheet_limit m)) ≡ (Ok tt)
   within_accepted =
       let inside = limit_inside m b.m_low in
       limit_accepted n m rows (sheet_limit m) (record { box = b; i_low = inside.0; i_high = inside.1 })
 
   -- an order (i, j) that a box of m outputs has is accepted
-  order_accepted : (i j : ℕ) → 1 ≤ i → i ≤ m → 1 ≤ j → j ≤ n → first (distance_checks n m rows i j) ≡ Accepted
+  order_accepted : (i j : ℕ) → 1 ≤ i → i ≤ m → 1 ≤ j → j ≤ n → first (distance_checks n m rows i j) ≡ (Ok tt)
   unfolding distance_checks
   order_accepted i j i_low i_high j_low j_high =
       sym (found_after (box_checks n m rows) all_accepted (skip (range_true 1 m i i_low i_high) (skip (range_true 1 n j j_low j_high) end)))

@@ -12,12 +12,11 @@ ghost use Rattle.sheet.specs.Sheet.{numbers, limited, decided, sheet_limit, bic_
 ghost use Rattle.sheet.specs.Work.{LineWritten, box_text, TextWritten};
 ghost use Rattle.sheet.specs.Calls.{SheetWritten};
 
-use algebraic::DegreeFound;
-use avalanche::LargestChange;
-use boxfile::BoxFile;
-use differential::LargestCell;
-use linear::LeastPair;
-use refusals::Verdict;
+use algebraic::FoundDegree;
+use avalanche::FoundChange;
+use differential::FoundCell;
+use linear::Found;
+use refusals::BoxWidths;
 
 // What comes of a line: it is printed up to a place, or its figure is refused and the sheet stops before it.
 #[derive(Clone, Copy)]
@@ -45,7 +44,7 @@ fn write_nonlinearity(n: u32, m: u32, rows: &[u32], text: &mut [u8], at: usize) 
 {
     let i = limit_of(m);
     let answer = linear::nonlinearity(n, m, rows, i);
-    let LeastPair::Reached { count, c, w, b } = answer else {
+    let Ok(Found { count, c, w, b }) = answer else {
         return Printed::Stopped;
     };
     Printed::UpTo(texts::put_line(text, at, b"nonlinearity", &[count, c, w, b, i]))
@@ -57,7 +56,7 @@ fn write_xor(n: u32, m: u32, rows: &[u32], text: &mut [u8], at: usize) -> Printe
         37 at text.old result text.new }
 {
     let answer = differential::largest_cell(n, m, rows);
-    let LargestCell::Reached { count, a, beta } = answer else {
+    let Ok(FoundCell { count, a, beta }) = answer else {
         return Printed::Stopped;
     };
     Printed::UpTo(texts::put_line(text, at, b"xor", &[count, a, beta]))
@@ -71,7 +70,7 @@ fn write_autocorrelation(n: u32, m: u32, rows: &[u32], text: &mut [u8], at: usiz
 {
     let i = limit_of(m);
     let answer = avalanche::autocorrelation(n, m, rows, i);
-    let LargestChange::Reached { figure, c, s } = answer else {
+    let Ok(FoundChange { figure, c, s }) = answer else {
         return Printed::Stopped;
     };
     Printed::UpTo(texts::put_line(text, at, b"autocorrelation", &[figure, c, s, i]))
@@ -83,7 +82,7 @@ fn write_sac(n: u32, m: u32, rows: &[u32], text: &mut [u8], at: usize) -> Printe
         37 at text.old result text.new }
 {
     let answer = avalanche::dynamic_distance(n, m, rows, 1, 1);
-    let LargestChange::Reached { figure, c, s } = answer else {
+    let Ok(FoundChange { figure, c, s }) = answer else {
         return Printed::Stopped;
     };
     Printed::UpTo(texts::put_line(text, at, b"sac", &[figure, c, s]))
@@ -97,7 +96,7 @@ fn write_bic(n: u32, m: u32, rows: &[u32], text: &mut [u8], at: usize) -> Printe
         return Printed::UpTo(texts::put_bytes(text, at, b"bic none\n"));
     }
     let answer = avalanche::dynamic_distance(n, m, rows, 2, 1);
-    let LargestChange::Reached { figure, c, s } = answer else {
+    let Ok(FoundChange { figure, c, s }) = answer else {
         return Printed::Stopped;
     };
     Printed::UpTo(texts::put_line(text, at, b"bic", &[figure, c, s]))
@@ -110,7 +109,7 @@ fn write_degree(n: u32, m: u32, rows: &[u32], text: &mut [u8], at: usize) -> Pri
 {
     let i = limit_of(m);
     let answer = algebraic::degree(n, m, rows, i);
-    let DegreeFound::Reached { degree, c } = answer else {
+    let Ok(FoundDegree { degree, c }) = answer else {
         return Printed::Stopped;
     };
     Printed::UpTo(texts::put_line(text, at, b"degree", &[degree, c, i]))
@@ -122,13 +121,14 @@ fn write_complete(n: u32, m: u32, rows: &[u32], text: &mut [u8], at: usize) -> P
         13 at text.old result text.new }
 {
     let answer = avalanche::is_complete(n, m, rows);
-    let Verdict::Yes = answer else {
-        let Verdict::No = answer else {
-            return Printed::Stopped;
-        };
-        return Printed::UpTo(texts::put_bytes(text, at, b"complete no\n"));
+    let Ok(yes) = answer else {
+        return Printed::Stopped;
     };
-    Printed::UpTo(texts::put_bytes(text, at, b"complete yes\n"))
+    if yes {
+        Printed::UpTo(texts::put_bytes(text, at, b"complete yes\n"))
+    } else {
+        Printed::UpTo(texts::put_bytes(text, at, b"complete no\n"))
+    }
 }
 
 fn write_bijective(n: u32, m: u32, rows: &[u32], text: &mut [u8], at: usize) -> Printed
@@ -137,13 +137,14 @@ fn write_bijective(n: u32, m: u32, rows: &[u32], text: &mut [u8], at: usize) -> 
         14 at text.old result text.new }
 {
     let answer = algebraic::is_bijective(n, m, rows);
-    let Verdict::Yes = answer else {
-        let Verdict::No = answer else {
-            return Printed::Stopped;
-        };
-        return Printed::UpTo(texts::put_bytes(text, at, b"bijective no\n"));
+    let Ok(yes) = answer else {
+        return Printed::Stopped;
     };
-    Printed::UpTo(texts::put_bytes(text, at, b"bijective yes\n"))
+    if yes {
+        Printed::UpTo(texts::put_bytes(text, at, b"bijective yes\n"))
+    } else {
+        Printed::UpTo(texts::put_bytes(text, at, b"bijective no\n"))
+    }
 }
 
 // The nine lines of a box, in their order, up to the first whose figure is refused. The first line has no figure that could be.
@@ -185,14 +186,10 @@ fn write_read(file: &[u8], rows: &mut [u32], text: &mut [u8]) -> usize
     ensures { SheetWritten file.now text.old result text.new
         × AnyContent rows.old rows.new }
 {
-    let answer = boxfile::read_box(file, rows);
-    let BoxFile::Read { n, m } = answer else {
-        let BoxFile::Declined(e) = answer else {
-            return 0;
-        };
-        return texts::put_line(text, 0, b"refused", &[refusals::number_of(e)]);
-    };
-    write_lines(n, m, rows, text)
+    match boxfile::read_box(file, rows) {
+        Ok(BoxWidths { n, m }) => write_lines(n, m, rows, text),
+        Err(e) => texts::put_line(text, 0, b"refused", &[refusals::number_of(e)]),
+    }
 }
 
 // Writes the sheet of a box file at the start of the lent text, and answers how many bytes it has.

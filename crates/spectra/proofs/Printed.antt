@@ -1,18 +1,19 @@
 -- What is shown of values, of a table and of a text is what is shown of the calls' answers and of what they left, line by line.
+use Rattle.std.specs.Prelude.{Result, ⊤}
+use Rattle.refusals.specs.declared.Refusal.{Refusal}
 use Rattle.std.proofs.Common.{◌≡◌, ℕ, suc, ◌+◌, ◌-◌, ◌<◌, min, Bool, true, false, List, [], ◌∷◌, ◌++◌, eqb, length, take, drop, ℤ, ◌^◌, refl, sym, ap, ◌∙◌, subst, arith, drop-cons, append-nil}
 use lib.Seq.{drop-drop}
 use Rattle.std.specs.List.{flat_map}
 use Rattle.boolean.specs.Functions.{at, value_at, spectrum, inverse}
 use Rattle.boolean.specs.Sums.{list_below}
 use Rattle.refusals.specs.Table.{first, reply_after, table_call_checks, said_written}
-use Rattle.refusals.specs.declared.Written.{Written}
 use Rattle.lines.specs.Lines.{refused_text, shown_reply}
 use Rattle.lines.proofs.Texts.{shown_wrote}
 use Rattle.walsh.specs.Calls.{inverse_checks, InverseCalled, SpectrumCalled}
 use Rattle.spectra.specs.Reading.{line_length, line_end}
 use Rattle.spectra.specs.Printed.{table_text, function_shown, spectrum_shown, table_shown, line_shown, begun_with, lines_of, lines_shown}
 
-pub function_is : (n : ℕ) (values : List ℤ) (lent left : List ℕ) (answer : Written) → length lent ≡ min (length values) 256
+pub function_is : (n : ℕ) (values : List ℤ) (lent left : List ℕ) (answer : Result ⊤ Refusal) → length lent ≡ min (length values) 256
     → InverseCalled n values lent answer left → shown_reply (λ _ table. table_text table) refused_text (said_written answer) left ≡ function_shown n values
 unfolding function_shown
 function_is n values lent left answer e w =
@@ -20,7 +21,7 @@ function_is n values lent left answer e w =
     ∙ ap (λ (room : ℕ). shown_reply (λ _ table. table_text table) refused_text (reply_after (first (inverse_checks n values room)) [])
     (list_below (2 ^ n) (λ x. inverse n (value_at values) x))) e
 
-pub table_is : (n : ℕ) (table : List ℕ) (lent left : List ℤ) (answer : Written) → length lent ≡ min (length table) 256
+pub table_is : (n : ℕ) (table : List ℕ) (lent left : List ℤ) (answer : Result ⊤ Refusal) → length lent ≡ min (length table) 256
     → SpectrumCalled n table lent answer left → shown_reply (λ _ values. spectrum_shown n values) refused_text (said_written answer) left ≡ table_shown n table
 unfolding table_shown
 table_is n table lent left answer e w =

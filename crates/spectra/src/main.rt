@@ -8,7 +8,7 @@ ghost use Rattle.spectra.specs.Printed.{value_text, spectrum_text, table_text, f
 ghost use Rattle.spectra.specs.Printed.{table_shown, line_shown, lines_shown, values_shown};
 ghost use Rattle.spectra.specs.Reading.{line_end, width_of, digit_of, digits_of};
 
-use refusals::Written;
+use refusals::Refusal;
 use std::io::{self, Write};
 
 const LINE_END: u8 = b'\n';
@@ -94,8 +94,8 @@ fn show_function<W: Write>(out: &mut W, n: u32, values: &[i32]) -> io::Result<()
     let mut table = [0u8; 256];
     let size = lines::smaller(values.len(), 256);
     match walsh::inverse_spectrum(n, values, &mut table[..size]) {
-        Written::Done => write_table(out, &table[..size]),
-        Written::Declined(e) => lines::write_refused(out, e),
+        Ok(()) => write_table(out, &table[..size]),
+        Err(e) => lines::write_refused(out, e),
     }
 }
 
@@ -115,8 +115,8 @@ fn show_table<W: Write>(out: &mut W, table: &[u8]) -> io::Result<()>
     let size = lines::smaller(table.len(), 256);
     let n = width_of(table.len());
     match walsh::spectrum(n, table, &mut values[..size]) {
-        Written::Done => show_spectrum(out, n, &values[..size]),
-        Written::Declined(e) => lines::write_refused(out, e),
+        Ok(()) => show_spectrum(out, n, &values[..size]),
+        Err(e) => lines::write_refused(out, e),
     }
 }
 

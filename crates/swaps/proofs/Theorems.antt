@@ -1,5 +1,6 @@
 -- What the reply says: of an accepted box, the first swap that raises the nonlinearity, by the bits in which the rows differ, the lower input,
 -- then the higher; and none exactly where no swap raises it. Assumes nothing.
+use Rattle.std.specs.Prelude.{Ok}
 use mathlib.Core.Path.{◌≡◌, refl, sym, ap, ap₂, ◌∙◌}
 use mathlib.Core.Logic.{◌↔◌, ◌⊎◌, inl, inr}
 use mathlib.Core.Bool.{Bool, true, false}
@@ -20,7 +21,6 @@ use Rattle.boolean.proofs.Lists.{ascending_list_from, ascending_list_below, asce
 use Rattle.boolean.proofs.Members.{if_kept, mem_if}
 use Rattle.boolean.proofs.Selection.{first_ranked}
 use Rattle.refusals.specs.Table.{Box, box_checks_up_to, first, figures}
-use Rattle.refusals.specs.declared.Checked.TheVariants.{Accepted}
 use Rattle.refusals.proofs.Checks.{box_up_to, reply_accepted}
 use Rattle.refusals.proofs.Swapped.{swapped_box}
 use Rattle.linear.specs.Nonlinearity.{nonlinearity, nonlinearity_reply}
@@ -129,7 +129,7 @@ module _ (n : ℕ) (rows : List ℕ) where
   swaps_in_order m = in_order (swaps n m rows) (mem_swaps n m rows) (ascending_swaps m)
 
 -- ---- the reply of an accepted box
-module _ (n m : ℕ) (rows : List ℕ) (accepted : first (box_checks_up_to 8 n m rows) ≡ Accepted) where
+module _ (n m : ℕ) (rows : List ℕ) (accepted : first (box_checks_up_to 8 n m rows) ≡ (Ok tt)) where
   boxed : Box n m rows
   boxed = box_up_to 8 n m rows [] (lit≤ tt) accepted
 

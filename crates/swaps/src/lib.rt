@@ -1,7 +1,7 @@
 // The first swap of two unlike rows that raises the nonlinearity.
 #![tactic(auto)]
 
-ghost use Rattle.std.specs.Prelude.{◌≡◌, ◌+◌, ◌^◌, ◌≤◌, ◌<◌, length};
+ghost use Rattle.std.specs.Prelude.{Ok, ◌≡◌, ◌+◌, ◌^◌, ◌≤◌, ◌<◌, length};
 ghost use Rattle.std.specs.Int.Bits.{bit_xor};
 ghost use Rattle.std.specs.Int.Count.{ones};
 ghost use Rattle.std.proofs.lemmas.List.Edits.{sets};
@@ -18,15 +18,15 @@ ghost use Rattle.swaps.specs.Calls.{said_raising_swap};
 ghost use Rattle.swaps.specs.Work.{entry_of, table_of, apart_in, NearestPair, PairsGathered, Searching, Tried, Passed, SearchedIn};
 ghost use Rattle.swaps.specs.Work.{found_at, not_found};
 
-use linear::{Found, LeastPair};
-use refusals::{Checked, Refusal};
+use linear::Found;
+use refusals::Refusal;
 
-// The answer of the call: both inputs and the new figure, none, or a refusal.
+// A swap that raises the nonlinearity: both inputs and the new figure.
 #[derive(Clone, Copy)]
-pub enum RaisingSwap {
-    Raised { low: u32, high: u32, figure: u32 },
-    NoSwap,
-    Declined(Refusal),
+pub struct Raise {
+    pub low: u32,
+    pub high: u32,
+    pub figure: u32,
 }
 
 // What a try of a swap found: no component and the new figure, where it raises the nonlinearity; or else a component that turned it down.
@@ -387,9 +387,9 @@ fn gather_and_search(
 }
 
 // The search in an accepted box, from the present witness on.
-fn search_box(n: u32, m: u32, rows: &[u32], present: Found) -> RaisingSwap
+fn search_box(n: u32, m: u32, rows: &[u32], present: Found) -> Option<Raise>
     requires { Box n m rows.now × (m ≤ 8) × (pair_candidate present ≡ nonlinearity n m rows.now m) }
-    ensures { said_raising_swap result ≡ figures (raised n m rows.now) }
+    ensures { said_raising_swap (Ok result) ≡ figures (raised n m rows.now) }
 {
     let fixed = walsh::spectra();
     let mut tables = [0u8; 4096];
@@ -411,28 +411,24 @@ fn search_box(n: u32, m: u32, rows: &[u32], present: Found) -> RaisingSwap
         &mut values[..size],
     );
     if !place.found {
-        return RaisingSwap::NoSwap;
+        return None;
     }
     let low = place.low;
     let high = place.high;
-    RaisingSwap::Raised {
+    Some(Raise {
         low: low as u32,
         high: high as u32,
         figure: place.figure,
-    }
+    })
 }
 
 // The first swap of two unlike rows that raises the nonlinearity over all combinations, by the number of bits in which the rows differ, the
 // lower input, then the higher; or that there is none. At most eight outputs are taken. (An accepted box has a nonlinearity, so that
 // its call never refuses; what it would refuse is passed on.)
-pub fn raising_swap(n: u32, m: u32, rows: &[u32]) -> RaisingSwap
+pub fn raising_swap(n: u32, m: u32, rows: &[u32]) -> Result<Option<Raise>, Refusal>
     ensures { said_raising_swap result ≡ raising_reply n m rows.now }
 {
-    if let Checked::Refused(e) = refusals::check_box_up_to(8, n, m, rows) {
-        return RaisingSwap::Declined(e);
-    }
-    match linear::nonlinearity(n, m, rows, m) {
-        LeastPair::Reached { count, c, w, b } => search_box(n, m, rows, Found { count, c, w, b }),
-        LeastPair::Declined(e) => RaisingSwap::Declined(e),
-    }
+    refusals::check_box_up_to(8, n, m, rows)?;
+    let present = linear::nonlinearity(n, m, rows, m)?;
+    Ok(search_box(n, m, rows, present))
 }

@@ -1,4 +1,5 @@
 -- The inverse call's tests, against the condition that a function has the values. Assumes nothing.
+use Rattle.std.specs.Prelude.{Ok, Err}
 use mathlib.Core.Path.{◌≡◌, refl, sym, ap, ◌∙◌, subst}
 use mathlib.Core.Bool.{Bool, true, false}
 use mathlib.Core.List.{List}
@@ -19,7 +20,6 @@ use Rattle.boolean.proofs.Inverse.{full_is_spectrum, is_spectrum_full, is_spectr
 use Rattle.boolean.proofs.Lists.{length_list_below, get_or_list_below, list_below_cong}
 use Rattle.refusals.specs.Table.{first}
 use Rattle.refusals.specs.declared.Refusal.TheVariants.{NoFunction}
-use Rattle.refusals.specs.declared.Checked.TheVariants.{Accepted, Refused}
 use Rattle.refusals.proofs.Bounds.{range_low, range_high}
 use Rattle.refusals.proofs.Checks.{found, skip, stop, end, Passed, passed, first_append}
 use Rattle.walsh.specs.Calls.{inverse_lengths, function_check, inverse_checks}
@@ -32,11 +32,11 @@ same_test false true f g = g refl
 same_test false false f g = refl
 
 -- what the last line of the inverse call's checks gives
-pub no_function_found : (n : ℕ) (values : List ℤ) → is_spectrum n values ≡ false → first (function_check n values) ≡ Refused NoFunction
+pub no_function_found : (n : ℕ) (values : List ℤ) → is_spectrum n values ≡ false → first (function_check n values) ≡ Err NoFunction
 unfolding function_check
 no_function_found n values e = sym (found (stop e))
 
-pub function_found : (n : ℕ) (values : List ℤ) → is_spectrum n values ≡ true → first (function_check n values) ≡ Accepted
+pub function_found : (n : ℕ) (values : List ℤ) → is_spectrum n values ≡ true → first (function_check n values) ≡ (Ok tt)
 unfolding function_check
 function_found n values e = sym (found (skip e end))
 
@@ -90,7 +90,7 @@ summable n values work table r = record {
 }
 
 -- what the call's own checks leave for the work
-module _ (n : ℕ) (values : List ℤ) (table : List ℕ) (ok : first (inverse_lengths n (length values) (length table)) ≡ Accepted) where
+module _ (n : ℕ) (values : List ℤ) (table : List ℕ) (ok : first (inverse_lengths n (length values) (length table)) ≡ (Ok tt)) where
   own : Passed (inverse_lengths n (length values) (length table))
   own = passed (inverse_lengths n (length values) (length table)) ok
 

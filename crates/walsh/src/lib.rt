@@ -16,7 +16,7 @@ ghost use Rattle.walsh.specs.FixedTable.{function_numbered, Spectra};
 ghost use Rattle.walsh.specs.Work.{four_values, with_four, Ready, Halves, Crossed, Summable, Invertible};
 ghost use Rattle.walsh.specs.Magnitudes.{largest_magnitude, FirstOfMagnitude};
 
-use refusals::{Checked, Refusal, Written};
+use refusals::Refusal;
 
 // Four truth values from one place on, each in a byte of its own. The compiler reads them at once.
 fn four_bytes(table: &[u8], at: usize) -> u64
@@ -233,15 +233,13 @@ pub fn short_spectrum(fixed: &[i16; 2048], n: u32, table: &[u8], out: &mut [i16]
 }
 
 // The spectrum of a truth table.
-pub fn spectrum(n: u32, table: &[u8], out: &mut [i32]) -> Written
+pub fn spectrum(n: u32, table: &[u8], out: &mut [i32]) -> Result<(), Refusal>
     ensures { SpectrumCalled n table.now out.old result out.new }
 {
-    if let Checked::Refused(e) = refusals::check_table_call(n, table, out.len()) {
-        return Written::Declined(e);
-    }
+    refusals::check_table_call(n, table, out.len())?;
     let fixed = spectra();
     descend(&fixed, n, table, out);
-    Written::Done
+    Ok(())
 }
 
 // Whether no magnitude is above the limit.
@@ -327,25 +325,26 @@ fn write_signs(values: &[i32], table: &mut [u8])
 }
 
 // The width and the lengths of the inverse call.
-fn check_lengths(n: u32, count: usize, room: usize) -> Checked
+#[tactic(auto, unfolding(refusals::specs::Table::first, crate::specs::Calls::inverse_lengths))]
+fn check_lengths(n: u32, count: usize, room: usize) -> Result<(), Refusal>
     ensures { result ≡ first (inverse_lengths n count room) }
 {
     if !refusals::in_range(1, 8, n) {
-        return Checked::Refused(Refusal::InputWidth);
+        return Err(Refusal::InputWidth);
     }
     let size = boolean::power_of_two(n);
     if count != size {
-        return Checked::Refused(Refusal::ReadLength);
+        return Err(Refusal::ReadLength);
     }
     if room != size {
-        return Checked::Refused(Refusal::WrittenLength);
+        return Err(Refusal::WrittenLength);
     }
-    Checked::Accepted
+    Ok(())
 }
 
 // The truth table that has the values, which are transformed in a second array. It is written only where a function has them: where
 // the transform is 2^(n−1) or −2^(n−1) everywhere.
-fn invert(n: u32, values: &[i32], work: &mut [i32], table: &mut [u8]) -> Written
+fn invert(n: u32, values: &[i32], work: &mut [i32], table: &mut [u8]) -> Result<(), Refusal>
     requires { Invertible n values.now work.old table.old }
     ensures inverted { Wrote (function_check n values.now) []
         (list_below (2 ^ n) (λ x. inverse n (value_at values.now) x)) table.old (said_written result) table.new }
@@ -354,22 +353,20 @@ fn invert(n: u32, values: &[i32], work: &mut [i32], table: &mut [u8]) -> Written
     copy(values, work);
     transform(n, work);
     if !all_full(work, boolean::power_of_two(n - 1) as u32) {
-        return Written::Declined(Refusal::NoFunction);
+        return Err(Refusal::NoFunction);
     }
     write_signs(work, table);
-    Written::Done
+    Ok(())
 }
 
 // The truth table of a spectrum, or the refusal where no function has the values. Values outside −2^(n−1) to 2^(n−1) are refused
 // before any are added.
-pub fn inverse_spectrum(n: u32, values: &[i32], table: &mut [u8]) -> Written
+pub fn inverse_spectrum(n: u32, values: &[i32], table: &mut [u8]) -> Result<(), Refusal>
     ensures { InverseCalled n values.now table.old result table.new }
 {
-    if let Checked::Refused(e) = check_lengths(n, values.len(), table.len()) {
-        return Written::Declined(e);
-    }
+    check_lengths(n, values.len(), table.len())?;
     if !all_within(values, boolean::power_of_two(n - 1) as u32) {
-        return Written::Declined(Refusal::NoFunction);
+        return Err(Refusal::NoFunction);
     }
     let mut work = [0i32; 256];
     let size = values.len();

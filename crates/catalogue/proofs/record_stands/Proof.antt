@@ -35,11 +35,11 @@ unfolding stands
 returns-3 c =
     go_on _ _ (le-leb _ _ c.if-offset-end.false) (go_on _ _ (le-leb _ _ c.if-b-past.false) (stop_at _ _ (fails c.values_below.ensures c.if-not-values_below.true-raw)))
 
-returns-4 : tie.Need-returns-in-Refused
+returns-4 : tie.Need-returns-in-Err
 unfolding stands
 returns-4 c =
     go_on _ _ (le-leb _ _ c.if-offset-end.false) (go_on _ _ (le-leb _ _ c.if-b-past.false) (go_on _ _ (holds c.values_below.ensures c.if-not-values_below.false-raw)
-    (sym (answer c.before ∙ ap is_accepted c.in-Refused.is))))
+    (sym (answer c.before ∙ ap is_accepted c.in-Err.is))))
 
 returns-5 : tie.Need-returns
 unfolding stands

@@ -11,12 +11,12 @@ use Rattle.published.proofs.show_degree.Goals as goal
 shows : (n m : ℕ) (rows : List ℕ) (said : Reply) → List ℕ
 shows n m rows said = shown_reply (λ xs _. numbers_line (codes "degree") xs ++ tests_shown n m rows) (λ _. []) said rows
 
-pub returns-in_ok-write_line-in-Reached : goal.returns-in_ok-write_line-in-Reached
+pub returns-in_ok-write_line-in-Ok : goal.returns-in_ok-write_line-in-Ok
 unfolding degree_shown shows
-returns-in_ok-write_line-in-Reached g c =
-    same_text _ _ _ _ _ (then_text _ _ _ _ _ _ _ c.in_ok-write_line-in-Reached.ensures refl c.show_tests.ensures)
-    (ap (shows c.args.n c.args.m c.args.rows.now) c.in-Reached.ensures)
+returns-in_ok-write_line-in-Ok g c =
+    same_text _ _ _ _ _ (then_text _ _ _ _ _ _ _ c.in_ok-write_line-in-Ok.ensures refl c.show_tests.ensures)
+    (ap (shows c.args.n c.args.m c.args.rows.now) c.in-Ok.ensures)
 
-pub returns-in-Declined : goal.returns-in-Declined
+pub returns-in-Err : goal.returns-in-Err
 unfolding degree_shown shows
-returns-in-Declined g c = subst (Appends _ _) (ap (shows c.args.n c.args.m c.args.rows.now) c.in-Declined.ensures) (Appends-nil _)
+returns-in-Err g c = subst (Appends _ _) (ap (shows c.args.n c.args.m c.args.rows.now) c.in-Err.ensures) (Appends-nil _)

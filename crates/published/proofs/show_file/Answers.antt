@@ -7,15 +7,15 @@ use Rattle.published.specs.Printed.{box_shown}
 use Rattle.published.proofs.Printed.{file_is}
 use Rattle.published.proofs.show_file.Goals as goal
 
-pub returns-in-Read : goal.returns-in-Read
-returns-in-Read g c =
+pub returns-in-Ok : goal.returns-in-Ok
+returns-in-Ok g c =
     let lent = length-take-le c.args.size _ c.requires in
     let rows = part_is c.read_box.new.rows _ c.args.size (c.read_box.auto.rows ∙ lent) in
     same_text _ _ _ _ _ c.show_box.ensures
-    (ap (box_shown c.in-Read.n c.in-Read.m) rows
-    ∙ file_is c.args.file.now c.args.size _ c.read_box.new.rows (Read c.in-Read.n c.in-Read.m) lent c.in-Read.ensures)
+    (ap (box_shown c.in-Ok.n c.in-Ok.m) rows
+    ∙ file_is c.args.file.now c.args.size _ c.read_box.new.rows (Read c.in-Ok.n c.in-Ok.m) lent c.in-Ok.ensures)
 
-pub returns-in-Declined : goal.returns-in-Declined
-returns-in-Declined g c =
+pub returns-in-Err : goal.returns-in-Err
+returns-in-Err g c =
     same_text _ _ _ _ _ c.write_refused.ensures
-    (file_is c.args.file.now c.args.size _ c.read_box.new.rows (Declined c.in-Declined.e) (length-take-le c.args.size _ c.requires) c.in-Declined.ensures)
+    (file_is c.args.file.now c.args.size _ c.read_box.new.rows (Declined c.in-Err.e) (length-take-le c.args.size _ c.requires) c.in-Err.ensures)

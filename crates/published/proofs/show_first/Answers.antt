@@ -1,31 +1,31 @@
 -- The rows that are shown are those that the addition left.
+use Rattle.std.specs.Prelude.{Ok, Err}
 use Rattle.std.proofs.Common.{[], ap, ◌∙◌, subst, length-take-le}
 use Rattle.std.specs.Io.KnownBytes.{Appends}
 use Rattle.std.proofs.KnownBytes.{Appends-nil}
 use Rattle.boolean.proofs.Lists.{part_is}
-use Rattle.refusals.specs.declared.Written.TheVariants.{Done, Declined}
 use Rattle.lines.proofs.Texts.{same_text}
 use Rattle.published.specs.Printed.{and_second_shown, first_shown}
 use Rattle.published.proofs.Printed.{addition_is}
 use Rattle.published.proofs.show_first.Goals as goal
 
-pub returns-in-Done : goal.returns-in-Done
+pub returns-in-Ok : goal.returns-in-Ok
 unfolding first_shown
-returns-in-Done g c =
+returns-in-Ok g c =
     let a = c.args in
     let lent = length-take-le c.smaller-size.result _ c.smaller-size.ensures.2 in
     let rows = part_is c.add_to_column.new.out _ c.smaller-size.result (c.add_to_column.auto.out ∙ lent) in
     same_text _ _ _ _ _ c.show_and_add.ensures
     (ap (and_second_shown a.n a.m) rows
-    ∙ addition_is (and_second_shown a.n a.m) (λ _. []) a.n a.m a.rows.now 1 1 1 _ c.add_to_column.new.out Done (lent ∙ c.smaller-size.ensures.0)
-    c.in-Done.ensures)
+    ∙ addition_is (and_second_shown a.n a.m) (λ _. []) a.n a.m a.rows.now 1 1 1 _ c.add_to_column.new.out (Ok tt) (lent ∙ c.smaller-size.ensures.0)
+    c.in-Ok.ensures)
 
-pub returns-in-Declined : goal.returns-in-Declined
+pub returns-in-Err : goal.returns-in-Err
 unfolding first_shown
-returns-in-Declined g c =
+returns-in-Err g c =
     let a = c.args in
     let lent = length-take-le c.smaller-size.result _ c.smaller-size.ensures.2 in
     subst (Appends _ _)
-    (addition_is (and_second_shown a.n a.m) (λ _. []) a.n a.m a.rows.now 1 1 1 _ c.add_to_column.new.out (Declined c.in-Declined.field-0)
-    (lent ∙ c.smaller-size.ensures.0) c.in-Declined.ensures)
+    (addition_is (and_second_shown a.n a.m) (λ _. []) a.n a.m a.rows.now 1 1 1 _ c.add_to_column.new.out (Err c.in-Err.field-0)
+    (lent ∙ c.smaller-size.ensures.0) c.in-Err.ensures)
     (Appends-nil _)

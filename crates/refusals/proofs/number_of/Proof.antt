@@ -4,8 +4,6 @@ use mathlib.Core.Path.{ap, sym}
 use Rattle.refusals.specs.Table.{number}
 use Rattle.refusals.proofs.number_of.Statement.{statement}
 use Rattle.refusals.proofs.number_of.Tie as tie
-use Rattle.refusals.proofs.number_of.Reads as reads
-use Rattle.refusals.proofs.number_of.Lts as lts
 
 -- src/lib.rt:52:32
 -- src/lib.rt:53:33

@@ -1,8 +1,8 @@
 -- `rounds::check_if` meets its contract: a box's checks, or none. Assumes nothing.
+use Rattle.std.specs.Prelude.{Ok}
 use mathlib.Core.Path.{◌≡◌, refl, sym, subst}
 use mathlib.Core.Bool.{Bool}
 use Rattle.refusals.specs.Table.{first}
-use Rattle.refusals.specs.declared.Checked.TheVariants.{Accepted}
 use Rattle.rounds.specs.Round.{summand_of}
 use Rattle.rounds.specs.Work.{checks_if}
 use borrow.Author.Rules.{rules}
@@ -18,7 +18,7 @@ returns-2 : tie.Need-returns-else-used
 unfolding first
 returns-2 c =
     let a = c.args in
-    subst (λ (u : Bool). Accepted ≡ first (checks_if u (summand_of a.n a.m a.rows.now))) (sym c.if-used.false) refl
+    subst (λ (u : Bool). (Ok tt) ≡ first (checks_if u (summand_of a.n a.m a.rows.now))) (sym c.if-used.false) refl
 
 pub check_if_spec : {M : Type 1} → statement M
 check_if_spec = tie.close (tie.spec (λ c κs. search rules) returns returns-2)

@@ -9,29 +9,29 @@ use Rattle.rounds.specs.Parts.{said_part_sum}
 use Rattle.rounds.proofs.merge_sums.Statement.{statement}
 use Rattle.rounds.proofs.merge_sums.Tie as tie
 
-returns : tie.Need-returns-in-Declined
-returns c count = sym (ap (λ (x : PartSum). merged_reply ltb (said_part_sum count x) (said_part_sum count c.args.y)) c.in-Declined.is)
+returns : tie.Need-returns-in-Err
+returns c count = sym (ap (λ (x : PartSum). merged_reply ltb (said_part_sum count x) (said_part_sum count c.args.y)) c.in-Err.is)
 
 returns-2 : tie.Need-returns-in-Nothing
 returns-2 c count =
     let y = c.args.y in
     sym (ap (λ (x : PartSum). merged_reply ltb (said_part_sum count x) (said_part_sum count y)) c.in-Nothing.is ∙ merged_nothing ltb (said_part_sum count y))
 
-returns-3 : tie.Need-returns-in-Declined-y
-returns-3 c count = sym (ap₂ (λ (x y : PartSum). merged_reply ltb (said_part_sum count x) (said_part_sum count y)) c.in-Reached.is c.in-Declined-y.is)
+returns-3 : tie.Need-returns-in-Err-y
+returns-3 c count = sym (ap₂ (λ (x y : PartSum). merged_reply ltb (said_part_sum count x) (said_part_sum count y)) c.in-Ok.is c.in-Err-y.is)
 
 returns-4 : tie.Need-returns-in-Nothing-y
 unfolding merged_figures
-returns-4 c count = sym (ap₂ (λ (x y : PartSum). merged_reply ltb (said_part_sum count x) (said_part_sum count y)) c.in-Reached.is c.in-Nothing-y.is)
+returns-4 c count = sym (ap₂ (λ (x y : PartSum). merged_reply ltb (said_part_sum count x) (said_part_sum count y)) c.in-Ok.is c.in-Nothing-y.is)
 
 returns-5 : tie.Need-returns-then-is_sooner
 returns-5 c count =
-    sym (ap₂ (λ (x y : PartSum). merged_reply ltb (said_part_sum count x) (said_part_sum count y)) c.in-Reached.is c.in-Reached-y.is
+    sym (ap₂ (λ (x y : PartSum). merged_reply ltb (said_part_sum count x) (said_part_sum count y)) c.in-Ok.is c.in-Ok-y.is
     ∙ merged_second ltb _ _ _ _ (sym c.is_sooner.ensures ∙ c.if-is_sooner.true))
 
 returns-6 : tie.Need-returns-else-is_sooner
 returns-6 c count =
-    sym (ap₂ (λ (x y : PartSum). merged_reply ltb (said_part_sum count x) (said_part_sum count y)) c.in-Reached.is c.in-Reached-y.is
+    sym (ap₂ (λ (x y : PartSum). merged_reply ltb (said_part_sum count x) (said_part_sum count y)) c.in-Ok.is c.in-Ok-y.is
     ∙ merged_first ltb _ _ _ _ (sym c.is_sooner.ensures ∙ c.if-is_sooner.false))
 
 pub merge_sums_spec : {M : Type 1} → statement M

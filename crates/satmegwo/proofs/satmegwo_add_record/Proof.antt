@@ -1,10 +1,11 @@
 -- `satmegwo::satmegwo_add_record` meets its contract: the array for the index is looked at between the file and the room. Assumes nothing.
+use Rattle.std.specs.Prelude.{Result, ⊤}
+use Rattle.refusals.specs.declared.Refusal.{Refusal}
 use mathlib.Core.Path.{◌≡◌, sym, ap, ◌∙◌}
 use mathlib.Core.List.{[], ◌∷◌}
 use borrow.Author.Tests.{eq-eqb, ne_eqb}
 use lib.ListN.{length}
 use Rattle.refusals.specs.Table.{first, reply_after, after}
-use Rattle.refusals.specs.declared.Checked.{Checked}
 use Rattle.catalogue.specs.Calls.{said_told, gap_for, gap_index, offered_checks, add_checks, added}
 use Rattle.border.specs.Border.{room_number}
 use Rattle.satmegwo.specs.Exports.{add_record_checks}
@@ -32,28 +33,28 @@ returns c =
     let n = c.number_for_room.ensures ∙ ap room_number c.check_offered.ensures ∙ t.number_is in
     (out_refused t.is n, out_refused t.is n)
 
-returns-2 : tie.Need-returns-in-Number
+returns-2 : tie.Need-returns-in-Ok
 returns-2 c =
     let a = c.args in
     let b = a.catalogue.now in
     let file = a.file.now in
     let index = gap_index (gap_for b file) ∷ [] in
     let as_here = sym (as_called c.before.before.before.before.before.before.before.before.before.before) in
-    let reply = c.add.ensures.reply ∙ ap (λ (k : Checked). reply_after k index) as_here in
-    let records = c.add.ensures.content ∙ ap (λ (k : Checked). after k (added b file) b) as_here in
-    let figured = out_figures index c.if-figures-ne1.false (sym (ap said_told c.in-Number.is) ∙ reply) c.give.ensures in
+    let reply = c.add.ensures.reply ∙ ap (λ (k : Result ⊤ Refusal). reply_after k index) as_here in
+    let records = c.add.ensures.content ∙ ap (λ (k : Result ⊤ Refusal). after k (added b file) b) as_here in
+    let figured = out_figures index c.if-figures-ne1.false (sym (ap said_told c.in-Ok.is) ∙ reply) c.give.ensures in
     (figured, record { number = figured.number; content = records })
 
-returns-3 : tie.Need-returns-in-Declined
+returns-3 : tie.Need-returns-in-Err
 returns-3 c =
     let a = c.args in
     let b = a.catalogue.now in
     let file = a.file.now in
     let index = gap_index (gap_for b file) ∷ [] in
     let as_here = sym (as_called c.before.before.before.before.before.before) in
-    let reply = c.add.ensures.reply ∙ ap (λ (k : Checked). reply_after k index) as_here in
-    let records = c.add.ensures.content ∙ ap (λ (k : Checked). after k (added b file) b) as_here in
-    let figured = out_refusal index (sym (ap said_told c.in-Declined.is) ∙ reply) c.number_of.ensures in
+    let reply = c.add.ensures.reply ∙ ap (λ (k : Result ⊤ Refusal). reply_after k index) as_here in
+    let records = c.add.ensures.content ∙ ap (λ (k : Result ⊤ Refusal). after k (added b file) b) as_here in
+    let figured = out_refusal index (sym (ap said_told c.in-Err.is) ∙ reply) c.number_of.ensures in
     (figured, record { number = figured.number; content = records })
 
 pub satmegwo_add_record_spec : {M : Type 1} → statement M

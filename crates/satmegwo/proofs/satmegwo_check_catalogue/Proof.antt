@@ -6,13 +6,13 @@ use borrow.Author.Rules.{rules}
 use Rattle.satmegwo.proofs.satmegwo_check_catalogue.Statement.{statement}
 use Rattle.satmegwo.proofs.satmegwo_check_catalogue.Tie as tie
 
-returns : tie.Need-returns-in-Number
+returns : tie.Need-returns-in-Ok
 returns c =
-    gives_same (sym (ap said_told c.in-Number.is) ∙ c.check.ensures) c.give.ensures
+    gives_same (sym (ap said_told c.in-Ok.is) ∙ c.check.ensures) c.give.ensures
 
-returns-2 : tie.Need-returns-in-Declined
+returns-2 : tie.Need-returns-in-Err
 returns-2 c =
-    gives_same (sym (ap said_told c.in-Declined.is) ∙ c.check.ensures) (gives_refused c.number_of.ensures)
+    gives_same (sym (ap said_told c.in-Err.is) ∙ c.check.ensures) (gives_refused c.number_of.ensures)
 
 pub satmegwo_check_catalogue_spec : {M : Type 1} → statement M
 satmegwo_check_catalogue_spec =

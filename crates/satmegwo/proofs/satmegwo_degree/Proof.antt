@@ -19,13 +19,13 @@ returns c =
     room_first found (shown (box_degree a.n a.m a.rows.now a.i)) (c.number_for_room.ensures ∙ ap room_number c.check_limited.ensures)
     (λ ok e. c.if-figures-ne2.true (e ∙ degree_size a.n a.m a.rows.now a.i ok))
 
-returns-2 : tie.Need-returns-in-Reached
+returns-2 : tie.Need-returns-in-Ok
 returns-2 c =
-    gives_same (sym (ap said_degree_found c.in-Reached.is) ∙ c.degree.ensures) c.give.ensures
+    gives_same (sym (ap said_degree_found c.in-Ok.is) ∙ c.degree.ensures) c.give.ensures
 
-returns-3 : tie.Need-returns-in-Declined
+returns-3 : tie.Need-returns-in-Err
 returns-3 c =
-    gives_same (sym (ap said_degree_found c.in-Declined.is) ∙ c.degree.ensures) (gives_refused c.number_of.ensures)
+    gives_same (sym (ap said_degree_found c.in-Err.is) ∙ c.degree.ensures) (gives_refused c.number_of.ensures)
 
 pub satmegwo_degree_spec : {M : Type 1} → statement M
 satmegwo_degree_spec =

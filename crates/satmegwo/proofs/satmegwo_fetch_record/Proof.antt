@@ -6,13 +6,13 @@ use borrow.Author.Rules.{rules}
 use Rattle.satmegwo.proofs.satmegwo_fetch_record.Statement.{statement}
 use Rattle.satmegwo.proofs.satmegwo_fetch_record.Tie as tie
 
-returns : tie.Need-returns-in-Lies
+returns : tie.Need-returns-in-Ok
 returns c =
-    gives_same (sym (ap said_fetched c.in-Lies.is) ∙ c.fetch_status.ensures) c.give.ensures
+    gives_same (sym (ap said_fetched c.in-Ok.is) ∙ c.fetch_status.ensures) c.give.ensures
 
-returns-2 : tie.Need-returns-in-Unfetched
+returns-2 : tie.Need-returns-in-Err
 returns-2 c =
-    gives_same (sym (ap said_fetched c.in-Unfetched.is) ∙ c.fetch_status.ensures) (gives_refused c.number_of.ensures)
+    gives_same (sym (ap said_fetched c.in-Err.is) ∙ c.fetch_status.ensures) (gives_refused c.number_of.ensures)
 
 pub satmegwo_fetch_record_spec : {M : Type 1} → statement M
 satmegwo_fetch_record_spec =

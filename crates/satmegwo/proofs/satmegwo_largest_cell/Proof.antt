@@ -6,13 +6,13 @@ use borrow.Author.Rules.{rules}
 use Rattle.satmegwo.proofs.satmegwo_largest_cell.Statement.{statement}
 use Rattle.satmegwo.proofs.satmegwo_largest_cell.Tie as tie
 
-returns : tie.Need-returns-in-Reached
+returns : tie.Need-returns-in-Ok
 returns c =
-    gives_same (sym (ap said_largest_cell c.in-Reached.is) ∙ c.largest_cell.ensures) c.give.ensures
+    gives_same (sym (ap said_largest_cell c.in-Ok.is) ∙ c.largest_cell.ensures) c.give.ensures
 
-returns-2 : tie.Need-returns-in-Declined
+returns-2 : tie.Need-returns-in-Err
 returns-2 c =
-    gives_same (sym (ap said_largest_cell c.in-Declined.is) ∙ c.largest_cell.ensures) (gives_refused c.number_of.ensures)
+    gives_same (sym (ap said_largest_cell c.in-Err.is) ∙ c.largest_cell.ensures) (gives_refused c.number_of.ensures)
 
 pub satmegwo_largest_cell_spec : {M : Type 1} → statement M
 satmegwo_largest_cell_spec =

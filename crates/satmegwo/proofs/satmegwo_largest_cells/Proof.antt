@@ -29,20 +29,20 @@ returns c =
     let n = c.number_for_room.ensures ∙ ap room_number c.check_box.ensures ∙ t.number_is in
     (out_refused t.is n, out_refused t.is n)
 
-returns-2 : tie.Need-returns-in-Listed
+returns-2 : tie.Need-returns-in-Ok
 returns-2 c =
     let a = c.args in
     let cells = largest_cells a.n a.m a.rows.now in
     let wrote = wrote_by (sym (as_called c.before.before.before.before.before.before.before.before.before.before)) c.largest_cells.ensures in
-    let count = out_figures (length cells ∷ []) c.if-figures-ne1.false (sym (ap said_cell_list c.in-Listed.is) ∙ wrote.reply) c.give.ensures in
+    let count = out_figures (length cells ∷ []) c.if-figures-ne1.false (sym (ap said_cell_list c.in-Ok.is) ∙ wrote.reply) c.give.ensures in
     (count, out_beside count wrote)
 
-returns-3 : tie.Need-returns-in-Unlisted
+returns-3 : tie.Need-returns-in-Err
 returns-3 c =
     let a = c.args in
     let cells = largest_cells a.n a.m a.rows.now in
     let wrote = wrote_by (sym (as_called c.before.before.before.before.before.before)) c.largest_cells.ensures in
-    let count = out_refusal (length cells ∷ []) (sym (ap said_cell_list c.in-Unlisted.is) ∙ wrote.reply) c.number_of.ensures in
+    let count = out_refusal (length cells ∷ []) (sym (ap said_cell_list c.in-Err.is) ∙ wrote.reply) c.number_of.ensures in
     (count, out_beside count wrote)
 
 pub satmegwo_largest_cells_spec : {M : Type 1} → statement M

@@ -41,21 +41,21 @@ returns c =
 slice_write_figures : tie.Need-bounds-figures-0
 slice_write_figures c = omega (arith, c.if-counts-ne1.false)
 
-returns-2 : tie.Need-returns-in-Listed
+returns-2 : tie.Need-returns-in-Ok
 returns-2 c =
     let a = c.args in
     let pairs = nearest_pairs a.n a.m a.rows.now a.i in
     let wrote = wrote_by (sym (as_called c.before.before.before.before.before)) c.nearest_pairs.ensures in
-    let count = out_figures (length pairs ∷ []) c.if-counts-ne1.false (sym (ap said_pair_list c.in-Listed.is) ∙ wrote.reply)
-    (gives_all c.if-counts-ne1.false (one_written a.figures.now c.in-Listed.count c.if-counts-ne1.false)) in
+    let count = out_figures (length pairs ∷ []) c.if-counts-ne1.false (sym (ap said_pair_list c.in-Ok.is) ∙ wrote.reply)
+    (gives_all c.if-counts-ne1.false (one_written a.figures.now c.in-Ok.count c.if-counts-ne1.false)) in
     (count, out_beside count wrote)
 
-returns-3 : tie.Need-returns-in-Declined
+returns-3 : tie.Need-returns-in-Err
 returns-3 c =
     let a = c.args in
     let pairs = nearest_pairs a.n a.m a.rows.now a.i in
     let wrote = wrote_by (sym (as_called c.before.before.before.before.before.before)) c.nearest_pairs.ensures in
-    let count = out_refusal (length pairs ∷ []) (sym (ap said_pair_list c.in-Declined.is) ∙ wrote.reply) c.number_of.ensures in
+    let count = out_refusal (length pairs ∷ []) (sym (ap said_pair_list c.in-Err.is) ∙ wrote.reply) c.number_of.ensures in
     (count, out_beside count wrote)
 
 pub satmegwo_nearest_pairs_spec : {M : Type 1} → statement M

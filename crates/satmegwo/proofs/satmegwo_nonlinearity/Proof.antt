@@ -19,13 +19,13 @@ returns c =
     room_first found (shown (nonlinearity a.n a.m a.rows.now a.i)) (c.number_for_room.ensures ∙ ap room_number c.check_limited.ensures)
     (λ ok e. c.if-figures-ne4.true (e ∙ pair_size a.n a.m a.rows.now a.i ok))
 
-returns-2 : tie.Need-returns-in-Reached
+returns-2 : tie.Need-returns-in-Ok
 returns-2 c =
-    gives_same (sym (ap said_least_pair c.in-Reached.is) ∙ c.nonlinearity.ensures) c.give.ensures
+    gives_same (sym (ap said_least_pair c.in-Ok.is) ∙ c.nonlinearity.ensures) c.give.ensures
 
-returns-3 : tie.Need-returns-in-Declined
+returns-3 : tie.Need-returns-in-Err
 returns-3 c =
-    gives_same (sym (ap said_least_pair c.in-Declined.is) ∙ c.nonlinearity.ensures) (gives_refused c.number_of.ensures)
+    gives_same (sym (ap said_least_pair c.in-Err.is) ∙ c.nonlinearity.ensures) (gives_refused c.number_of.ensures)
 
 pub satmegwo_nonlinearity_spec : {M : Type 1} → statement M
 satmegwo_nonlinearity_spec =

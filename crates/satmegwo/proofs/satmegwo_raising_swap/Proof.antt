@@ -26,9 +26,9 @@ returns-3 : tie.Need-returns-in-NoSwap
 returns-3 c =
     gives_same (sym (ap said_raising_swap c.in-NoSwap.is) ∙ c.raising_swap.ensures) c.give-in-NoSwap.ensures
 
-returns-4 : tie.Need-returns-in-Declined
+returns-4 : tie.Need-returns-in-Err
 returns-4 c =
-    gives_same (sym (ap said_raising_swap c.in-Declined.is) ∙ c.raising_swap.ensures) (gives_refused c.number_of.ensures)
+    gives_same (sym (ap said_raising_swap c.in-Err.is) ∙ c.raising_swap.ensures) (gives_refused c.number_of.ensures)
 
 pub satmegwo_raising_swap_spec : {M : Type 1} → statement M
 satmegwo_raising_swap_spec =

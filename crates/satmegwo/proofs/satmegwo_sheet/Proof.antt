@@ -1,4 +1,5 @@
 -- `satmegwo::satmegwo_sheet` meets its contract: where both arrays have their lengths, the sheet that was made is copied. Assumes nothing.
+use Rattle.std.specs.Prelude.{Ok}
 use Prim.Native.Nat.{ℕ, ◌+◌, ◌≤◌}
 use mathlib.Core.Path.{◌≡◌, refl, sym, ap, ap₂, ◌∙◌}
 use mathlib.Core.List.{List, [], ◌∷◌}
@@ -7,7 +8,6 @@ use borrow.Author.Tests.{eq-eqb, ne_eqb}
 use lib.ListN.{length, take}
 use lib.Seq.{sets, sets-eq, length-sets, length-take-le, take-append_seam}
 use Rattle.refusals.specs.Table.{first, figures}
-use Rattle.refusals.specs.declared.Checked.TheVariants.{Accepted}
 use Rattle.refusals.proofs.Checks.{found, skip, stop, end, reply_accepted, after_accepted}
 use Rattle.sheet.specs.Sheet.{sheet_text}
 use Rattle.sheet.specs.Calls.{SheetWritten}
@@ -51,7 +51,7 @@ returns-3 : tie.Need-returns
 returns-3 c =
     let a = c.args in
     let written = c.write_sheet-size.ensures in
-    let h : first (sheet_checks (length a.text.now) (length a.figures.now)) ≡ Accepted =
+    let h : first (sheet_checks (length a.text.now) (length a.figures.now)) ≡ (Ok tt) =
     sym (found (skip (eq-eqb _ 332 c.if-text-ne332.false) (skip (eq-eqb _ 1 c.if-room-ne1.false) end))) in
     let size = length (sheet_text a.file.now) ∷ [] in
     let figured = out_figures size c.if-room-ne1.false (ap (λ (k : ℕ). figures (k ∷ [])) written.size ∙ reply_accepted h size) c.give.ensures in

@@ -1,10 +1,11 @@
 -- `satmegwo_design::satmegwo_design_read` meets its contract: the array for n and m is looked at first, since reading is refused by 7 alone. Assumes nothing.
+use Rattle.std.specs.Prelude.{Result, ⊤}
+use Rattle.refusals.specs.declared.Refusal.{Refusal}
 use mathlib.Core.Path.{◌≡◌, sym, ap, ◌∙◌}
 use mathlib.Core.List.{[], ◌∷◌, append-nil}
 use borrow.Author.Tests.{eq-eqb, ne_eqb}
 use lib.ListN.{length}
 use Rattle.refusals.specs.Table.{first, figures, refusal, number, reply_after, after}
-use Rattle.refusals.specs.declared.Checked.{Checked}
 use Rattle.refusals.proofs.Checks.{reply_refused, after_refused}
 use Rattle.design.specs.Model.{design_read_checks}
 use Rattle.design.specs.Calls.{state_of_design, design_rows, said_box_held}
@@ -47,10 +48,10 @@ returns-2 c =
     let o = c.read_box.ensures in
     let read = c.in-Given.n ∷ c.in-Given.m ∷ [] in
     let reply : figures read ≡ reply_after found widths =
-    sym (ap said_box_held c.in-Given.is) ∙ o.reply ∙ ap (λ (k : Checked). reply_after k widths) (sym (as_called c.before.before.before.before.before.before.before.before.before.before))
+    sym (ap said_box_held c.in-Given.is) ∙ o.reply ∙ ap (λ (k : Result ⊤ Refusal). reply_after k widths) (sym (as_called c.before.before.before.before.before.before.before.before.before.before))
     in
     let told = figures_told found widths read a.figures.now c.if-figures-ne2.false reply c.give.ensures in
-    record { number = told.0; widths = told.1; box = o.content ∙ ap (λ (k : Checked). after k (design_rows a.design) a.rows.now) (sym (as_called c.before.before.before.before.before.before.before.before.before.before)) }
+    record { number = told.0; widths = told.1; box = o.content ∙ ap (λ (k : Result ⊤ Refusal). after k (design_rows a.design) a.rows.now) (sym (as_called c.before.before.before.before.before.before.before.before.before.before)) }
 
 returns-3 : tie.Need-returns-in-Declined
 returns-3 c =
@@ -59,13 +60,13 @@ returns-3 c =
     let found = first (read_design_checks (state_of_design a.design) (length a.rows.now) (length a.figures.now)) in
     let o = c.read_box.ensures in
     let reply : refusal (number c.in-Declined.e) ≡ reply_after found widths =
-    sym (ap said_box_held c.in-Declined.is) ∙ o.reply ∙ ap (λ (k : Checked). reply_after k widths) (sym (as_called c.before.before.before.before.before.before))
+    sym (ap said_box_held c.in-Declined.is) ∙ o.reply ∙ ap (λ (k : Result ⊤ Refusal). reply_after k widths) (sym (as_called c.before.before.before.before.before.before))
     in
     let told = refusal_told found widths a.figures.now reply in
     record {
       number = c.number_of-in-Declined.ensures ∙ told.0;
       widths = told.1;
-      box = o.content ∙ ap (λ (k : Checked). after k (design_rows a.design) a.rows.now) (sym (as_called c.before.before.before.before.before.before));
+      box = o.content ∙ ap (λ (k : Result ⊤ Refusal). after k (design_rows a.design) a.rows.now) (sym (as_called c.before.before.before.before.before.before));
     }
 
 pub satmegwo_design_read_spec : {M : Type 1} → statement M

@@ -16,9 +16,9 @@ returns-2 : tie.Need-returns-in-Finished
 returns-2 c =
     gives_same (sym (ap (λ (s : Asked). progress_reply (said_asked s)) c.in-Finished.is)) c.give-in-Finished.ensures
 
-returns-3 : tie.Need-returns-in-Declined
+returns-3 : tie.Need-returns-in-Err
 returns-3 c =
-    gives_same (sym (ap (λ (s : Asked). progress_reply (said_asked s)) c.in-Declined.is)) (gives_refused c.number_of.ensures)
+    gives_same (sym (ap (λ (s : Asked). progress_reply (said_asked s)) c.in-Err.is)) (gives_refused c.number_of.ensures)
 
 pub give_standing_spec : {M : Type 1} → statement M
 give_standing_spec =

@@ -1,10 +1,10 @@
 -- `server::with_component` meets its contract: an accepted box, and arrays that are as long. Assumes nothing.
+use Rattle.std.specs.Prelude.{Ok}
 use mathlib.Core.List.{[]}
 use mathlib.Core.Path.{◌≡◌, ap, ◌∙◌, sym}
 use borrow.Author.Rules.{rules}
 use lib.Seq.{length-take-le}
 use Rattle.refusals.specs.Table.{Box, first, box_checks}
-use Rattle.refusals.specs.declared.Checked.TheVariants.{Accepted}
 use Rattle.refusals.proofs.Checks.{box}
 use Rattle.linear.specs.Calls.{pair_candidate}
 use Rattle.server.specs.Calls.{found_of}
@@ -12,12 +12,12 @@ use Rattle.server.proofs.Boxes.{better_none, better_some}
 use Rattle.server.proofs.with_component.Statement.{statement}
 use Rattle.server.proofs.with_component.Tie as tie
 
-returns : tie.Need-returns-in-Refused
+returns : tie.Need-returns-in-Err
 returns c =
     let a = c.args in
-    sym (ap found_of (better_none a.n a.m a.rows.now (pair_candidate a.found) a.c (sym c.check_box.ensures ∙ c.in-Refused.is)))
+    sym (ap found_of (better_none a.n a.m a.rows.now (pair_candidate a.found) a.c (sym c.check_box.ensures ∙ c.in-Err.is)))
 
-accepted : (c : tie.In_default) → let a = c.args in first (box_checks a.n a.m a.rows.now) ≡ Accepted
+accepted : (c : tie.In_default) → let a = c.args in first (box_checks a.n a.m a.rows.now) ≡ (Ok tt)
 accepted c = sym c.check_box.ensures ∙ c.in_default.is
 
 boxed : (c : tie.In_default) → let a = c.args in Box a.n a.m a.rows.now

@@ -14,7 +14,7 @@ returns c =
 
 returns-2 : tie.Need-returns
 returns-2 c =
-    let reply = sym c.autocorrelation-answer.ensures ∙ ap said_largest_change c.in-Reached.is in
+    let reply = sym c.autocorrelation-answer.ensures ∙ ap said_largest_change c.in-Ok.is in
     let shows = limited_shown "autocorrelation" (autocorrelation_reply _ _ _) c.limit_of-i.ensures reply in
     record { bytes = _; is = shows; short = line_few _ _; stored = c.put_line.ensures }
 

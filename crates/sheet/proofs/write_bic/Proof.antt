@@ -22,7 +22,7 @@ returns-2 c =
 
 returns-3 : tie.Need-returns
 returns-3 c =
-    let reply = sym c.dynamic_distance-answer.ensures ∙ ap said_largest_change c.in-Reached.is in
+    let reply = sym c.dynamic_distance-answer.ensures ∙ ap said_largest_change c.in-Ok.is in
     let shows = ap outcome_of (bic_shown _ _ _ c.if-m-eq1.false) ∙ numbers_shown "bic" reply in
     record { bytes = _; is = shows; short = line_few _ _; stored = c.put_line.ensures }
 

@@ -14,7 +14,7 @@ returns c =
 
 returns-2 : tie.Need-returns
 returns-2 c =
-    let reply = sym c.degree-answer.ensures ∙ ap said_degree_found c.in-Reached.is in
+    let reply = sym c.degree-answer.ensures ∙ ap said_degree_found c.in-Ok.is in
     let shows = limited_shown "degree" (box_degree_reply _ _ _) c.limit_of-i.ensures reply in
     record { bytes = _; is = shows; short = line_few _ _; stored = c.put_line.ensures }
 

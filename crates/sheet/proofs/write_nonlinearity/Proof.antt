@@ -15,7 +15,7 @@ returns c =
 
 returns-2 : tie.Need-returns
 returns-2 c =
-    let reply = sym c.nonlinearity-answer.ensures ∙ ap said_least_pair c.in-Reached.is in
+    let reply = sym c.nonlinearity-answer.ensures ∙ ap said_least_pair c.in-Ok.is in
     let shows = limited_shown "nonlinearity" (nonlinearity_reply _ _ _) c.limit_of-i.ensures reply in
     record { bytes = _; is = shows; short = line_few _ _; stored = c.put_line.ensures }
 

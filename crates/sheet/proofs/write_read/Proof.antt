@@ -15,13 +15,13 @@ read c =
 
 returns-2 : tie.Need-returns-in_default
 returns-2 c =
-    let reply = sym (read c.before.before.before.before.before.before.before.before.before.before.before.before) ∙ ap said_box_file (c.in_default.is ∙ c.in-Declined.is) ∙ ap refusal (sym c.number_of.ensures) in
+    let reply = sym (read c.before.before.before.before.before.before.before.before.before.before.before.before) ∙ ap said_box_file (c.in_default.is ∙ c.in-Err.is) ∙ ap refusal (sym c.number_of.ensures) in
     (wrote_refused c.args.file.now c.args.text.now reply c.put_line.ensures.0 c.put_line.ensures.1, c.read_box-answer.auto.rows)
 
 returns-3 : tie.Need-returns
 returns-3 c =
     let file = c.args.file.now in
-    let reply = sym (read c.before.before.before.before.before.before.before) ∙ ap said_box_file c.in-Read.is in
+    let reply = sym (read c.before.before.before.before.before.before.before) ∙ ap said_box_file c.in-Ok.is in
     let rows = c.read_box-answer.ensures.content ∙ rows_with_room file c.requires.0 reply c.args.rows.now in
     (wrote_sheet file (sheet_of_box file reply rows) c.write_lines.ensures, c.read_box-answer.auto.rows)
 

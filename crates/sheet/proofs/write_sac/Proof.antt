@@ -12,7 +12,7 @@ returns c = (numbers_refused "sac" (sym c.dynamic_distance-answer.ensures ∙ ap
 
 returns-2 : tie.Need-returns
 returns-2 c =
-    let reply = sym c.dynamic_distance-answer.ensures ∙ ap said_largest_change c.in-Reached.is in
+    let reply = sym c.dynamic_distance-answer.ensures ∙ ap said_largest_change c.in-Ok.is in
     record { bytes = _; is = numbers_shown "sac" reply; short = line_few _ _; stored = c.put_line.ensures }
 
 pub write_sac_spec : {M : Type 1} → statement M

@@ -12,7 +12,7 @@ returns c = (numbers_refused "xor" (sym c.largest_cell-answer.ensures ∙ ap sai
 
 returns-2 : tie.Need-returns
 returns-2 c =
-    let reply = sym c.largest_cell-answer.ensures ∙ ap said_largest_cell c.in-Reached.is in
+    let reply = sym c.largest_cell-answer.ensures ∙ ap said_largest_cell c.in-Ok.is in
     record { bytes = _; is = numbers_shown "xor" reply; short = line_few _ _; stored = c.put_line.ensures }
 
 pub write_xor_spec : {M : Type 1} → statement M

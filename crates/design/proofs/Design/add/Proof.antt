@@ -57,12 +57,12 @@ answered : (q : tie.After-add_to_column-added) →
     ≡ reply_after (first (addition_checks a.self.n a.self.m (take size a.self.rows) a.j a.w a.b room)) [])
 answered q = (_, length-take-le _ _ (fits q.before.before), q.add_to_column-added.ensures.reply)
 
-returns-2 : tie.Need-returns-in-Declined
+returns-2 : tie.Need-returns-in-Err
 returns-2 c =
     let a = c.args in
     let t = answered c.before.before.before in
-    let h = sym (ap said_written c.in-Declined.is) ∙ t.2 in
-    add_declined a.self a.j a.w a.b _ t.0 (boxed c.before.before.before.before.before.before) c.power_of_two-size.ensures.0 t.1 h c.declined-in-Declined.ensures
+    let h = sym (ap said_written c.in-Err.is) ∙ t.2 in
+    add_declined a.self a.j a.w a.b _ t.0 (boxed c.before.before.before.before.before.before) c.power_of_two-size.ensures.0 t.1 h c.declined-in-Err.ensures
 
 returns-3 : tie.Need-returns
 unfolding answered

@@ -1,26 +1,26 @@
 -- `design::Design::begin` meets its contract: an accepted box, with no mark set, and else none. Assumes nothing.
+use Rattle.std.specs.Prelude.{Ok}
 use mathlib.Core.Path.{◌≡◌, sym, ap, ◌∙◌}
 use mathlib.Core.List.{[]}
 use Prim.Native.Nat.{◌≤◌}
 use lib.ListN.{length}
 use lib.Seq.{length-take-le}
 use Rattle.refusals.specs.Table.{first, box_checks, said_written}
-use Rattle.refusals.specs.declared.Checked.TheVariants.{Accepted}
 use Rattle.refusals.proofs.Checks.{box, reply_refused, reply_accepted}
 use Rattle.design.proofs.Held.{begin_refused, begin_done}
 use borrow.Author.Rules.{rules}
 use Rattle.design.proofs.Design.begin.Statement.{statement}
 use Rattle.design.proofs.Design.begin.Tie as tie
 
-returns : tie.Need-returns-in-Refused
+returns : tie.Need-returns-in-Err
 returns c =
     let a = c.args in
     let u = c.unset-none in
-    let h = sym c.check_box.ensures ∙ c.in-Refused.is in
+    let h = sym c.check_box.ensures ∙ c.in-Err.is in
     let g = c.declined.ensures in
     record { reply = ap said_written g.1 ∙ reply_refused h []; whole = g.0 ∙ begin_refused a.n a.m a.rows.now u.result u.ensures h }
 
-accepted : (c : tie.In_default) → let a = c.args in first (box_checks a.n a.m a.rows.now) ≡ Accepted
+accepted : (c : tie.In_default) → let a = c.args in first (box_checks a.n a.m a.rows.now) ≡ (Ok tt)
 accepted c = sym c.check_box.ensures ∙ c.in_default.is
 
 fits : (c : tie.In_default) → length c.args.rows.now ≤ 256

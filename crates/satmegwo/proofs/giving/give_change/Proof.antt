@@ -6,12 +6,12 @@ use borrow.Author.Rules.{rules}
 use Rattle.satmegwo.proofs.giving.give_change.Statement.{statement}
 use Rattle.satmegwo.proofs.giving.give_change.Tie as tie
 
-returns : tie.Need-returns-in-Reached
+returns : tie.Need-returns-in-Ok
 returns c =
-    gives_same (sym (ap said_largest_change c.in-Reached.is)) c.give.ensures
+    gives_same (sym (ap said_largest_change c.in-Ok.is)) c.give.ensures
 
-returns-2 : tie.Need-returns-in-Declined
-returns-2 c = gives_same (sym (ap said_largest_change c.in-Declined.is)) (gives_refused c.number_of.ensures)
+returns-2 : tie.Need-returns-in-Err
+returns-2 c = gives_same (sym (ap said_largest_change c.in-Err.is)) (gives_refused c.number_of.ensures)
 
 pub give_change_spec : {M : Type 1} → statement M
 give_change_spec =

@@ -6,15 +6,15 @@ use borrow.Author.Rules.{rules}
 use Rattle.satmegwo.proofs.giving.give_sum.Statement.{statement}
 use Rattle.satmegwo.proofs.giving.give_sum.Tie as tie
 
-returns : tie.Need-returns-in-Reached
+returns : tie.Need-returns-in-Ok
 returns c =
     let a = c.args in
-    gives_same (sym (ap (said_least_sum a.count) c.in-Reached.is)) c.give_masks.ensures
+    gives_same (sym (ap (said_least_sum a.count) c.in-Ok.is)) c.give_masks.ensures
 
-returns-2 : tie.Need-returns-in-Declined
+returns-2 : tie.Need-returns-in-Err
 returns-2 c =
     let a = c.args in
-    gives_same (sym (ap (said_least_sum a.count) c.in-Declined.is)) (gives_refused c.number_of.ensures)
+    gives_same (sym (ap (said_least_sum a.count) c.in-Err.is)) (gives_refused c.number_of.ensures)
 
 pub give_sum_spec : {M : Type 1} → statement M
 give_sum_spec =

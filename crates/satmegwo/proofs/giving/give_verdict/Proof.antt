@@ -14,8 +14,8 @@ returns-2 : tie.Need-returns-in-No
 returns-2 c =
     gives_same (sym (ap said_verdict c.in-No.is)) c.give-in-No.ensures
 
-returns-3 : tie.Need-returns-in-Undecided
-returns-3 c = gives_same (sym (ap said_verdict c.in-Undecided.is)) (gives_refused c.number_of.ensures)
+returns-3 : tie.Need-returns-in-Err
+returns-3 c = gives_same (sym (ap said_verdict c.in-Err.is)) (gives_refused c.number_of.ensures)
 
 pub give_verdict_spec : {M : Type 1} → statement M
 give_verdict_spec =

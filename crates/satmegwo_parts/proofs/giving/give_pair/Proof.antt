@@ -8,19 +8,19 @@ use borrow.Author.Rules.{rules}
 use Rattle.satmegwo_parts.proofs.giving.give_pair.Statement.{statement}
 use Rattle.satmegwo_parts.proofs.giving.give_pair.Tie as tie
 
-returns : tie.Need-returns-in-Reached
+returns : tie.Need-returns-in-Ok
 unfolding flagged part_figures
 returns c =
-    gives_same (sym (ap (λ (p : PartPair). flagged 5 (said_part p)) c.in-Reached.is)) c.give.ensures
+    gives_same (sym (ap (λ (p : PartPair). flagged 5 (said_part p)) c.in-Ok.is)) c.give.ensures
 
 returns-2 : tie.Need-returns-in-Nothing
 unfolding flagged part_figures
 returns-2 c =
     gives_same (sym (ap (λ (p : PartPair). flagged 5 (said_part p)) c.in-Nothing.is)) c.give-in-Nothing.ensures
 
-returns-3 : tie.Need-returns-in-Declined
+returns-3 : tie.Need-returns-in-Err
 unfolding flagged part_figures
-returns-3 c = gives_same (sym (ap (λ (p : PartPair). flagged 5 (said_part p)) c.in-Declined.is)) (gives_refused c.number_of.ensures)
+returns-3 c = gives_same (sym (ap (λ (p : PartPair). flagged 5 (said_part p)) c.in-Err.is)) (gives_refused c.number_of.ensures)
 
 pub give_pair_spec : {M : Type 1} → statement M
 give_pair_spec =

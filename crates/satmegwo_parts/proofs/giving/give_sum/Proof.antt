@@ -10,11 +10,11 @@ use borrow.Author.Rules.{rules}
 use Rattle.satmegwo_parts.proofs.giving.give_sum.Statement.{statement}
 use Rattle.satmegwo_parts.proofs.giving.give_sum.Tie as tie
 
-returns : tie.Need-returns-in-Reached
+returns : tie.Need-returns-in-Ok
 unfolding flagged part_figures
 returns c =
     let a = c.args in
-    gives_same (sym (ap (λ (p : PartSum). flagged (sum_size a.count) (said_part_sum a.count p)) c.in-Reached.is)) c.give_masks.ensures
+    gives_same (sym (ap (λ (p : PartSum). flagged (sum_size a.count) (said_part_sum a.count p)) c.in-Ok.is)) c.give_masks.ensures
 
 returns-2 : tie.Need-returns-in-Nothing
 unfolding flagged part_figures
@@ -22,11 +22,11 @@ returns-2 c =
     let a = c.args in
     gives_same (ap figures (no_masks a.count) ∙ sym (ap (λ (p : PartSum). flagged (sum_size a.count) (said_part_sum a.count p)) c.in-Nothing.is)) c.give_masks-in-Nothing.ensures
 
-returns-3 : tie.Need-returns-in-Declined
+returns-3 : tie.Need-returns-in-Err
 unfolding flagged part_figures
 returns-3 c =
     let a = c.args in
-    gives_same (sym (ap (λ (p : PartSum). flagged (sum_size a.count) (said_part_sum a.count p)) c.in-Declined.is)) (gives_refused c.number_of.ensures)
+    gives_same (sym (ap (λ (p : PartSum). flagged (sum_size a.count) (said_part_sum a.count p)) c.in-Err.is)) (gives_refused c.number_of.ensures)
 
 pub give_sum_spec : {M : Type 1} → statement M
 give_sum_spec =

@@ -1,24 +1,24 @@
 -- `server::Server::put` meets its contract: refused, the server is as it was; else the box is on the place. Assumes nothing.
+use Rattle.std.specs.Prelude.{Ok}
 use Prim.Native.Nat.{◌-◌}
 use mathlib.Core.Path.{◌≡◌, sym, ap, ◌∙◌}
 use native.Mathlib.Omega.{arith}
 use borrow.Author.Rules.{rules}
 use Rattle.refusals.specs.Table.{first}
-use Rattle.refusals.specs.declared.Checked.TheVariants.{Accepted}
 use Rattle.server.specs.Model.{put_checks}
 use Rattle.server.specs.Calls.{state_of_server, replaced}
 use Rattle.server.proofs.Checks.{put_low, put_high, put_box, refused_put, accepted_put}
 use Rattle.server.proofs.Server.put.Statement.{statement}
 use Rattle.server.proofs.Server.put.Tie as tie
 
-returns : tie.Need-returns-in-Refused
+returns : tie.Need-returns-in-Err
 returns c =
     let a = c.args in
-    refused_put a.self a.place a.n a.m a.rows.now (sym c.check_put.ensures ∙ c.in-Refused.is) c.declined.ensures
+    refused_put a.self a.place a.n a.m a.rows.now (sym c.check_put.ensures ∙ c.in-Err.is) c.declined.ensures
 
 accepted : (c : tie.In_default) →
     let a = c.args in
-    first (put_checks (state_of_server a.self) a.place a.n a.m a.rows.now) ≡ Accepted
+    first (put_checks (state_of_server a.self) a.place a.n a.m a.rows.now) ≡ (Ok tt)
 accepted c = sym c.check_put.ensures ∙ c.in_default.is
 
 sub_i : tie.Need-overflow_sub-i

@@ -1,24 +1,24 @@
 -- `server::Server::withdraw` meets its contract: refused, the server is as it was; else the place is empty. Assumes nothing.
+use Rattle.std.specs.Prelude.{Ok}
 use Prim.Native.Nat.{◌-◌}
 use mathlib.Core.Path.{◌≡◌, sym, ap, ◌∙◌}
 use native.Mathlib.Omega.{arith}
 use borrow.Author.Rules.{rules}
 use Rattle.refusals.specs.Table.{first}
-use Rattle.refusals.specs.declared.Checked.TheVariants.{Accepted}
 use Rattle.server.specs.Model.{held_checks}
 use Rattle.server.specs.Calls.{state_of_server, replaced}
 use Rattle.server.proofs.Checks.{held_low, held_high, refused_withdrawal, accepted_withdrawal}
 use Rattle.server.proofs.Server.withdraw.Statement.{statement}
 use Rattle.server.proofs.Server.withdraw.Tie as tie
 
-returns : tie.Need-returns-in-Refused
+returns : tie.Need-returns-in-Err
 returns c =
-    refused_withdrawal c.args.self c.args.place (sym c.check_held.ensures ∙ c.in-Refused.is)
+    refused_withdrawal c.args.self c.args.place (sym c.check_held.ensures ∙ c.in-Err.is)
     c.declined.ensures
 
 accepted : (c : tie.In_default) →
     let a = c.args in
-    first (held_checks (state_of_server a.self) a.place) ≡ Accepted
+    first (held_checks (state_of_server a.self) a.place) ≡ (Ok tt)
 accepted c = sym c.check_held.ensures ∙ c.in_default.is
 
 sub_i : tie.Need-overflow_sub-i
