@@ -31,13 +31,8 @@ fn row_at(file: &[u8], x: usize) -> u32
     requires { 4 * x + 5 < length file.now }
     ensures { result ≡ row_at file.now x }
 {
-    let place = 4 * x + 2;
-    u32::from_le_bytes([
-        file[place],
-        file[place + 1],
-        file[place + 2],
-        file[place + 3],
-    ])
+    let low = 4 * x + 2;
+    u32::from_le_bytes([file[low], file[low + 1], file[low + 2], file[low + 3]])
 }
 
 // The largest row of a file of `size` rows.
