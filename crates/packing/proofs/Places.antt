@@ -1,10 +1,10 @@
 -- Where the bytes and words of columns stand. Assumes nothing.
-use mathlib.Core.Path.{◌≡◌, refl, sym, ap, ap₂, ◌∙◌, subst}
+use mathlib.Core.Path.{◌≡◌, refl, sym, ap, ap₂, ◌∙◌}
 use Prim.Native.Nat.{ℕ, zero, suc, ◌+◌, ◌*◌, ◌-◌, ◌/◌, ◌%◌, ◌^◌, ◌<◌, ◌≤◌}
-use native.Mathlib.Nat.{add-mul, one-mul, le_trans, le_of_eq, mod-lt, sub-le, mul-le-mul_right, mul_comm, pow-zero, pow-suc, div-lt_iff_lt-mul}
+use native.Mathlib.Nat.{add-mul, one-mul, sub-le, mul-le-mul_right, pow-suc}
 use native.Mathlib.Omega.{arith}
 use lib.Arith.{digits_div, digits_mod}
-use lib.Pow.{pow_pos, pow_mono, pow-add, split}
+use lib.Pow.{pow-add}
 use mathlib.Core.List.{List}
 use Rattle.boolean.specs.Functions.{at}
 use Rattle.packing.specs.Work.{word_byte}
