@@ -161,8 +161,7 @@ fn put_word(b: &mut [u8], i: usize, v: usize)
     requires { (i + 1 < length b.old) × (v < 65536) }
     ensures { b.new ≡ sets b.old i (word v) }
 {
-    b[i] = (v % 256) as u8;
-    b[i + 1] = (v / 256) as u8;
+    b[i..i + 2].copy_from_slice(&(v as u16).to_le_bytes());
 }
 
 // Clears the bytes of a part.
@@ -170,11 +169,7 @@ fn clear(b: &mut [u8], start: usize, size: usize)
     requires { start + size ≤ length b.old }
     ensures { b.new ≡ sets b.old start (replicate size 0) }
 {
-    let mut i = 0;
-    while i < size {
-        b[start + i] = 0;
-        i += 1;
-    }
+    b[start..start + size].fill(0);
 }
 
 // Copies the bytes of a file.
@@ -182,11 +177,7 @@ fn copy_in(b: &mut [u8], start: usize, file: &[u8])
     requires { start + length file.now ≤ length b.old }
     ensures { b.new ≡ sets b.old start file.now }
 {
-    let mut i = 0;
-    while i < file.len() {
-        b[start + i] = file[i];
-        i += 1;
-    }
+    b[start..start + file.len()].copy_from_slice(file);
 }
 
 // Moves bytes down over a gap of zeros: the gap is then behind them.
@@ -194,16 +185,10 @@ fn slide_down(b: &mut [u8], to: usize, gap: usize, size: usize)
     requires { (to + gap + size ≤ length b.old) × (part to gap b.old ≡ replicate gap 0) }
     ensures { b.new ≡ slid_down to gap size b.old }
 {
-    if gap == 0 {
-        return;
-    }
     let from = to + gap;
-    let mut i = 0;
-    while i < size {
-        b[to + i] = b[from + i];
-        b[from + i] = 0;
-        i += 1;
-    }
+    let behind = to + size;
+    b.copy_within(from..from + size, to);
+    b[behind..behind + gap].fill(0);
 }
 
 // Moves bytes up over a gap of zeros: the gap is then before them.
@@ -211,12 +196,8 @@ fn slide_up(b: &mut [u8], from: usize, size: usize, gap: usize)
     requires { (0 < gap) × (from + size + gap ≤ length b.old) × (part (from + size) gap b.old ≡ replicate gap 0) }
     ensures { b.new ≡ slid_up from size gap b.old }
 {
-    let mut i = size;
-    while 0 < i {
-        i -= 1;
-        b[from + i + gap] = b[from + i];
-        b[from + i] = 0;
-    }
+    b.copy_within(from..from + size, from + gap);
+    b[from..from + gap].fill(0);
 }
 
 // Takes place k out of the directory of n places.
