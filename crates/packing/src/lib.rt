@@ -182,7 +182,7 @@ fn unpack_bytes(n: u32, m: u32, bytes: &[u8], padded: &mut [u8], words: &mut [u3
         × BytesWords padded.new (column_bytes n) words.new }
 {
     let size = column_bytes(n);
-    padded[..bytes.len()].copy_from_slice(bytes); let first = padded[0]; padded[..bytes.len()].fill(first);
+    padded[..bytes.len()].copy_from_slice(bytes);
     join_words(padded, size, words);
     write_rows(words, size, out);
 }
