@@ -1,10 +1,10 @@
 -- Bytes that are copied within the buffer, and the part that they leave, which is filled with zeros. Assumes nothing.
-use Prim.Native.Nat.{ℕ, ◌+◌, ◌-◌, ◌≤◌}
+use Prim.Native.Nat.{ℕ, ◌+◌, ◌≤◌}
 use mathlib.Core.Path.{◌≡◌, refl, sym, ap, ap₂, ◌∙◌}
 use mathlib.Core.List.{List, ◌++◌, append_assoc}
 use native.Mathlib.Omega.{arith}
 use borrow.Rule.Slice.PartMut.{put_mid}
-use lib.ListN.{length, take, drop, replicate, length-append, length-drop, take-append-drop}
+use lib.ListN.{length, take, drop, replicate, length-append, length-drop}
 use lib.Seq.{sets, take_at, drop_at, drop-drop, paste, sets-eq, length-take-le, take-add}
 use Rattle.catalogue.specs.Format.{part}
 use Rattle.catalogue.specs.Work.{slid_down, slid_up}
