@@ -36,6 +36,7 @@ fn row_at(file: &[u8], x: usize) -> u32
 }
 
 // The largest row of a file of `size` rows.
+// kept: refusals::rows_below takes an array of rows, and a file's rows are bytes for which there is no array (the rule of fixed memory).
 fn largest_row(file: &[u8], size: usize) -> u32
     requires { length file.now ≡ 2 + 4 * size }
     ensures { result ≡ largest_below size (row_at file.now) }

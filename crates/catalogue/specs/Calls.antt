@@ -74,7 +74,8 @@ RemoveCalled b index answer left = Wrote (index_checks b index) [] (removed b in
 unfoldable pub lowest : (need size k pos : ℕ) (rs : List Item) → Option Gap
 lowest need size k pos [] = elim (leb (pos + need) size) [ true ↦ Some (record { index = k; start = pos }) | false ↦ None ]
 lowest need size k pos (r ∷ rs) =
-    elim (leb (pos + need) r.start) [ true ↦ Some (record { index = k; start = pos }) | false ↦ lowest need size (k + 1) (r.start + length r.bytes) rs ]
+    elim (leb (pos + need) r.start)
+    [ true ↦ Some (record { index = k; start = pos }) | false ↦ lowest need size (k + 1) (r.start + length r.bytes) rs ]
 
 -- the gap that a file is put into
 unfoldable pub gap_for : (b file : List ℕ) → Option Gap
