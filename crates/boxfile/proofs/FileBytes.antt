@@ -8,7 +8,7 @@ use native.Mathlib.Omega.{arith}
 use lib.ListN.{length, take, get_or-append, drop_of_length-le}
 use lib.Pow.{pow_mono}
 use lib.Seq.{get_or-append-add, ext_get_or, take-suc, sets, sets-eq}
-use Rattle.boolean.specs.Sums.{each, list_below}
+use Rattle.boolean.specs.Sums.{each}
 use Rattle.boolean.specs.Functions.{at, Below}
 use Rattle.boolean.proofs.Lists.{list_is, list_below_cong, each_append}
 use Rattle.refusals.specs.Table.{Box}

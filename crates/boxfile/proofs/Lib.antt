@@ -1,3 +1,4 @@
+pub mod Parts
 pub mod FileRows
 pub mod FileRoom
 pub mod FileBytes

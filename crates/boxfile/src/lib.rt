@@ -16,9 +16,7 @@ pub fn two_bytes(file: &[u8], place: usize) -> u32
     requires { place + 1 < length file.now }
     ensures { (result ≡ at file.now place + 256 * at file.now (place + 1)) × (result < 65536) }
 {
-    let low = boolean::wide(file[place]);
-    let high = boolean::wide(file[place + 1]);
-    low + 256 * high
+    u32::from(u16::from_le_bytes([file[place], file[place + 1]]))
 }
 
 // Row x of the file, from its four bytes.
@@ -26,24 +24,19 @@ fn row_at(file: &[u8], x: usize) -> u32
     requires { 4 * x + 5 < length file.now }
     ensures { result ≡ row_at file.now x }
 {
-    let low = two_bytes(file, 4 * x + 2);
-    let high = two_bytes(file, 4 * x + 4);
-    low + 65536 * high
+    let low = 4 * x + 2;
+    u32::from_le_bytes([file[low], file[low + 1], file[low + 2], file[low + 3]])
 }
 
 // The largest row of a file of `size` rows.
+// kept: refusals::rows_below takes an array of rows, and a file's rows are bytes for which there is no array (the rule of fixed memory).
 fn largest_row(file: &[u8], size: usize) -> u32
     requires { length file.now ≡ 2 + 4 * size }
     ensures { result ≡ largest_below size (row_at file.now) }
 {
     let mut most = 0;
-    let mut x = 0;
-    while x < size {
-        let row = row_at(file, x);
-        if most < row {
-            most = row;
-        }
-        x += 1;
+    for x in 0..size {
+        most = most.max(row_at(file, x));
     }
     most
 }
@@ -63,10 +56,8 @@ fn write_rows(file: &[u8], n: u32, rows: &mut [u32])
     requires { (length rows.old ≡ 2 ^ n) × (length file.now ≡ 2 + 4 * 2 ^ n) }
     ensures { rows.new ≡ file_rows file.now n }
 {
-    let mut x = 0;
-    while x < rows.len() {
-        rows[x] = row_at(file, x);
-        x += 1;
+    for (x, row) in rows.iter_mut().enumerate() {
+        *row = row_at(file, x);
     }
 }
 
@@ -145,10 +136,7 @@ fn put_row(file: &mut [u8], place: usize, row: u32)
     requires { place + 3 < length file.old }
     ensures { file.new ≡ sets file.old place (row_bytes row) }
 {
-    file[place] = (row % 256) as u8;
-    file[place + 1] = (row / 256 % 256) as u8;
-    file[place + 2] = (row / 65536 % 256) as u8;
-    file[place + 3] = (row / 16777216 % 256) as u8;
+    file[place..place + 4].copy_from_slice(&row.to_le_bytes());
 }
 
 // The bytes of all rows, behind n and m.
@@ -156,10 +144,8 @@ fn put_rows(rows: &[u32], file: &mut [u8])
     requires { length file.old ≡ 2 + 4 * length rows.now }
     ensures { file.new ≡ sets file.old 2 (each rows.now row_bytes) }
 {
-    let mut x = 0;
-    while x < rows.len() {
-        put_row(file, 2 + 4 * x, rows[x]);
-        x += 1;
+    for (x, row) in rows.iter().enumerate() {
+        put_row(file, 2 + 4 * x, *row);
     }
 }
 

@@ -14,7 +14,6 @@ use Rattle.refusals.specs.declared.Refusal.TheVariants.{Catalogue, NoRoom}
 use Rattle.refusals.proofs.Checks.{found_after, skip, stop, end, first_passed, first_refused, passed, accepted_before, accepted_after}
 use Rattle.boxfile.specs.File.{file_found}
 use Rattle.catalogue.specs.declared.Gap.{Gap}
-use Rattle.catalogue.specs.declared.Gap.TheVariants.{Starts, Nowhere}
 use Rattle.catalogue.specs.Format.{part, count, records, valid, build}
 use Rattle.catalogue.specs.Work.{place_from, opened}
 use Rattle.catalogue.specs.Calls.{gap_for, is_gap, offered_checks, add_checks, added_at}
@@ -22,8 +21,9 @@ use Rattle.catalogue.specs.Statements.{AllBytes, LieInOrder}
 use Rattle.catalogue.proofs.Built.{valid_says, built, records_fit, length_records, length_part, fits_inside}
 use Rattle.catalogue.proofs.Bodies.{ends}
 use Rattle.catalogue.proofs.Edits.{add_is}
-use Rattle.catalogue.proofs.GapSearch.{Found, lowest_found}
+use Rattle.catalogue.proofs.GapSearch.{Found, starts, lowest_found}
 use Rattle.boolean.proofs.Every.{zeros_are}
+use Rattle.std.proofs.Common.{Option, Some, None}
 
 module _ (b file : List ℕ) where
   -- a file that is offered: the catalogue is valid and the file accepted
@@ -49,11 +49,11 @@ module _ (b file : List ℕ) where
     unfolding add_checks
     add_full h = sym (found_after (offered_checks b file) ok (stop (le-ltb (count b) 64 h)))
 
-    pub add_nowhere : count b < 64 → gap_for b file ≡ Nowhere → first (add_checks b file) ≡ Err NoRoom
+    pub add_nowhere : count b < 64 → gap_for b file ≡ None → first (add_checks b file) ≡ Err NoRoom
     unfolding add_checks
     add_nowhere h e = sym (found_after (offered_checks b file) ok (skip (lt-ltb (count b) 64 h) (stop (ap is_gap e))))
 
-    pub add_accepted : {index start : ℕ} → count b < 64 → gap_for b file ≡ Starts index start → first (add_checks b file) ≡ (Ok tt)
+    pub add_accepted : {index start : ℕ} → count b < 64 → gap_for b file ≡ starts index start → first (add_checks b file) ≡ (Ok tt)
     unfolding add_checks
     add_accepted h e = sym (found_after (offered_checks b file) ok (skip (lt-ltb (count b) 64 h) (skip (ap is_gap e) end)))
 
@@ -64,11 +64,11 @@ module _ (b file : List ℕ) where
     pub few : count b < 64
     pub index : ℕ
     pub start : ℕ
-    pub gap : gap_for b file ≡ Starts index start
+    pub gap : gap_for b file ≡ starts index start
 
-  is_gap_lem : (g : Gap) → is_gap g ≡ true → (index : ℕ) × (start : ℕ) × (g ≡ Starts index start)
-  is_gap_lem (Starts i s) h = (i, s, refl)
-  is_gap_lem Nowhere h = absurd (let z : ◌≡◌ {A = Bool} false true = h in let y : ◌≡◌ {A = ℕ} 0 1 = cc in omega arith)
+  is_gap_lem : (g : Option Gap) → is_gap g ≡ true → (index : ℕ) × (start : ℕ) × (g ≡ starts index start)
+  is_gap_lem (Some gap) h = (gap.index, gap.start, refl)
+  is_gap_lem None h = absurd (let z : ◌≡◌ {A = Bool} false true = h in let y : ◌≡◌ {A = ℕ} 0 1 = cc in omega arith)
 
   pub accepts : first (add_checks b file) ≡ (Ok tt) → Accepts
   unfolding add_checks
@@ -92,7 +92,7 @@ module _ (b file : List ℕ) where
         ∙ ap (λ (k : ℕ). take 4 (take k (drop (4 * n + 2) b))) (sym e) ∙ ap (take 4) (zeros ∙ ap (λ (k : ℕ). replicate k 0) e ∙ sym (replicate-append-replicate 4 m 0))
 
     -- a gap that is found
-    module _ {index start : ℕ} (e : gap_for b file ≡ Starts index start) where
+    module _ {index start : ℕ} (e : gap_for b file ≡ starts index start) where
       pub gap_found : Found (length file) (length b) 0 258 (records b) index start
       unfolding gap_for
       gap_found = lowest_found (length file) (length b) 0 258 (records b) index start (records_fit b whole) e
@@ -120,4 +120,4 @@ module _ (b file : List ℕ) where
           ap₂ (λ (k : ℕ) (l : List ℕ). sets (opened n index (place_from k (length file)) l) k file) g.begins (built b small whole ∙ ap (build (length b)) (sym join))
           ∙ add_is (length b) ps ss file n index lk ln few f room
           ∙ ap₂ (λ (k i : ℕ). build (length b) (take i rs ++ (record { start = k; bytes = file } ∷ drop i rs))) (sym g.begins) ji
-          ∙ ap (λ (h : Gap). build (length b) (added_at h file rs)) (sym e)
+          ∙ ap (λ (h : Option Gap). build (length b) (added_at h file rs)) (sym e)

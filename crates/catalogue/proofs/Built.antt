@@ -13,7 +13,8 @@ use Rattle.boolean.specs.Functions.{at}
 use Rattle.boolean.proofs.Every.{both, both_true, zeros_are, zeros_true}
 use Rattle.boolean.proofs.Lists.{length_list_below, part_then}
 use Rattle.refusals.proofs.Bounds.{range_low, range_high, range_true}
-use Rattle.catalogue.specs.Format.{word_at, word, part, all_zero, Place, Item, accepted, count, place_at, places, item_at, records, stands, stand, valid, place_bytes, directory, body, place_of_item, build}
+use Rattle.catalogue.specs.declared.Place.{Place}
+use Rattle.catalogue.specs.Format.{word_at, word, part, all_zero, Item, accepted, count, place_at, places, item_at, records, stands, stand, valid, place_bytes, directory, body, place_of_item, build}
 use Rattle.catalogue.specs.Statements.{AllBytes, LieInOrder}
 
 -- Parts.

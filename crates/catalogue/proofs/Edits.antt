@@ -6,7 +6,8 @@ use native.Mathlib.Numerals.{add-one}
 use native.Mathlib.Omega.{arith}
 use lib.ListN.{length, take, drop, replicate, length-map, length-append}
 use lib.Seq.{sets, split_at, length-take-le}
-use Rattle.catalogue.specs.Format.{Item, Place, count, place_at, records, directory, body, place_of_item, build}
+use Rattle.catalogue.specs.declared.Place.{Place}
+use Rattle.catalogue.specs.Format.{Item, count, place_at, records, directory, body, place_of_item, build}
 use Rattle.catalogue.specs.Work.{closed, opened}
 use Rattle.catalogue.specs.Calls.{no_item, record_at, without}
 use Rattle.catalogue.specs.Statements.{AllBytes, LieInOrder}

@@ -1,10 +1,9 @@
 -- A catalogue byte by byte: two numbers of which the high byte is not the low one stand in each place of the directory, so that the order
 -- of the bytes and that of offset and length both show. Round trips alone would hold in any order. Assumes nothing.
-use Prim.Native.Nat.{ℕ}
 use mathlib.Core.Path.{◌≡◌, refl}
-use mathlib.Core.Bool.{Bool, true, false, ◌&&◌}
-use mathlib.Core.List.{List, [], ◌∷◌, ◌++◌, map}
-use lib.ListN.{replicate, length, take, drop, get_or}
+use mathlib.Core.Bool.{true, false}
+use mathlib.Core.List.{[], ◌∷◌, ◌++◌}
+use lib.ListN.{replicate}
 use Rattle.boolean.specs.Sums.{each, every, list_from, list_below}
 use Rattle.refusals.specs.Table.{first}
 use Rattle.boxfile.specs.File.{row_at, file_rows, read_checks, file_checks, file_found}

@@ -9,16 +9,22 @@ use borrow.Author.Tests.{leb-true, le-leb, lt-leb}
 use lib.Dec.{leb}
 use lib.ListN.{length, take, drop}
 use Rattle.boolean.specs.Sums.{list_from, list_below}
-use Rattle.catalogue.specs.declared.Gap.TheVariants.{Starts, Nowhere}
-use Rattle.catalogue.specs.Format.{Place, Item, count, place_at, places, item_at, records, stand, valid}
-use Rattle.catalogue.specs.Calls.{lowest}
-use Rattle.catalogue.specs.Statements.{LieInOrder}
+use Rattle.catalogue.specs.declared.Place.{Place}
+use Rattle.catalogue.specs.Format.{Item, count, place_at, places, item_at, records, stand, valid}
+use Rattle.catalogue.specs.declared.Gap.{Gap}
+use Rattle.catalogue.specs.Calls.{lowest, gap_index}
+use Rattle.catalogue.specs.Statements.{LieInOrder, gap_start}
 use Rattle.catalogue.proofs.Built.{Stands, stand_cons, valid_says, length_part}
 use Rattle.catalogue.proofs.Bodies.{ends}
+use Rattle.std.proofs.Common.{Option, Some, None}
+
+-- a gap with this index and this start
+abbrev pub starts : (index start : ℕ) → Option Gap
+starts index start = Some (record { index = index; start = start })
 
 -- one line of the search
 module _ (need size k pos : ℕ) where
-  lowest_here : (r : Item) (rs : List Item) → pos + need ≤ r.start → lowest need size k pos (r ∷ rs) ≡ Starts k pos
+  lowest_here : (r : Item) (rs : List Item) → pos + need ≤ r.start → lowest need size k pos (r ∷ rs) ≡ starts k pos
   unfolding lowest
   lowest_here r rs h = rw (le-leb (pos + need) r.start h, lowest)
 
@@ -26,11 +32,11 @@ module _ (need size k pos : ℕ) where
   unfolding lowest
   lowest_past r rs h = rw (lt-leb (pos + need) r.start h, lowest)
 
-  lowest_end : pos + need ≤ size → lowest need size k pos [] ≡ Starts k pos
+  lowest_end : pos + need ≤ size → lowest need size k pos [] ≡ starts k pos
   unfolding lowest
   lowest_end h = rw (le-leb (pos + need) size h, lowest)
 
-  lowest_none : size < pos + need → lowest need size k pos [] ≡ Nowhere
+  lowest_none : size < pos + need → lowest need size k pos [] ≡ None
   unfolding lowest
   lowest_none h = rw (lt-leb (pos + need) size h, lowest)
 
@@ -66,7 +72,7 @@ module _ {b : List ℕ} {n need start k : ℕ} (s : Searching b n need start k) 
   search_past h = (here h).0.past
 
   -- the gap before the next record is long enough
-  pub search_found : k < n → start + need ≤ (place_at b k).offset → Starts k start ≡ lowest need (length b) 0 258 (records b)
+  pub search_found : k < n → start + need ≤ (place_at b k).offset → starts k start ≡ lowest need (length b) 0 258 (records b)
   search_found h long =
       sym (ap (λ (l : List Place). lowest need (length b) k start (map (item_at b) l)) (next h) ∙ lowest_here need (length b) k start (item_at b (place_at b k)) (map (item_at b) (list_from (k + 1) (n - (k + 1)) (λ i. place_at b i))) long) ∙ s.same
 
@@ -95,10 +101,10 @@ module _ {b : List ℕ} {n need start k : ℕ} (s : Searching b n need start k) 
       sym (ap (λ (m : ℕ). lowest need (length b) k start (map (item_at b) (list_from k m (λ i. place_at b i)))) z) ∙ s.same
 
   -- behind the last record
-  pub search_last : n ≤ k → start + need ≤ length b → Starts k start ≡ lowest need (length b) 0 258 (records b)
+  pub search_last : n ≤ k → start + need ≤ length b → starts k start ≡ lowest need (length b) 0 258 (records b)
   search_last h long = sym (lowest_end need (length b) k start long) ∙ none_left h
 
-  pub search_nowhere : n ≤ k → length b < start + need → Nowhere ≡ lowest need (length b) 0 258 (records b)
+  pub search_nowhere : n ≤ k → length b < start + need → None ≡ lowest need (length b) 0 258 (records b)
   search_nowhere h short = sym (lowest_none need (length b) k start short) ∙ none_left h
 
 -- a gap that is found: it begins where the records before it end, and the file fits between
@@ -109,24 +115,24 @@ pub record Found (need size k pos : ℕ) (rs : List Item) (index start : ℕ) : 
   pub begins : start ≡ ends pos (take before rs)
   pub room : LieInOrder (start + need) size (drop before rs)
 
-pub lowest_found : (need size k pos : ℕ) (rs : List Item) (index start : ℕ) → LieInOrder pos size rs → lowest need size k pos rs ≡ Starts index start → Found need size k pos rs index start
+pub lowest_found : (need size k pos : ℕ) (rs : List Item) (index start : ℕ) → LieInOrder pos size rs → lowest need size k pos rs ≡ starts index start → Found need size k pos rs index start
 unfolding lowest ends
 lowest_found need size k pos [] index start f e = by (leb (pos + need) size) refl e
   where
-    by : (t : Bool) → leb (pos + need) size ≡ t → elim t [ true ↦ Starts k pos | false ↦ Nowhere ] ≡ Starts index start → Found need size k pos [] index start
+    by : (t : Bool) → leb (pos + need) size ≡ t → elim t [ true ↦ starts k pos | false ↦ None ] ≡ starts index start → Found need size k pos [] index start
     by true h e =
-        let i : k ≡ index = cc in
-        let s : pos ≡ start = cc in
+        let i : k ≡ index = ap gap_index e in
+        let s : pos ≡ start = ap gap_start e in
         let l = leb-true (pos + need) size h in
         record { before = 0; counts = omega arith; among = zero-le; begins = sym s; room = omega arith }
     by false h e = absurd (let z : ◌≡◌ {A = ℕ} 0 1 = cc in omega arith)
 lowest_found need size k pos (r ∷ rs) index start f e = by (λ e. lowest_found need size (k + 1) (r.start + length r.bytes) rs index start f.2 e) (leb (pos + need) r.start) refl e
   where
-    by : (lowest need size (k + 1) (r.start + length r.bytes) rs ≡ Starts index start → Found need size (k + 1) (r.start + length r.bytes) rs index start)
-        → (t : Bool) → leb (pos + need) r.start ≡ t → elim t [ true ↦ Starts k pos | false ↦ lowest need size (k + 1) (r.start + length r.bytes) rs ] ≡ Starts index start → Found need size k pos (r ∷ rs) index start
+    by : (lowest need size (k + 1) (r.start + length r.bytes) rs ≡ starts index start → Found need size (k + 1) (r.start + length r.bytes) rs index start)
+        → (t : Bool) → leb (pos + need) r.start ≡ t → elim t [ true ↦ starts k pos | false ↦ lowest need size (k + 1) (r.start + length r.bytes) rs ] ≡ starts index start → Found need size k pos (r ∷ rs) index start
     by rec true h e =
-        let i : k ≡ index = cc in
-        let s : pos ≡ start = cc in
+        let i : k ≡ index = ap gap_index e in
+        let s : pos ≡ start = ap gap_start e in
         let l = leb-true (pos + need) r.start h in
         record { before = 0; counts = omega arith; among = zero-le; begins = sym s; room = (omega arith, f.1, f.2) }
     by rec false h e =

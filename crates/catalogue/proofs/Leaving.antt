@@ -15,13 +15,14 @@ use Rattle.refusals.specs.Table.{is_accepted}
 use Rattle.refusals.proofs.Checks.{passed}
 use Rattle.boxfile.specs.File.{file_checks, alone_checks, file_found}
 use Rattle.catalogue.specs.declared.Gap.{Gap}
-use Rattle.catalogue.specs.declared.Gap.TheVariants.{Starts, Nowhere}
 use Rattle.catalogue.specs.Format.{Item, accepted, count, records, valid, build}
 use Rattle.catalogue.specs.Calls.{no_item, record_at, without, lowest, gap_for, is_gap, added_at, without_gaps, removed, added, compacted}
 use Rattle.catalogue.specs.Statements.{LieInOrder, Holds, bytes_taken}
 use Rattle.catalogue.proofs.Built.{Valid, valid_says, records_fit, length_records, build_length, build_records, build_valid}
 use Rattle.catalogue.proofs.Bodies.{ends, fits_rest, fits_join, fits_lower}
 use Rattle.catalogue.proofs.Adding.{Accepts, gap_found}
+use Rattle.catalogue.proofs.GapSearch.{starts}
+use Rattle.std.proofs.Common.{Option, None}
 
 -- A file that is accepted has a byte.
 pub accepted_some : (file : List ℕ) → file_found file ≡ (Ok tt) → 0 < length file
@@ -74,14 +75,14 @@ pub lowest_without_gaps : (need size k pos : ℕ) (rs : List Item) → 0 < need 
 unfolding lowest without_gaps bytes_taken
 lowest_without_gaps need size k pos [] h = by (leb (pos + need) size) refl
   where
-    by : (t : Bool) → leb (pos + need) size ≡ t → is_gap (elim t [ true ↦ Starts k pos | false ↦ Nowhere ]) ≡ leb (pos + 0 + need) size
+    by : (t : Bool) → leb (pos + need) size ≡ t → is_gap (elim t [ true ↦ starts k pos | false ↦ None ]) ≡ leb (pos + 0 + need) size
     by true e = let z : pos + need ≡ pos + 0 + need = omega arith in sym e ∙ ap (λ (x : ℕ). leb x size) z
     by false e = let z : pos + need ≡ pos + 0 + need = omega arith in sym e ∙ ap (λ (x : ℕ). leb x size) z
 lowest_without_gaps need size k pos (r ∷ rs) h =
     let n = length r.bytes in
     let none : leb (pos + need) pos ≡ false = lt-leb (pos + need) pos (omega arith) in
     let z : pos + n + bytes_taken rs + need ≡ pos + (n + bytes_taken rs) + need = omega arith in
-    ap (λ (t : Bool). is_gap (elim t [ true ↦ Starts k pos | false ↦ lowest need size (k + 1) (pos + n) (without_gaps (pos + n) rs) ])) none
+    ap (λ (t : Bool). is_gap (elim t [ true ↦ starts k pos | false ↦ lowest need size (k + 1) (pos + n) (without_gaps (pos + n) rs) ])) none
     ∙ lowest_without_gaps need size (k + 1) (pos + n) rs h ∙ ap (λ (x : ℕ). leb x size) z
 
 -- What is left is valid, and has the records that its equation names.
@@ -125,7 +126,7 @@ module _ (b : List ℕ) (whole : valid b ≡ true) where
 
 module _ (b file : List ℕ) (t : Accepts b file) where
   pub added_is_at : added_at (gap_for b file) file (records b) ≡ take t.index (records b) ++ (record { start = t.start; bytes = file } ∷ drop t.index (records b))
-  added_is_at = ap (λ (g : Gap). added_at g file (records b)) t.gap
+  added_is_at = ap (λ (g : Option Gap). added_at g file (records b)) t.gap
 
   pub added_fit : LieInOrder 258 (length b) (added_at (gap_for b file) file (records b))
   unfolding accepted

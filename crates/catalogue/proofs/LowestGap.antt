@@ -13,7 +13,6 @@ use lib.Seq.{get_or-drop}
 use Rattle.refusals.specs.Table.{first}
 use Rattle.refusals.proofs.Checks.{found, skip, end, is_accepted_lem}
 use Rattle.catalogue.specs.declared.Gap.{Gap}
-use Rattle.catalogue.specs.declared.Gap.TheVariants.{Starts, Nowhere}
 use Rattle.catalogue.specs.Format.{Item, accepted, count, place_at, records, valid}
 use Rattle.catalogue.specs.Calls.{index_checks, no_item, record_at, removed, lowest, gap_for}
 use Rattle.catalogue.specs.Rules.{InRecord}
@@ -23,6 +22,8 @@ use Rattle.catalogue.proofs.Bodies.{ends}
 use Rattle.catalogue.proofs.Indexed.{Indexed, indexed, lies}
 use Rattle.catalogue.proofs.Adding.{Accepts, gap_found, gap_room}
 use Rattle.catalogue.proofs.Leaving.{accepted_some, cut_at, fits_cut, leaves_removed, length_removed}
+use Rattle.catalogue.proofs.GapSearch.{starts}
+use Rattle.std.proofs.Common.{Option, Some, None}
 
 -- where the record of an index begins and ends, in a list of records
 abbrev begin : List Item → ℕ → ℕ
@@ -36,9 +37,9 @@ abbrev Clear : ℕ → ℕ → List Item → Type 0
 Clear p need rs = (k i : ℕ) → k < length rs → begin rs k ≤ i → i < past rs k → p ≤ i → i < p + need → ⊥
 
 -- a gap that starts at p or lower
-abbrev pub Reaches : ℕ → Gap → Type 0
-Reaches p (Starts index start) = start ≤ p
-Reaches p Nowhere = ⊥
+abbrev pub Reaches : ℕ → Option Gap → Type 0
+Reaches p (Some gap) = gap.start ≤ p
+Reaches p None = ⊥
 
 some_bytes : (bytes : List ℕ) → accepted bytes ≡ true → 0 < length bytes
 unfolding accepted
@@ -58,14 +59,14 @@ reaches : (need size k pos p : ℕ) (rs : List Item) → 0 < need → LieInOrder
 unfolding lowest
 reaches need size k pos p [] n f low inside out = by (leb (pos + need) size) refl
   where
-    by : (t : Bool) → leb (pos + need) size ≡ t → Reaches p (elim t [ true ↦ Starts k pos | false ↦ Nowhere ])
+    by : (t : Bool) → leb (pos + need) size ≡ t → Reaches p (elim t [ true ↦ starts k pos | false ↦ None ])
     by true e = low
     by false e = let l = leb-false (pos + need) size e in omega arith
 reaches need size k pos p (r ∷ rs) n f low inside out =
     by (λ l. reaches need size (k + 1) (r.start + length r.bytes) p rs n f.2 l inside (λ j i m. out (suc j) i (omega arith))) (leb (pos + need) r.start) refl
   where
     by : (r.start + length r.bytes ≤ p → Reaches p (lowest need size (k + 1) (r.start + length r.bytes) rs))
-        → (t : Bool) → leb (pos + need) r.start ≡ t → Reaches p (elim t [ true ↦ Starts k pos | false ↦ lowest need size (k + 1) (r.start + length r.bytes) rs ])
+        → (t : Bool) → leb (pos + need) r.start ≡ t → Reaches p (elim t [ true ↦ starts k pos | false ↦ lowest need size (k + 1) (r.start + length r.bytes) rs ])
     by rec true e = low
     by rec false e =
         let l = leb-false (pos + need) r.start e in

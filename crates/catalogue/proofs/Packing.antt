@@ -8,7 +8,8 @@ use native.Mathlib.Omega.{arith}
 use lib.ListN.{length, get_or, replicate, length-map, length-append}
 use lib.Seq.{sets, get_or_at}
 use Rattle.boolean.proofs.Lists.{get_or_list_below}
-use Rattle.catalogue.specs.Format.{Place, Item, part, word, count, place_at, places, records, valid, directory, body, place_of_item, build}
+use Rattle.catalogue.specs.declared.Place.{Place}
+use Rattle.catalogue.specs.Format.{Item, part, word, count, place_at, places, records, valid, directory, body, place_of_item, build}
 use Rattle.catalogue.specs.Work.{slid_down}
 use Rattle.catalogue.specs.Calls.{without_gaps}
 use Rattle.catalogue.specs.Statements.{AllBytes, LieInOrder}

@@ -20,7 +20,8 @@ use Rattle.boolean.proofs.Every.{both_true}
 use Rattle.refusals.proofs.Bounds.{below_at, below_true}
 use Rattle.refusals.proofs.Checks.{is_accepted_lem}
 use Rattle.boxfile.specs.File.{file_found}
-use Rattle.catalogue.specs.Format.{Place, part, all_zero, accepted, count, place_at, places, stand, valid}
+use Rattle.catalogue.specs.declared.Place.{Place}
+use Rattle.catalogue.specs.Format.{part, all_zero, accepted, count, place_at, places, stand, valid}
 use Rattle.catalogue.specs.Rules.{offset, size, InRecord, Rules}
 use Rattle.catalogue.proofs.Built.{Stands, stands_true, stand_cons, Valid, valid_says, valid_true, length_part}
 use Rattle.catalogue.proofs.Leaving.{accepted_some}

@@ -22,7 +22,6 @@ use Rattle.refusals.proofs.Checks.{passed, found, skip, end, is_accepted_lem, af
 use Rattle.boxfile.specs.File.{file_found, file_rows}
 use Rattle.boxfile.proofs.FileRows.{box_of_file}
 use Rattle.catalogue.specs.declared.Gap.{Gap}
-use Rattle.catalogue.specs.declared.Gap.TheVariants.{Starts, Nowhere}
 use Rattle.catalogue.specs.Format.{Item, word, place_at, item_at, accepted, count, records, valid, directory, body, build}
 use Rattle.catalogue.specs.Calls.{catalogue_checks, index_checks, no_item, record_at, PartOf, Handed, without, removed, lowest, gap_for, is_gap, gap_index}
 use Rattle.catalogue.specs.Calls.{offered_checks, add_checks, added_at, added, without_gaps, compacted}
@@ -34,6 +33,7 @@ use Rattle.catalogue.proofs.Leaving.{accepted_some, leaves, cut_at, fewer_left, 
 use Rattle.catalogue.proofs.Leaving.{without_gaps_few, without_gaps_fit, leaves_compacted, added_is_at, added_fit, added_few, leaves_added}
 use Rattle.catalogue.proofs.RuleByRule.{rules}
 use Rattle.catalogue.proofs.LowestGap.{Reaches, free_reached, gap_free, removed_free, free_fewer}
+use Rattle.std.proofs.Common.{Option, Some, None}
 
 -- ---- Each accepted writing call leaves a valid catalogue, with exactly the records that its equation names.
 
@@ -86,13 +86,13 @@ removed_serves b file index h good short = by (gap_for (removed b index) file) r
         let i = indexed b index h in
         omega (arith, length_records (removed b index), ap length left.holds, fewer_left b i.whole index (cut_at b index i.below))
 
-    by : (g : Gap) → gap_for (removed b index) file ≡ g
+    by : (g : Option Gap) → gap_for (removed b index) file ≡ g
         → (first (add_checks (removed b index) file) ≡ (Ok tt)) × (gap_start (gap_for (removed b index) file) ≤ start)
-    by (Starts i s) e = (
+    by (Some found) e = (
       add_accepted (removed b index) file (offered (removed b index) file left.whole good) room e,
-      subst (λ (g : Gap). gap_start g ≤ start) (sym e) (subst (Reaches start) e reached),
+      subst (λ (g : Option Gap). gap_start g ≤ start) (sym e) (subst (Reaches start) e reached),
     )
-    by Nowhere e = absurd (subst (Reaches start) e reached)
+    by None e = absurd (subst (Reaches start) e reached)
 
 -- ---- Fetching hands back the part of the lent catalogue that the directory's place of that index names, not a copy; refused, an empty part.
 module _ (lent part : Bor (List ℕ)) (index : ℕ) (handed : Handed lent index part) where
@@ -181,17 +181,17 @@ module _ (b file : List ℕ) (h : first (add_checks b file) ≡ (Ok tt)) where
   added_free = subst (λ (s : ℕ). Free b s (length file)) (sym (ap gap_start t.gap)) (gap_free b file t)
 
   pub added_lowest : (p : ℕ) → Free b p (length file) → gap_start (gap_for b file) ≤ p
-  added_lowest p f = subst (λ (g : Gap). gap_start g ≤ p) (sym t.gap) (subst (Reaches p) t.gap (free_reached b t.whole file p (accepted_some file t.good) f))
+  added_lowest p f = subst (λ (g : Option Gap). gap_start g ≤ p) (sym t.gap) (subst (Reaches p) t.gap (free_reached b t.whole file p (accepted_some file t.good) f))
 
 -- ---- 14, where the catalogue and the file are accepted: 64 records stand, or so many free bytes lie nowhere.
 pub no_room : (b file : List ℕ) → first (offered_checks b file) ≡ (Ok tt) → first (add_checks b file) ≡ Err NoRoom → (count b ≡ 64) ⊎ ((p : ℕ) → Free b p (length file) → ⊥)
 no_room b file ok h = by (ltb (count b) 64) refl (gap_for b file) refl
   where
-    by : (t : Bool) → ltb (count b) 64 ≡ t → (g : Gap) → gap_for b file ≡ g → (count b ≡ 64) ⊎ ((p : ℕ) → Free b p (length file) → ⊥)
+    by : (t : Bool) → ltb (count b) 64 ≡ t → (g : Option Gap) → gap_for b file ≡ g → (count b ≡ 64) ⊎ ((p : ℕ) → Free b p (length file) → ⊥)
     by false e g f = inl (omega (arith, ltb-false (count b) 64 e, (valid_says b (offered_whole b file ok)).most))
-    by true e (Starts i s) f =
+    by true e (Some found) f =
         absurd (let z = sym h ∙ add_accepted b file ok (ltb-true (count b) 64 e) f in let y : ◌≡◌ {A = ℕ} 0 1 = cc in omega arith)
-    by true e Nowhere f = inr (λ p free. subst (Reaches p) f (free_reached b (offered_whole b file ok) file p (accepted_some file (offered_good b file ok)) free))
+    by true e None f = inr (λ p free. subst (Reaches p) f (free_reached b (offered_whole b file ok) file p (accepted_some file (offered_good b file ok)) free))
 
 -- ---- Right after compaction an accepted file is added exactly if fewer than 64 records stand and the free bytes in all are enough; else the answer is 14.
 pub add_after_compaction : (b file : List ℕ) → first (offered_checks b file) ≡ (Ok tt)
@@ -218,13 +218,13 @@ add_after_compaction b file ok = by (ltb (count b) 64) refl (lowest (length file
     gap = ap₂ (λ (n : ℕ) (rs : List Item). is_gap (lowest (length file) n 0 258 rs)) (build_length (length b) (without_gaps 258 (records b)) (without_gaps_few b whole) (without_gaps_fit b whole)) left.holds
         ∙ lowest_without_gaps (length file) (length b) 0 258 (records b) (accepted_some file (offered_good b file ok))
 
-    by : (t : Bool) → ltb (count b) 64 ≡ t → (g : Gap) → lowest (length file) (length c) 0 258 (records c) ≡ g
+    by : (t : Bool) → ltb (count b) 64 ≡ t → (g : Option Gap) → lowest (length file) (length c) 0 258 (records c) ≡ g
         → first (add_checks c file) ≡ room_found (ltb (count b) 64 && leb (258 + bytes_taken (records b) + length file) (length b))
     by false e g h = add_full c file still (omega (arith, same_count, ltb-false (count b) 64 e)) ∙ ap (λ (x : Bool). room_found (x && leb (258 + bytes_taken (records b) + length file) (length b))) (sym e)
-    by true e (Starts i s) h =
+    by true e (Some found) h =
         add_accepted c file still (omega (arith, same_count, ltb-true (count b) 64 e)) h
         ∙ ap₂ (λ (x y : Bool). room_found (x && y)) (sym e) (sym (ap is_gap h) ∙ gap)
-    by true e Nowhere h =
+    by true e None h =
         add_nowhere c file still (omega (arith, same_count, ltb-true (count b) 64 e)) h
         ∙ ap₂ (λ (x y : Bool). room_found (x && y)) (sym e) (sym (ap is_gap h) ∙ gap)
 

@@ -3,13 +3,12 @@ use Rattle.catalogue.specs.declared.Extent.{Extent}
 use Rattle.std.specs.Prelude.{Ok, Err}
 use Rattle.std.specs.Prelude.{Result, ⊤}
 use Rattle.refusals.specs.declared.Refusal.{Refusal}
-use Rattle.std.specs.Prelude.{ℕ, ◌+◌, ◌≡◌, Bool, true, false, List, [], ◌∷◌, ◌++◌, ltb, leb, get_or, length, take, drop}
+use Rattle.std.specs.Prelude.{ℕ, ◌+◌, ◌≡◌, Bool, true, false, List, [], ◌∷◌, ◌++◌, ltb, leb, Option, Some, None, get_or, length, take, drop}
 use Rattle.std.specs.Borrow.{Bor}
 use Rattle.refusals.specs.Table.{Check, ◌unless◌, first, Reply, figures, refusal, number, reply_after, after, Wrote, said_written}
 use Rattle.refusals.specs.declared.Refusal.TheVariants.{Catalogue, NoRoom, NoRecord}
 use Rattle.boxfile.specs.File.{file_checks, alone_checks}
 use Rattle.catalogue.specs.declared.Gap.{Gap}
-use Rattle.catalogue.specs.declared.Gap.TheVariants.{Starts, Nowhere}
 use Rattle.catalogue.specs.Format.{Item, count, records, valid, build, records_start}
 
 -- what the answers say: one number, or where a record lies and its length; or the number of the refusal
@@ -71,24 +70,25 @@ RemoveCalled b index answer left = Wrote (index_checks b index) [] (removed b in
 
 -- Adding. The lowest gap of `need` bytes, from a position on: the gap before the next record, or else one behind it; k is that record's
 -- index.
-unfoldable pub lowest : (need size k pos : ℕ) (rs : List Item) → Gap
-lowest need size k pos [] = elim (leb (pos + need) size) [ true ↦ Starts k pos | false ↦ Nowhere ]
+unfoldable pub lowest : (need size k pos : ℕ) (rs : List Item) → Option Gap
+lowest need size k pos [] = elim (leb (pos + need) size) [ true ↦ Some (record { index = k; start = pos }) | false ↦ None ]
 lowest need size k pos (r ∷ rs) =
-    elim (leb (pos + need) r.start) [ true ↦ Starts k pos | false ↦ lowest need size (k + 1) (r.start + length r.bytes) rs ]
+    elim (leb (pos + need) r.start)
+    [ true ↦ Some (record { index = k; start = pos }) | false ↦ lowest need size (k + 1) (r.start + length r.bytes) rs ]
 
 -- the gap that a file is put into
-unfoldable pub gap_for : (b file : List ℕ) → Gap
+unfoldable pub gap_for : (b file : List ℕ) → Option Gap
 unfolding lowest records
 gap_for b file = lowest (length file) (length b) 0 records_start (records b)
 
-abbrev pub is_gap : Gap → Bool
-is_gap (Starts index start) = true
-is_gap Nowhere = false
+abbrev pub is_gap : Option Gap → Bool
+is_gap (Some gap) = true
+is_gap None = false
 
 -- the index of the new record (without a gap the call is refused by 14: that 0 is never answered)
-abbrev pub gap_index : Gap → ℕ
-gap_index (Starts index start) = index
-gap_index Nowhere = 0
+abbrev pub gap_index : Option Gap → ℕ
+gap_index (Some gap) = gap.index
+gap_index None = 0
 
 -- the checks of a file that is offered to a catalogue: the catalogue, then the file's own
 unfoldable pub offered_checks : (b file : List ℕ) → List Check
@@ -102,9 +102,9 @@ add_checks b file =
     offered_checks b file ++ ((NoRoom unless ltb (count b) 64) ∷ (NoRoom unless is_gap (gap_for b file)) ∷ [])
 
 -- the records with a file in a gap
-abbrev pub added_at : (gap : Gap) (file : List ℕ) (rs : List Item) → List Item
-added_at (Starts index start) file rs = take index rs ++ (record { start = start; bytes = file } ∷ drop index rs)
-added_at Nowhere file rs = rs
+abbrev pub added_at : (gap : Option Gap) (file : List ℕ) (rs : List Item) → List Item
+added_at (Some gap) file rs = take gap.index rs ++ (record { start = gap.start; bytes = file } ∷ drop gap.index rs)
+added_at None file rs = rs
 
 abbrev pub added : (b file : List ℕ) → List ℕ
 added b file = build (length b) (added_at (gap_for b file) file (records b))

@@ -4,6 +4,7 @@ use Rattle.boolean.specs.Sums.{list_below, each}
 use Rattle.boolean.specs.Functions.{at}
 use Rattle.refusals.specs.Table.{in_range, all_below, is_accepted}
 use Rattle.boxfile.specs.File.{file_found}
+use Rattle.catalogue.specs.declared.Place.{Place}
 
 -- a number in two bytes, low byte first: as it is read, and as it is written
 unfoldable pub word_at : (b : List ℕ) (i : ℕ) → ℕ
@@ -24,11 +25,7 @@ part start size b = take size (drop start b)
 abbrev pub all_zero : List ℕ → Bool
 all_zero bytes = all_below 1 bytes
 
--- a place of the directory, and a record with its bytes
-pub record Place : Type 0 where
-  pub offset : ℕ
-  pub size : ℕ
-
+-- a record with its bytes
 pub record Item : Type 0 where
   pub start : ℕ
   pub bytes : List ℕ

@@ -1,11 +1,10 @@
 -- What the theorems beside the contracts say; no contract needs it.
 use Rattle.std.specs.Prelude.{Result, Ok, Err, ⊤}
 use Rattle.refusals.specs.declared.Refusal.{Refusal}
-use Rattle.std.specs.Prelude.{ℕ, ◌+◌, ◌≤◌, ◌<◌, ◌≡◌, Bool, true, false, List, [], ◌∷◌, ◌++◌, length, replicate}
+use Rattle.std.specs.Prelude.{ℕ, ◌+◌, ◌≤◌, ◌<◌, ◌≡◌, Bool, true, false, List, [], ◌∷◌, ◌++◌, Option, Some, None, length, replicate}
 use Rattle.boolean.specs.Functions.{at}
 use Rattle.refusals.specs.declared.Refusal.TheVariants.{NoRoom}
 use Rattle.catalogue.specs.declared.Gap.{Gap}
-use Rattle.catalogue.specs.declared.Gap.TheVariants.{Starts, Nowhere}
 use Rattle.catalogue.specs.Format.{Item, accepted, count, records, valid, records_start}
 use Rattle.catalogue.specs.Rules.{InRecord}
 
@@ -30,9 +29,9 @@ pub record Free (b : List ℕ) (pos need : ℕ) : Type 0 where
   pub none : (k i : ℕ) → k < count b → InRecord b k i → pos ≤ i → i < pos + need → ⊥
 
 -- where a gap starts
-abbrev pub gap_start : Gap → ℕ
-gap_start (Starts index start) = start
-gap_start Nowhere = 0
+abbrev pub gap_start : Option Gap → ℕ
+gap_start (Some gap) = gap.start
+gap_start None = 0
 
 -- how many bytes the records take
 unfoldable pub bytes_taken : List Item → ℕ

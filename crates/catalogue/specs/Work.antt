@@ -1,7 +1,8 @@
 -- What the functions behind the calls leave.
 use Rattle.std.specs.Prelude.{ℕ, ◌+◌, ◌-◌, ◌*◌, List, ◌++◌, take, drop, replicate}
 use Rattle.std.proofs.lemmas.List.Edits.{sets}
-use Rattle.catalogue.specs.Format.{Place, part, word}
+use Rattle.catalogue.specs.declared.Place.{Place}
+use Rattle.catalogue.specs.Format.{part, word}
 
 -- a place from its two numbers
 abbrev pub place_from : (offset size : ℕ) → Place

@@ -4,7 +4,7 @@
 ghost use Rattle.std.specs.Prelude.{◌≡◌, true, ◌+◌, ◌*◌, ◌<◌, ◌≤◌, length, replicate};
 ghost use Rattle.std.proofs.lemmas.List.Edits.{sets};
 ghost use Rattle.refusals.specs.Table.{first};
-ghost use Rattle.catalogue.specs.Format.{word_at, word, records_start, part, count, places, stands, stand, valid, records};
+ghost use Rattle.catalogue.specs.Format.{word_at, word, records_start, part, count, place_at, places, stands, stand, valid, records};
 ghost use Rattle.catalogue.specs.Work.{place_from, slid_down, slid_up, closed, opened};
 ghost use Rattle.catalogue.specs.Calls.{said_told, said_fetched, check_reply, index_checks, Handed, fetch_reply, RemoveCalled};
 ghost use Rattle.catalogue.specs.Calls.{lowest, offered_checks, AddCalled, compacted, CompactCalled};
@@ -21,11 +21,18 @@ pub struct Extent {
     pub size: u32,
 }
 
+// A place of the directory: where a record lies, and its length.
+#[derive(Clone, Copy)]
+struct Place {
+    offset: usize,
+    size: usize,
+}
+
 // A gap between the records: the index that a record there has, and its start.
 #[derive(Clone, Copy)]
-pub enum Gap {
-    Starts { index: usize, start: usize },
-    Nowhere,
+struct Gap {
+    index: usize,
+    start: usize,
 }
 
 // The number in two bytes, low byte first.
@@ -34,6 +41,17 @@ fn word_at(b: &[u8], i: usize) -> usize
     ensures { (result ≡ word_at b.now i) × (result < 65536) }
 {
     boxfile::two_bytes(b, i) as usize
+}
+
+// Place k of the directory.
+fn place_at(b: &[u8], k: usize) -> Place
+    requires { 4 * k + 5 < length b.now }
+    ensures { (result ≡ place_at b.now k) × (result.offset < 65536) × (result.size < 65536) }
+{
+    Place {
+        offset: word_at(b, 4 * k + 2),
+        size: word_at(b, 4 * k + 4),
+    }
 }
 
 // Whether a record stands at this place, past the end of what stands before it.
@@ -63,15 +81,12 @@ fn records_stand(b: &[u8], n: usize) -> bool
     ensures { result ≡ stand b.now records_start (places b.now) }
 {
     let mut end = RECORDS_START;
-    let mut k = 0;
-    while k < n {
-        let offset = word_at(b, 4 * k + 2);
-        let size = word_at(b, 4 * k + 4);
-        if !record_stands(b, end, offset, size) {
+    for k in 0..n {
+        let place = place_at(b, k);
+        if !record_stands(b, end, place.offset, place.size) {
             return false;
         }
-        end = offset + size;
-        k += 1;
+        end = place.offset + place.size;
     }
     refusals::values_below(&b[end..], 1)
 }
@@ -152,8 +167,7 @@ fn put_word(b: &mut [u8], i: usize, v: usize)
     requires { (i + 1 < length b.old) × (v < 65536) }
     ensures { b.new ≡ sets b.old i (word v) }
 {
-    b[i] = (v % 256) as u8;
-    b[i + 1] = (v / 256) as u8;
+    b[i..i + 2].copy_from_slice(&(v as u16).to_le_bytes());
 }
 
 // Clears the bytes of a part.
@@ -161,11 +175,7 @@ fn clear(b: &mut [u8], start: usize, size: usize)
     requires { start + size ≤ length b.old }
     ensures { b.new ≡ sets b.old start (replicate size 0) }
 {
-    let mut i = 0;
-    while i < size {
-        b[start + i] = 0;
-        i += 1;
-    }
+    b[start..start + size].fill(0);
 }
 
 // Copies the bytes of a file.
@@ -173,11 +183,7 @@ fn copy_in(b: &mut [u8], start: usize, file: &[u8])
     requires { start + length file.now ≤ length b.old }
     ensures { b.new ≡ sets b.old start file.now }
 {
-    let mut i = 0;
-    while i < file.len() {
-        b[start + i] = file[i];
-        i += 1;
-    }
+    b[start..start + file.len()].copy_from_slice(file);
 }
 
 // Moves bytes down over a gap of zeros: the gap is then behind them.
@@ -185,16 +191,10 @@ fn slide_down(b: &mut [u8], to: usize, gap: usize, size: usize)
     requires { (to + gap + size ≤ length b.old) × (part to gap b.old ≡ replicate gap 0) }
     ensures { b.new ≡ slid_down to gap size b.old }
 {
-    if gap == 0 {
-        return;
-    }
     let from = to + gap;
-    let mut i = 0;
-    while i < size {
-        b[to + i] = b[from + i];
-        b[from + i] = 0;
-        i += 1;
-    }
+    let behind = to + size;
+    b.copy_within(from..from + size, to);
+    b[behind..behind + gap].fill(0);
 }
 
 // Moves bytes up over a gap of zeros: the gap is then before them.
@@ -202,12 +202,8 @@ fn slide_up(b: &mut [u8], from: usize, size: usize, gap: usize)
     requires { (0 < gap) × (from + size + gap ≤ length b.old) × (part (from + size) gap b.old ≡ replicate gap 0) }
     ensures { b.new ≡ slid_up from size gap b.old }
 {
-    let mut i = size;
-    while 0 < i {
-        i -= 1;
-        b[from + i + gap] = b[from + i];
-        b[from + i] = 0;
-    }
+    b.copy_within(from..from + size, from + gap);
+    b[from..from + gap].fill(0);
 }
 
 // Takes place k out of the directory of n places.
@@ -249,25 +245,22 @@ pub fn remove(catalogue: &mut [u8], index: u32) -> Result<(), Refusal>
 }
 
 // The lowest gap that is long enough.
-fn find_gap(b: &[u8], n: usize, need: usize) -> Gap
+fn find_gap(b: &[u8], n: usize, need: usize) -> Option<Gap>
     requires { (valid b.now ≡ true) × (n ≡ count b.now) }
     ensures { result ≡ lowest need (length b.now) 0 records_start (records b.now) }
 {
     let mut start = RECORDS_START;
-    let mut k = 0;
-    while k < n {
-        let offset = word_at(b, 4 * k + 2);
-        let size = word_at(b, 4 * k + 4);
-        if need <= offset - start {
-            return Gap::Starts { index: k, start };
+    for index in 0..n {
+        let place = place_at(b, index);
+        if need <= place.offset - start {
+            return Some(Gap { index, start });
         }
-        start = offset + size;
-        k += 1;
+        start = place.offset + place.size;
     }
     if need <= b.len() - start {
-        return Gap::Starts { index: k, start };
+        return Some(Gap { index: n, start });
     }
-    Gap::Nowhere
+    None
 }
 
 // The checks of a catalogue and of a file that is offered to it.
@@ -291,7 +284,7 @@ pub fn add(catalogue: &mut [u8], file: &[u8]) -> Result<u32, Refusal>
     }
     let size = file.len();
     let gap = find_gap(catalogue, n, size);
-    let Gap::Starts { index, start } = gap else {
+    let Some(Gap { index, start }) = gap else {
         return Err(Refusal::NoRoom);
     };
     open_place(catalogue, n, index, start, size);
@@ -305,14 +298,11 @@ fn pack(b: &mut [u8], n: usize)
     ensures { b.new ≡ compacted b.old }
 {
     let mut to = RECORDS_START;
-    let mut k = 0;
-    while k < n {
-        let offset = word_at(b, 4 * k + 2);
-        let size = word_at(b, 4 * k + 4);
-        slide_down(b, to, offset - to, size);
+    for k in 0..n {
+        let place = place_at(b, k);
+        slide_down(b, to, place.offset - to, place.size);
         put_word(b, 4 * k + 2, to);
-        to += size;
-        k += 1;
+        to += place.size;
     }
 }
 

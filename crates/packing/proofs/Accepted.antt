@@ -1,7 +1,7 @@
 -- What the checks of both calls say where they accept, and back. Assumes nothing.
 use Rattle.std.specs.Prelude.{Ok}
 use Prim.Native.Nat.{ℕ, ◌*◌, ◌^◌, ◌≤◌, ◌<◌}
-use mathlib.Core.Path.{◌≡◌, sym, ◌∙◌}
+use mathlib.Core.Path.{◌≡◌, sym}
 use mathlib.Core.List.{List}
 use native.Mathlib.Nat.{mul-le-mul}
 use native.Mathlib.Decide.{dec_lt}
@@ -15,7 +15,6 @@ use Rattle.refusals.proofs.Bounds.{range_low, range_high, range_true, below_at, 
 use Rattle.refusals.proofs.Checks.{box, box_accepted, passed, accepted, accepted_after, found_after, skip, end}
 use Rattle.packing.specs.Packing.{column_bytes, used_bits, pack_checks, unpack_checks}
 use Rattle.packing.specs.Work.{Columns, Cleared}
-use Rattle.packing.proofs.Widths.{bytes_high}
 
 -- packing: a box, and the packed form's length
 pub pack_box : (n m : ℕ) (rows : List ℕ) (room : ℕ) → first (pack_checks n m rows room) ≡ (Ok tt) → Box n m rows

@@ -1,45 +1,29 @@
--- A loop that copies a list to the front of one that is 0. Assumes nothing.
-use mathlib.Core.Path.{◌≡◌, refl, sym, ◌∙◌, subst}
-use mathlib.Core.List.{List}
-use Prim.Native.Nat.{ℕ, ◌+◌, ◌≤◌, ◌<◌}
+-- A loop that stores one entry after the other, and a list that stands at the front of one that is 0. Assumes nothing.
+use mathlib.Core.Path.{◌≡◌, sym, ◌∙◌, subst}
+use mathlib.Core.List.{List, ◌++◌}
+use Prim.Native.Nat.{ℕ, ◌+◌, ◌-◌, ◌≤◌, ◌<◌}
 use native.Mathlib.Decide.{ℕ_discrete, dec_lt}
 use native.Mathlib.Omega.{arith}
-use lib.ListN.{length, set, length-set, get_or-eq_default}
-use lib.Seq.{get_or-set_same, get_or-set_other}
+use lib.ListN.{length, drop, set, get_or-append, get_or-eq_default}
+use lib.Seq.{get_or-set_same, get_or-set_other, get_or-append_right, get_or-drop}
 use Rattle.boolean.specs.Functions.{at}
 
-module _ (values : List ℕ) (room : ℕ) where
-  -- after i turns the first i entries are those of the list, and all others are 0
-  pub record Copied (i : ℕ) (padded : List ℕ) : Type 0 where
-    pub fits : length values ≤ room
-    pub within : i ≤ length values
-    pub long : length padded ≡ room
-    pub done : (k : ℕ) → k < i → at padded k ≡ at values k
-    pub rest : (k : ℕ) → i ≤ k → at padded k ≡ 0
+-- the entries before the next place are those of a rule, where those before this one are and the rule's stands here
+pub stored_next : (f : ℕ → ℕ) (l : List ℕ) (place next v : ℕ) → next ≡ place + 1 → place < length l → v ≡ f place
+    → ((q : ℕ) → q < place → at l q ≡ f q) → (q : ℕ) → q < next → at (set l place v) q ≡ f q
+stored_next f l place next v e inside is before q h = pick (ℕ_discrete q place)
+  where
+    pick : Dec (q ≡ place) → at (set l place v) q ≡ f q
+    pick (yes p) = subst (λ (j : ℕ). at (set l place v) j ≡ f j) (sym p) (get_or-set_same l place v 0 inside ∙ is)
+    pick (no n) = get_or-set_other l place q v 0 n ∙ before q (omega arith)
 
-  pub copied_none : (padded : List ℕ) → length values ≤ room → length padded ≡ room → ((k : ℕ) → at padded k ≡ 0) → Copied 0 padded
-  copied_none padded f e z = record { fits = f; within = omega arith; long = e; done = λ k h. absurd (omega arith); rest = λ k h. z k }
-
-  module _ (i : ℕ) (padded : List ℕ) (s : Copied i padded) where
-    module _ (lt : i < length values) (v : ℕ) (e : v ≡ at values i) where
-      done_more : (k : ℕ) → k < i + 1 → Dec (k ≡ i) → at (set padded i v) k ≡ at values k
-      done_more k h (yes p) =
-          subst (λ (j : ℕ). at (set padded i v) j ≡ at values j) (sym p) (get_or-set_same padded i v 0 (omega (arith, s.long, s.fits)) ∙ e)
-      done_more k h (no ne) = get_or-set_other padded i k v 0 ne ∙ s.done k (omega arith)
-
-      pub copied_more : Copied (i + 1) (set padded i v)
-      copied_more = record {
-        fits = s.fits;
-        within = omega arith;
-        long = length-set padded i v ∙ s.long;
-        done = λ k h. done_more k h (ℕ_discrete k i);
-        rest = λ k h. get_or-set_other padded i k v 0 (λ q. omega arith) ∙ s.rest k (omega arith);
-      }
-
-    pub copied_whole : length values ≤ i → (x : ℕ) → at padded x ≡ at values x
-    copied_whole h x = pick (dec_lt x (length values))
-      where
-        pick : Dec (x < length values) → at padded x ≡ at values x
-        pick (yes l) = s.done x (omega (arith, s.within))
-        pick (no l) =
-            s.rest x (omega (arith, s.within)) ∙ sym (get_or-eq_default values 0 (let ge : length values ≤ x = omega arith in ge))
+-- past its last entry stands 0
+pub padded_by : (values rest : List ℕ) → ((x : ℕ) → at rest x ≡ 0) → (x : ℕ) → at (values ++ drop (length values) rest) x ≡ at values x
+padded_by values rest none x = pick (dec_lt x (length values))
+  where
+    pick : Dec (x < length values) → at (values ++ drop (length values) rest) x ≡ at values x
+    pick (yes l) = get_or-append values (drop (length values) rest) 0 x l
+    pick (no l) =
+        let past : length values ≤ x = omega arith in
+        get_or-append_right values (drop (length values) rest) x 0 past ∙ get_or-drop (length values) rest (x - length values) 0
+        ∙ none (length values + (x - length values)) ∙ sym (get_or-eq_default values 0 past)

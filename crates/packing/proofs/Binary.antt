@@ -1,5 +1,5 @@
 -- A number from its bits, and its bits from the number. Assumes nothing.
-use mathlib.Core.Path.{◌≡◌, refl, sym, ap, ap₂, ◌∙◌}
+use mathlib.Core.Path.{◌≡◌, sym, ap, ap₂, ◌∙◌}
 use Prim.Native.Nat.{ℕ, zero, suc, ◌+◌, ◌*◌, ◌-◌, ◌/◌, ◌%◌, ◌^◌, ◌<◌, ◌≤◌}
 use native.Mathlib.Nat.{add_comm, add-zero, add-suc, add_assoc, zero-mul, mul-zero, mul-add, mul_left_comm, mod-eq_of_lt, mod-one, two-pow-succ, mul-le-mul_right, one-mul, div-eq_of_lt, lt_of_lt_of_le}
 use native.Mathlib.Numerals.{one-add}

@@ -1,6 +1,6 @@
 -- Packed columns byte by byte: which column comes first, and which truth value is the lowest bit of its byte. Round trips alone would hold
 -- in any order. Assumes nothing.
-use Prim.Native.Nat.{ℕ, max, min}
+use Prim.Native.Nat.{ℕ}
 use mathlib.Core.Path.{◌≡◌, refl}
 use mathlib.Core.List.{List, [], ◌∷◌}
 use Rattle.boolean.specs.Bits.{bit}

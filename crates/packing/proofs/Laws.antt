@@ -1,11 +1,9 @@
 -- What the words hold: the bytes of the packed form, and the bits of the rows. Assumes nothing.
-use mathlib.Core.Path.{◌≡◌, refl, sym, ap, ap₂, ◌∙◌, subst}
+use mathlib.Core.Path.{◌≡◌, sym, ap, ap₂, ◌∙◌}
 use mathlib.Core.List.{List}
 use Prim.Native.Nat.{ℕ, zero, suc, ◌+◌, ◌*◌, ◌-◌, ◌/◌, ◌%◌, ◌^◌, ◌<◌, ◌≤◌}
 use native.Mathlib.Nat.{zero-add, add-mul, mul-one, mul-le-mul_right, mod-lt, lt_of_lt_of_le, div-lt_iff_lt-mul}
 use native.Mathlib.Omega.{arith}
-use native.Mathlib.Decide.{dec_lt}
-use lib.Arith.{digits_lt}
 use lib.ListN.{length, get_or-eq_default}
 use lib.Pow.{pow_mono}
 use Rattle.boolean.specs.Bits.{bit}
@@ -13,12 +11,12 @@ use Rattle.boolean.specs.Sums.{total_below, list_below}
 use Rattle.boolean.specs.Functions.{at, column}
 use Rattle.boolean.proofs.Counts.{total_cong}
 use Rattle.boolean.proofs.Lists.{list_below_cong}
-use Rattle.packing.specs.Packing.{column_bytes, packed_byte, packed, packed_value, unpacked_row, unpacked, used_bits}
+use Rattle.packing.specs.Packing.{column_bytes, packed_byte, packed, packed_value, unpacked_row, unpacked}
 use Rattle.packing.specs.Work.{word_of, byte_of, eight, bits_gathered, Columns, Padded, GatheredWords, word_byte, four_bytes_at, BytesWords}
 use Rattle.packing.proofs.Binary.{bit_of_byte, bit_past, number_ends, four_bytes_of_bits}
-use Rattle.packing.proofs.Widths.{bytes_low, bytes_high, bytes_hold, used_most}
+use Rattle.packing.proofs.Widths.{bytes_low, bytes_hold, used_most}
 use Rattle.packing.proofs.Gathering.{byte_lt, word_is}
-use Rattle.packing.proofs.Places.{byte_column, byte_place, word_near, column_inside}
+use Rattle.packing.proofs.Places.{byte_column, byte_place, word_near}
 
 -- byte g of a word is that of the column 8 g + i + 1
 pub byte_of_four : (b : ℕ → ℕ) (i g : ℕ) → ((j : ℕ) → b j < 256) → g < 4 → word_of b i / 256 ^ g % 256 ≡ b (8 * g + i + 1)

@@ -1,17 +1,13 @@
 -- Where the bytes and words of columns stand. Assumes nothing.
-use mathlib.Core.Path.{◌≡◌, refl, sym, ap, ap₂, ◌∙◌, subst}
-use Prim.Native.Nat.{ℕ, zero, suc, ◌+◌, ◌*◌, ◌-◌, ◌/◌, ◌%◌, ◌^◌, ◌<◌, ◌≤◌}
-use native.Mathlib.Nat.{add-mul, one-mul, le_trans, le_of_eq, mod-lt, sub-le, mul-le-mul_right, mul_comm, pow-zero, pow-suc, div-lt_iff_lt-mul}
+use mathlib.Core.Path.{◌≡◌, refl, sym, ap, ap₂, ◌∙◌}
+use Prim.Native.Nat.{ℕ, zero, suc, ◌+◌, ◌*◌, ◌/◌, ◌%◌, ◌^◌, ◌<◌, ◌≤◌}
+use native.Mathlib.Nat.{add-mul, one-mul, mul-le-mul_right, pow-suc}
 use native.Mathlib.Omega.{arith}
 use lib.Arith.{digits_div, digits_mod}
-use lib.Pow.{pow_pos, pow_mono, pow-add, split}
+use lib.Pow.{pow-add}
 use mathlib.Core.List.{List}
 use Rattle.boolean.specs.Functions.{at}
 use Rattle.packing.specs.Work.{word_byte}
-
--- the entries of which gathering takes the bits lie before the last of them
-pub entry_near : (k gap : ℕ) → (7 - k) * gap ≤ 7 * gap
-entry_near k gap = mul-le-mul_right gap (sub-le 7 k)
 
 -- byte y of the column after j others, and the words of a group
 module _ (j y size : ℕ) (l : y < size) where

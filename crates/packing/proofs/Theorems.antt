@@ -10,7 +10,6 @@ use native.Mathlib.Decide.{dec_lt}
 use lib.ListN.{length, get_or-eq_default}
 use lib.Pow.{pow_pos, pow_mono}
 use Rattle.boolean.specs.Bits.{bit}
-use Rattle.boolean.specs.Sums.{total_below, list_below}
 use Rattle.boolean.specs.Functions.{at, column}
 use Rattle.boolean.proofs.Counts.{total_cong}
 use Rattle.boolean.proofs.Columns.{column_lt}

@@ -1,7 +1,7 @@
 -- How many bytes a column takes, and how many bits of a byte are used. Assumes nothing.
-use mathlib.Core.Path.{◌≡◌, refl, sym, ap, ◌∙◌}
+use mathlib.Core.Path.{◌≡◌, refl, ap, ◌∙◌}
 use Prim.Native.Nat.{ℕ, zero, suc, ◌+◌, ◌*◌, ◌-◌, ◌/◌, ◌^◌, ◌<◌, ◌≤◌, max}
-use native.Mathlib.Nat.{le_trans, max-eq_right, min-eq_left, min-eq_right, min-le_left, le-max_left, max-le}
+use native.Mathlib.Nat.{max-eq_right, min-eq_left, min-eq_right, min-le_left, le-max_left, max-le}
 use native.Mathlib.Decide.{dec_lt}
 use native.Mathlib.Omega.{arith}
 use lib.Pow.{pow_pos, pow_mono, pow-add, shl-shr}

@@ -42,24 +42,10 @@ fn gather(values: &[u32], start: usize, step: usize, i: u32) -> u32
     ensures { result ≡ bits_gathered values.now start step i }
 {
     let mut word: u64 = 0;
-    let mut k = 0;
-    while k < 8 {
+    for k in 0..8 {
         word = 2 * word + kept(values[start + (7 - k) * step], i);
-        k += 1;
     }
     (word >> i) as u32
-}
-
-// The rows, in an array that is 0 past them.
-fn pad_rows(rows: &[u32], padded: &mut [u32])
-    requires { (length rows.now ≤ length padded.old) × ((x : ℕ) → at padded.old x ≡ 0) }
-    ensures { Padded rows.now padded.new }
-{
-    let mut x = 0;
-    while x < rows.len() {
-        padded[x] = rows[x];
-        x += 1;
-    }
 }
 
 // The words of the columns i + 1, i + 9, i + 17 and i + 25.
@@ -70,10 +56,8 @@ fn gather_group(rows: &[u32], i: u32, size: usize, words: &mut [u32])
         → at words.new q ≡ bits_gathered rows.now (8 * (q % size)) 1 (q / size) }
 {
     let start = i as usize * size;
-    let mut y = 0;
-    while y < size {
+    for y in 0..size {
         words[start + y] = gather(rows, 8 * y, 1, i);
-        y += 1;
     }
 }
 
@@ -82,10 +66,8 @@ fn gather_words(rows: &[u32], size: usize, words: &mut [u32])
     requires { (1 ≤ size) × (size ≤ 32) × (length rows.now ≡ 256) × (length words.old ≡ 256) }
     ensures { GatheredWords rows.now size words.new }
 {
-    let mut i = 0;
-    while i < 8 {
+    for i in 0..8 {
         gather_group(rows, i, size, words);
-        i += 1;
     }
 }
 
@@ -106,10 +88,8 @@ fn write_column(words: &[u32], j: usize, size: usize, out: &mut [u8])
     let start = j * size;
     let from = (j % 8) * size;
     let group = (j / 8) as u32;
-    let mut y = 0;
-    while y < size {
+    for y in 0..size {
         out[start + y] = byte_of(words[from + y], group);
-        y += 1;
     }
 }
 
@@ -118,10 +98,8 @@ fn write_columns(words: &[u32], m: u32, size: usize, out: &mut [u8])
     requires { (m ≤ 32) × (1 ≤ size) × (size ≤ 32) × (length words.now ≡ 256) × (length out.old ≡ m * size) }
     ensures { out.new ≡ list_below (m * size) (word_byte words.now size) }
 {
-    let mut j = 0;
-    while j < m as usize {
+    for j in 0..m as usize {
         write_column(words, j, size, out);
-        j += 1;
     }
 }
 
@@ -132,7 +110,7 @@ fn pack_rows(n: u32, m: u32, rows: &[u32], padded: &mut [u32], words: &mut [u32]
         × GatheredWords padded.new (column_bytes n) words.new }
 {
     let size = column_bytes(n);
-    pad_rows(rows, padded);
+    padded[..rows.len()].copy_from_slice(rows);
     gather_words(padded, size, words);
     write_columns(words, m, size, out);
 }
@@ -160,26 +138,18 @@ pub fn pack(n: u32, m: u32, rows: &[u32], out: &mut [u8]) -> Result<(), Refusal>
     Ok(())
 }
 
-// The packed bytes, in an array that is 0 past them.
-fn pad_bytes(bytes: &[u8], padded: &mut [u8])
-    requires { (length bytes.now ≤ length padded.old) × ((x : ℕ) → at padded.old x ≡ 0) }
-    ensures { Padded bytes.now padded.new }
-{
-    let mut x = 0;
-    while x < bytes.len() {
-        padded[x] = bytes[x];
-        x += 1;
-    }
-}
-
 // The word of the bytes at q and 8, 16 and 24 columns after it.
 fn four_bytes(bytes: &[u8], size: usize, q: usize) -> u32
     requires { (size ≤ 32) × (length bytes.now ≡ 1024) × (q < 8 * size) }
     ensures { result ≡ four_bytes_at bytes.now size q }
 {
-    let low = boolean::wide(bytes[q]) + 256 * boolean::wide(bytes[q + 8 * size]);
-    let high = boolean::wide(bytes[q + 16 * size]) + 256 * boolean::wide(bytes[q + 24 * size]);
-    low + 65536 * high
+    let step = 8 * size;
+    u32::from_le_bytes([
+        bytes[q],
+        bytes[q + step],
+        bytes[q + 2 * step],
+        bytes[q + 3 * step],
+    ])
 }
 
 // The words of packed bytes.
@@ -187,10 +157,8 @@ fn join_words(bytes: &[u8], size: usize, words: &mut [u32])
     requires { (size ≤ 32) × (length bytes.now ≡ 1024) × (length words.old ≡ 256) }
     ensures { BytesWords bytes.now size words.new }
 {
-    let mut q = 0;
-    while q < 8 * size {
+    for q in 0..8 * size {
         words[q] = four_bytes(bytes, size, q);
-        q += 1;
     }
 }
 
@@ -199,10 +167,8 @@ fn write_rows(words: &[u32], size: usize, out: &mut [u32])
     requires { (size ≤ 32) × (length words.now ≡ 256) × (length out.old ≤ 8 * size) }
     ensures { out.new ≡ list_below (length out.old) (λ x. bits_gathered words.now (x / 8) size (x % 8)) }
 {
-    let mut x = 0;
-    while x < out.len() {
-        out[x] = gather(words, x / 8, size, (x % 8) as u32);
-        x += 1;
+    for (x, row) in out.iter_mut().enumerate() {
+        *row = gather(words, x / 8, size, (x % 8) as u32);
     }
 }
 
@@ -213,7 +179,7 @@ fn unpack_bytes(n: u32, m: u32, bytes: &[u8], padded: &mut [u8], words: &mut [u3
         × BytesWords padded.new (column_bytes n) words.new }
 {
     let size = column_bytes(n);
-    pad_bytes(bytes, padded);
+    padded[..bytes.len()].copy_from_slice(bytes);
     join_words(padded, size, words);
     write_rows(words, size, out);
 }

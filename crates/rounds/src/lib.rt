@@ -363,7 +363,7 @@ fn top_in(n: u32, m: u32, rows: &[u32], c: u32, array: &mut [i32]) -> Top
     ensures reply { TopOf (summand_of n m rows.now) c result }
     ensures content { array.new ≡ spectrum n (component rows.now c) }
 {
-    linear::spectrum_of_component(n, m, rows, c, array);
+    let _ = linear::spectrum_of_component(n, m, rows, c, array);
     highest(array)
 }
 

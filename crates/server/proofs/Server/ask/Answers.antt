@@ -1,4 +1,5 @@
 -- `server::Server::ask` meets its contract: what the checks found says which case it is, and then what is left to examine.
+use Rattle.std.proofs.lemmas.Result.{err_from_is_err_and}
 use mathlib.Core.Path.{◌≡◌, sym, ◌∙◌}
 use native.Mathlib.Omega.{arith}
 use Rattle.refusals.specs.Table.{first}
@@ -10,7 +11,9 @@ use Rattle.server.proofs.Server.ask.Goals as goal
 
 pub returns-in_err-check_held : goal.returns-in_err-check_held
 returns-in_err-check_held c =
-    ask_refused c.args.self c.args.place (sym c.in_err-check_held.ensures)
+    let p = err_from_is_err_and c.from_residual.result c.from_residual.ensures.1 in
+    rw (p.1, p.2)
+    (ask_refused c.args.self c.args.place (sym c.in_err-check_held.ensures))
 
 pub overflow_sub-i : goal.overflow_sub-i
 overflow_sub-i c = held_low _ _ (sym c.in_ok-check_held.ensures)
