@@ -8,17 +8,15 @@ ghost use Rattle.differential.specs.XorTable as spec;
 ghost use Rattle.differential.specs.Work.{cell_found, OwnBuckets};
 ghost use Rattle.differential.specs.Running.{Paired, count_with, LargestSoFar, risen_at, higher_of, running_after};
 
-use crate::{FoundCell, STANDING_OF_0, TWO_TO_32, after_row, larger, write_pairs};
+use crate::{FoundCell, STANDING_OF_0, TWO_TO_32, after_row, write_pairs};
 
 // The bucket of each difference holds its standing with a count of 0.
 fn clear_buckets(buckets: &mut [u64])
     requires { length buckets.old ≤ 256 }
     ensures { buckets.new ≡ list_below (length buckets.old) (λ β. count_with 0 β) }
 {
-    let mut beta = 0;
-    while beta < buckets.len() {
-        buckets[beta] = STANDING_OF_0 - beta as u64;
-        beta += 1;
+    for (beta, bucket) in buckets.iter_mut().enumerate() {
+        *bucket = STANDING_OF_0 - beta as u64;
     }
 }
 
@@ -34,7 +32,7 @@ fn rise_alone(differences: &[u32], y: usize, buckets: &mut [u64], running: u64) 
     let bucket = differences[y] as usize;
     let standing = buckets[bucket] + TWO_TO_32;
     buckets[bucket] = standing;
-    larger(running, standing)
+    running.max(standing)
 }
 
 // The largest count of the differences and the smallest difference that has it, as one standing: a running value while the counts rise,
@@ -49,10 +47,8 @@ fn largest_alone(differences: &[u32], buckets: &mut [u64]) -> u64
 {
     clear_buckets(buckets);
     let mut running = buckets[0];
-    let mut y = 0;
-    while y < differences.len() {
+    for y in 0..differences.len() {
         running = rise_alone(differences, y, buckets, running);
-        y += 1;
     }
     running
 }
@@ -69,12 +65,10 @@ fn sweep_narrow(n: u32, m: u32, rows: &[u32], pairs: &mut [u32], buckets: &mut [
         a: 0,
         beta: 0,
     };
-    let mut a: u32 = 1;
-    while a < inputs {
+    for a in 1..inputs {
         write_pairs(rows, a, pairs);
         let best = largest_alone(pairs, buckets);
         found = after_row(a, best, found);
-        a += 1;
     }
     found
 }

@@ -19,7 +19,7 @@ returns c =
 list_with_requires : tie.Need-list_with-requires
 list_with_requires c κs =
     let a = c.args in
-    (box a.n a.m a.rows.now [] (sym c.check_box.ensures ∙ c.in_default.is), refl, refl)
+    (box a.n a.m a.rows.now [] (sym c.check_box.ensures ∙ c.in_default.is), refl)
 
 pub largest_cells_spec : {M : Type 1} → statement M
 largest_cells_spec =
