@@ -167,6 +167,7 @@ fn risen(a: u32, differences: &[u32], y: usize, buckets: &mut [u64]) -> u64
 
 // One rise: the count of the difference at y goes up by one, and the running value is brought up to date by one comparison. After each rise
 // its count is the largest so far, and its difference the smallest that has it.
+#[tactic(auto, using(crate::proofs::Rises::row_running_next))]
 fn rise(a: u32, differences: &[u32], y: usize, buckets: &mut [u64], running: u64) -> AfterRise
     requires { (a < 256) × (y < length differences.now) × (length differences.now ≤ 128)
         × Buckets a differences.now y buckets.old × InRow a (LargestSoFar differences.now y) running }

@@ -1,7 +1,6 @@
 -- After the rise the running value is the largest count so far with the smallest difference that has it.
-use Rattle.std.proofs.Common.{◌+◌, ap, sym, subst, ◌∙◌, arith}
-use Rattle.differential.specs.Running.{LargestSoFar, higher_of}
-use Rattle.differential.proofs.Rises.{running_higher}
+use Rattle.std.proofs.Common.{arith}
+use Rattle.differential.proofs.Rises.{running_next}
 use Rattle.differential.proofs.OwnBuckets.{own_fits, alone_risen, alone_next}
 use Rattle.differential.proofs.narrow.rise_alone.Goals as goal
 
@@ -11,9 +10,8 @@ overflow_add-standing c = omega (arith, own_fits c.requires.2 c.requires.0)
 pub returns : goal.returns
 returns c =
     let own = c.requires.2 in
-    let values = c.args.differences.now in
-    let is = c.max.ensures ∙ ap (higher_of c.args.running) (alone_risen own c.requires.0) in (
-      subst (LargestSoFar values (c.args.y + 1)) (sym is) (running_higher c.requires.3 (c.type_inv.differences c.args.y).fits),
-      is,
+    let risen = alone_risen own c.requires.0 in (
+      running_next c.requires.3 (c.type_inv.differences c.args.y).fits (omega (arith, risen)),
+      omega (arith, risen),
       alone_next own c.requires.0,
     )
