@@ -89,7 +89,7 @@ module _ {a : ℕ} {values : List ℕ} {y : ℕ} {buckets : List ℕ} (s : Bucke
     held_taken : number_in a 0 ≤ content → held ≡ content
     held_taken h = is ∙ keeps_higher (let l : none ≤ content = omega (arith, above h) in l)
 
-    pub held_least : none ≤ held
+    held_least : none ≤ held
     held_least = pick (dec_lt content (number_in a 0))
       where
         pick : Dec (content < number_in a 0) → none ≤ held

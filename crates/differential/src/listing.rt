@@ -39,6 +39,7 @@ fn cells_after(running: u64, standing: u64, cells: u32) -> u32
 }
 
 // As `largest_risen`, with the number of differences that have the largest count brought up to date beside it.
+// kept: beside `largest_risen`. A closure for the line that counts the cells would be called at each rise, and is no plainer than it.
 fn measure_row(a: u32, differences: &[u32], buckets: &mut [u64]) -> RowLargest
     requires { (a < 256) × (length differences.now ≤ 128) × FreeFrom a buckets.old }
     ensures { RunningCells differences.now (length differences.now) result.standing result.cells

@@ -37,6 +37,7 @@ fn rise_alone(differences: &[u32], y: usize, buckets: &mut [u64], running: u64) 
 
 // The largest count of the differences and the smallest difference that has it, as one standing: a running value while the counts rise,
 // which starts from the bucket of 0 with its count of 0.
+// kept: beside `largest_risen`. Start, rise and end of the value differ, so a trait of three methods would be no plainer than both loops.
 fn largest_alone(differences: &[u32], buckets: &mut [u64]) -> u64
     requires { (length differences.now ≤ 128) × (0 < length buckets.old) × (length buckets.old ≤ 256)
         × Below (length buckets.old) differences.now }
@@ -54,6 +55,7 @@ fn largest_alone(differences: &[u32], buckets: &mut [u64]) -> u64
 }
 
 // Every row in turn, from 1 to 2^n − 1. It starts from a count that every row exceeds.
+// kept: beside `sweep_cells`. A trait would have to say what each kind of buckets keeps between rows: longer than the lines they share.
 fn sweep_narrow(n: u32, m: u32, rows: &[u32], pairs: &mut [u32], buckets: &mut [u64]) -> FoundCell
     requires { Box n m rows.now × (m ≤ 8) × (length rows.now ≡ 2 * length pairs.old) × (length buckets.old ≡ 2 ^ m) }
     ensures { (cell_found result ≡ spec.largest_cell n m rows.now)
@@ -74,6 +76,7 @@ fn sweep_narrow(n: u32, m: u32, rows: &[u32], pairs: &mut [u32], buckets: &mut [
 }
 
 // The largest cell of a box that was checked. The buckets are made once for all rows, and room for the pairs is lent.
+// kept: beside `find_wide`. The buckets' number and the sweep differ: only the line with `half` is shared, so one form is no plainer.
 pub fn find_narrow(n: u32, m: u32, rows: &[u32], pairs: &mut [u32]) -> FoundCell
     requires { Box n m rows.now × (m ≤ 8) × (length pairs.old ≡ 128) }
     ensures { (cell_found result ≡ spec.largest_cell n m rows.now) × AnyContent pairs.old pairs.new }

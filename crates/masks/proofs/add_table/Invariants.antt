@@ -1,5 +1,4 @@
 -- The first x values are sums, and the others as they were.
-use Rattle.std.proofs.Common.{length}
 use Rattle.std.specs.Int.Bits.{bit_xor}
 use Rattle.boolean.specs.Functions.{at}
 use Rattle.boolean.proofs.Replaced.{Replaced}

@@ -1,5 +1,5 @@
 -- The number of a step table is below m, so its run of ones fits 32 bits, and the values are the step tables.
-use Rattle.std.proofs.Common.{◌≡◌, ℕ, ◌*◌, ◌-◌, ◌^◌, ◌/◌, ◌%◌, ◌<◌, length, get_or, sym, ◌∙◌, arith}
+use Rattle.std.proofs.Common.{◌*◌, ◌-◌, ◌^◌, ◌/◌, ◌%◌, ◌<◌, length, sym, ◌∙◌, arith}
 use native.Mathlib.Nat.{div-lt_iff_lt-mul}
 use lib.Pow.{pow_mono}
 use Rattle.boolean.proofs.Lists.{list_is}
