@@ -294,10 +294,10 @@ def running_value(code):
         body = code.body(name)
         found += lacks(f"the loop of {name}", shown_loop(code, name), *wanted)
         found += [f"{name} calls {path} as well" for path in sorted(called(body) - only)]
-        after = body[max(at for at, word in enumerate(body) if word == "while"):]
+        after = body[max(at for at, word in enumerate(body) if word in ("while", "for")):]
         found += [f"{name} looks at the counts after the last rise"] if "buckets" in after[sources.closing(after, after.index("{")):] else []
-    found += lacks("differential::rise", code.body("differential::rise"), "let standing = risen(a, differences, y, buckets);", "if running < standing {")
-    wanted = ("buckets[bucket] = standing;", "larger(running, standing)")
+    found += lacks("differential::rise", code.body("differential::rise"), "let standing = risen(a, differences, y, buckets);", "running: running.max(standing)")
+    wanted = ("buckets[bucket] = standing;", "running.max(standing)")
     found += lacks("differential::narrow::rise_alone", code.body("differential::narrow::rise_alone"), *wanted)
     for name in ("differential::rise", "differential::narrow::rise_alone"):
         found += [f"{name} has a loop"] if loops(code.body(name)) else []

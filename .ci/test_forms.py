@@ -128,19 +128,19 @@ class Forms(unittest.TestCase):
         self.found("01.forms.10", "crates/swaps/specs/Calls.antt", "said_raising_swap : RaisingSwap → Reply", "said_raising_swap : ℕ → Reply", "RaisingSwap")
 
     def test_a_sweep_at_the_end(self):
-        risen = "        running = rise_alone(differences, y, buckets, running);\n        y += 1;\n    }\n    running\n"
-        swept = "        count_alone(differences, y, buckets);\n        y += 1;\n    }\n    largest_bucket(buckets)\n"
+        risen = "        running = rise_alone(differences, y, buckets, running);\n    }\n    running\n"
+        swept = "        count_alone(differences, y, buckets);\n    }\n    largest_bucket(buckets)\n"
         self.found("02.§5.1", NARROW, risen, swept, "largest_alone")
 
     def test_a_sweep_beside_the_running_value(self):
-        risen = "        running = after.running;\n        y += 1;\n    }\n    running - row\n"
+        risen = "        running = after.running;\n    }\n    running - row\n"
         self.found("02.§5.1", XOR, risen, risen.replace("running - row", "largest_bucket(buckets) - row"), "largest_risen calls largest_bucket")
         more = "    }\n    let mut k = 0;\n    while k < buckets.len() {\n        k += 1;\n    }\n    running - row\n"
         self.found("02.§5.1", XOR, risen, risen.replace("    }\n    running - row\n", more), "2 loops")
 
     def test_a_rise_that_does_not_compare(self):
-        self.found("02.§5.1", XOR, "    if running < standing {\n", "    if true {\n", "differential::rise")
-        self.found("02.§5.1", NARROW, "    larger(running, standing)\n", "    standing\n", "rise_alone")
+        self.found("02.§5.1", XOR, "        running: running.max(standing),\n", "        running: standing,\n", "differential::rise")
+        self.found("02.§5.1", NARROW, "    running.max(standing)\n", "    standing\n", "rise_alone")
 
     def test_a_running_value_that_is_not_kept(self):
         old = "        cells = cells_after(running, after.standing, cells);\n        running = after.running;\n"

@@ -8,6 +8,7 @@ ghost use Rattle.columns.specs.Addition.{added_row, added_rows, addition_checks,
 use refusals::Refusal;
 
 // The row at input x, with bit j XORed with w·x XOR b.
+#[tactic(auto, using(crate::proofs::Rows::row_is))]
 fn added_row(j: u32, w: u32, b: u32, x: usize, row: u32) -> u32
     requires { (1 ≤ j) × (j ≤ 32) × (b < 2) × (x < 256) }
     ensures { result ≡ added_row j w b x row }
@@ -21,10 +22,8 @@ fn add_rows(rows: &[u32], j: u32, w: u32, b: u32, out: &mut [u32])
     requires { (1 ≤ j) × (j ≤ 32) × (b < 2) × (length rows.now ≤ 256) × (length out.old ≡ length rows.now) }
     ensures { out.new ≡ added_rows j w b rows.now }
 {
-    let mut x = 0;
-    while x < rows.len() {
-        out[x] = added_row(j, w, b, x, rows[x]);
-        x += 1;
+    for (x, row) in rows.iter().enumerate() {
+        out[x] = added_row(j, w, b, x, *row);
     }
 }
 

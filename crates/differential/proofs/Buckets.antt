@@ -6,13 +6,13 @@ use Prim.Native.Nat.{ℕ, ◌+◌, ◌-◌, ◌*◌, ◌%◌, ◌≤◌, ◌<◌
 use native.Mathlib.Nat.{mod-lt, zero-lt-suc}
 use native.Mathlib.Decide.{ℕ_discrete, dec_lt}
 use native.Mathlib.Omega.{arith}
-use lib.ListN.{length, set, length-set, replicate, length-replicate, get_or-replicate}
+use lib.ListN.{set, length-set, replicate, length-replicate, get_or-replicate}
 use lib.Seq.{get_or-set_same, get_or-set_other}
 use Rattle.boolean.specs.Functions.{at, occurrences}
 use Rattle.differential.specs.Running.{count_with, risen_at, number_in, higher_of}
 use Rattle.differential.specs.Work.{bucket_of, FreeFrom, Bucket, Buckets}
 use Rattle.differential.proofs.Rises.{takes_higher, keeps_higher}
-use Rattle.sorting.proofs.Occurrences.{occurs_more, occurs_same, occurs_le, occurs, occurs_at}
+use Rattle.sorting.proofs.Occurrences.{occurs_more, occurs_same, occurs_le, occurs_at}
 
 bucket_inside : (v : ℕ) → bucket_of v < 4096
 bucket_inside v = mod-lt v (zero-lt-suc 4095)
@@ -89,7 +89,7 @@ module _ {a : ℕ} {values : List ℕ} {y : ℕ} {buckets : List ℕ} (s : Bucke
     held_taken : number_in a 0 ≤ content → held ≡ content
     held_taken h = is ∙ keeps_higher (let l : none ≤ content = omega (arith, above h) in l)
 
-    pub held_least : none ≤ held
+    held_least : none ≤ held
     held_least = pick (dec_lt content (number_in a 0))
       where
         pick : Dec (content < number_in a 0) → none ≤ held

@@ -19,8 +19,9 @@ use Rattle.boolean.proofs.Selection.{first_largest_chooses}
 use Rattle.refusals.specs.Table.{Box}
 use Rattle.differential.specs.XorTable.{difference, cell, cells, largest_cell}
 use Rattle.differential.specs.Running.{Paired, higher_of}
-use Rattle.differential.specs.Work.{differences_of, reaching, RunningCells, IsRow, RowMeasured, RowsMeasured, row_cells}
+use Rattle.differential.specs.Work.{differences_of, reaching, RunningCells, IsRow, RowMeasured, RowsMeasured, measured_at, row_cells}
 use Rattle.differential.specs.Statements.{IsCell}
+use Rattle.differential.specs.declared.listing.RowLargest.{RowLargest}
 use Rattle.sorting.proofs.Occurrences.{occurs, occurs_at}
 use Rattle.differential.proofs.Rises.{higher_left, higher_right, higher_either}
 use Rattle.differential.proofs.Pairs.{pairs_length, pair_small, cell_twice}
@@ -136,25 +137,23 @@ module _ {n m : ℕ} {rows : List ℕ} (b : Box n m rows) (largest : ℕ) (e : 2
       measured_none b t e (omega (arith, count_of b t, few, h))
 
 -- ---- the loop over the rows: those below a were measured
-pub record Measuring (n m : ℕ) (rows standings numbers : List ℕ) (largest : ℕ) (pairs : List ℕ) (a : ℕ) : Type 0 where
+pub record Measuring (n m : ℕ) (rows : List ℕ) (measured : List RowLargest) (largest : ℕ) (pairs : List ℕ) (a : ℕ) : Type 0 where
   pub box : Box n m rows
   pub room : length rows ≡ 2 * length pairs
-  pub standings_size : length standings ≡ 256
-  pub numbers_size : length numbers ≡ 256
+  pub size : length measured ≡ 256
   pub a_low : 1 ≤ a
   pub a_high : a ≤ 2 ^ n
   pub last : 1 < a → Paired rows (a - 1) pairs
-  pub done : (k : ℕ) → 1 ≤ k → k < a → RowMeasured n m rows k (at standings k) (at numbers k)
+  pub done : (k : ℕ) → 1 ≤ k → k < a → RowMeasured n m rows k (measured_at measured k).standing (measured_at measured k).cells
   pub bound : (k : ℕ) → 1 ≤ k → k < a → (v : ℕ) → cell n rows k v ≤ 2 * largest
   pub some : 0 < largest → (k : ℕ) × (β : ℕ) × IsCell n m k β × (cell n rows k β ≡ 2 * largest)
 
-pub measuring_none : {n m : ℕ} {rows standings numbers pairs : List ℕ} → Box n m rows → length rows ≡ 2 * length pairs → length standings ≡ 256
-    → length numbers ≡ 256 → Measuring n m rows standings numbers 0 pairs 1
-measuring_none {n} b r s t = record {
+pub measuring_none : {n m : ℕ} {rows : List ℕ} {measured : List RowLargest} {pairs : List ℕ} → Box n m rows → length rows ≡ 2 * length pairs
+    → length measured ≡ 256 → Measuring n m rows measured 0 pairs 1
+measuring_none {n} b r s = record {
   box = b;
   room = r;
-  standings_size = s;
-  numbers_size = t;
+  size = s;
   a_low = le_refl 1;
   a_high = pow_pos n;
   last = λ l. absurd (omega arith);
@@ -163,53 +162,59 @@ measuring_none {n} b r s t = record {
   some = λ l. absurd (omega arith);
 }
 
-module _ {n m : ℕ} {rows standings numbers : List ℕ} {largest : ℕ} {pairs : List ℕ} {a : ℕ} (t : Measuring n m rows standings numbers largest pairs a) where
-  module _ (l : a < 2 ^ n) {pairs' : List ℕ} (p : Paired rows a pairs') {value cells : ℕ} (run : RunningCells pairs' (length pairs') value cells) {new : ℕ}
-      (g : new ≡ higher_of largest (value / 4294967296)) where
-    abbrev row : RowMeasured n m rows a value cells
+module _ {n m : ℕ} {rows : List ℕ} {measured : List RowLargest} {largest : ℕ} {pairs : List ℕ} {a : ℕ} (t : Measuring n m rows measured largest pairs a) where
+  module _ (l : a < 2 ^ n) {pairs' : List ℕ} (p : Paired rows a pairs') {found : RowLargest}
+      (run : RunningCells pairs' (length pairs') found.standing found.cells) {new : ℕ} (g : new ≡ higher_of largest (found.standing / 4294967296)) where
+    abbrev value : ℕ
+    value = found.standing
+
+    abbrev after : List RowLargest
+    after = set measured a found
+
+    abbrev row : RowMeasured n m rows a value found.cells
     row = row_measured t.box l p run
 
     inside : a < 256
     inside = omega (arith, t.box.size, t.box.small)
 
-    at_row : (k : ℕ) → 1 ≤ k → k < a + 1 → Dec (k ≡ a) → RowMeasured n m rows k (at (set standings a value) k) (at (set numbers a cells) k)
+    at_row : (k : ℕ) → 1 ≤ k → k < a + 1 → Dec (k ≡ a) → RowMeasured n m rows k (measured_at after k).standing (measured_at after k).cells
     at_row k h i (yes e) =
-        subst (λ (z : ℕ). RowMeasured n m rows z (at (set standings a value) z) (at (set numbers a cells) z)) (sym e)
-        (rw (get_or-set_same standings a value 0 (omega (arith, inside, t.standings_size)), get_or-set_same numbers a cells 0 (omega (arith, inside, t.numbers_size))) row)
-    at_row k h i (no e) = rw (get_or-set_other standings a k value 0 e, get_or-set_other numbers a k cells 0 e) (t.done k h (omega arith))
+        subst (λ (z : ℕ). RowMeasured n m rows z (measured_at after z).standing (measured_at after z).cells) (sym e)
+        (subst (λ (r : RowLargest). RowMeasured n m rows a r.standing r.cells) (sym (get_or-set_same measured a found _ (omega (arith, inside, t.size)))) row)
+    at_row k h i (no e) =
+        subst (λ (r : RowLargest). RowMeasured n m rows k r.standing r.cells) (sym (get_or-set_other measured a k found _ e)) (t.done k h (omega arith))
 
     bounded : (k : ℕ) → 1 ≤ k → k < a + 1 → Dec (k ≡ a) → (v : ℕ) → cell n rows k v ≤ 2 * new
     bounded k h i (yes e) v = omega (arith, ap (λ (z : ℕ). cell n rows z v) e, row.most v, count_of t.box row, g, higher_right largest (value / 4294967296))
     bounded k h i (no e) v = omega (arith, t.bound k h (omega arith) v, g, higher_left largest (value / 4294967296))
 
-    found : 0 < new → (new ≡ largest) ⊎ (new ≡ value / 4294967296) → (k : ℕ) × (β : ℕ) × IsCell n m k β × (cell n rows k β ≡ 2 * new)
-    found h (inl e) = let s = t.some (omega arith) in (s.0, s.1, s.2, omega (arith, s.3))
-    found h (inr e) = (
+    found_at : 0 < new → (new ≡ largest) ⊎ (new ≡ value / 4294967296) → (k : ℕ) × (β : ℕ) × IsCell n m k β × (cell n rows k β ≡ 2 * new)
+    found_at h (inl e) = let s = t.some (omega arith) in (s.0, s.1, s.2, omega (arith, s.3))
+    found_at h (inr e) = (
       a,
       row.β,
       record { a_low = t.a_low; a_high = l; β_high = row.below },
       omega (arith, row.reached, count_of t.box row),
     )
 
-    pub measuring_next : Measuring n m rows (set standings a value) (set numbers a cells) new pairs' (a + 1)
+    pub measuring_next : Measuring n m rows after new pairs' (a + 1)
     measuring_next = record {
       box = t.box;
       room = pairs_room t.box p;
-      standings_size = length-set standings a value ∙ t.standings_size;
-      numbers_size = length-set numbers a cells ∙ t.numbers_size;
+      size = length-set measured a found ∙ t.size;
       a_low = omega arith;
       a_high = omega arith;
       last = λ k. subst (λ (a : ℕ). Paired rows a pairs') (let z : a ≡ a + 1 - 1 = omega arith in z) p;
       done = λ k h i. at_row k h i (ℕ_discrete k a);
       bound = λ k h i. bounded k h i (ℕ_discrete k a);
-      some = λ h. found h (⊎_elim (λ e. inl (g ∙ e)) (λ e. inr (g ∙ e)) (higher_either largest (value / 4294967296)));
+      some = λ h. found_at h (⊎_elim (λ e. inl (g ∙ e)) (λ e. inr (g ∙ e)) (higher_either largest (value / 4294967296)));
     }
 
   module _ (h : 2 ^ n ≤ a) where
     at_end : a ≡ 2 ^ n
     at_end = omega (arith, t.a_high)
 
-    pub measuring_all : RowsMeasured n m rows standings numbers
+    pub measuring_all : RowsMeasured n m rows measured
     measuring_all k r = t.done k r.0 (omega (arith, r.1))
 
     pub measuring_largest : 2 * largest ≡ (largest_cell n m rows).figure

@@ -76,12 +76,10 @@ module _ {values : List ℕ} {y best : ℕ} (r : LargestSoFar values y best) {va
 
 -- ---- the higher of two standings
 pub takes_higher : {x y : ℕ} → x < y → higher_of x y ≡ y
-unfolding higher_of
-takes_higher {x = x} {y = y} h = ap (λ (t : Bool). elim t [ true ↦ y | false ↦ x ]) (lt-ltb x y h)
+takes_higher h = omega arith
 
 pub keeps_higher : {x y : ℕ} → y ≤ x → higher_of x y ≡ x
-unfolding higher_of
-keeps_higher {x = x} {y = y} h = ap (λ (t : Bool). elim t [ true ↦ y | false ↦ x ]) (le-ltb x y h)
+keeps_higher h = omega arith
 
 -- after a rise the higher of the running value and what has risen is the largest so far
 pub running_higher : {values : List ℕ} {y best : ℕ} → LargestSoFar values y best → at values y < 4294967296
@@ -91,6 +89,10 @@ running_higher {values} {y} {best} r small = pick (dec_lt best (risen_at values 
     pick : Dec (best < risen_at values y) → LargestSoFar values (y + 1) (higher_of best (risen_at values y))
     pick (yes h) = rw (takes_higher h) (running_takes r small refl h)
     pick (no h) = let k : risen_at values y ≤ best = omega arith in rw (keeps_higher k) (running_keeps r small refl k)
+
+pub running_next : {values : List ℕ} {y best new : ℕ} → LargestSoFar values y best → at values y < 4294967296 → new ≡ higher_of best (risen_at values y)
+    → LargestSoFar values (y + 1) new
+running_next {values} {y} r small e = subst (LargestSoFar values (y + 1)) (sym e) (running_higher r small)
 
 module _ (x y : ℕ) where
   pub higher_either : (higher_of x y ≡ x) ⊎ (higher_of x y ≡ y)
@@ -156,6 +158,17 @@ module _ {a : ℕ} {values : List ℕ} {y best : ℕ} (r : InRow a (LargestSoFar
     is = r.is;
     holds = running_keeps r.holds small refl (let l : risen_at values y ≤ r.value = omega (arith, r.is, risen) in l);
   }
+
+  row_running_higher : InRow a (LargestSoFar values (y + 1)) (higher_of best number)
+  row_running_higher = pick (dec_lt best number)
+    where
+      pick : Dec (best < number) → InRow a (LargestSoFar values (y + 1)) (higher_of best number)
+      pick (yes h) = rw (takes_higher h) (row_running_takes h)
+      pick (no h) = let k : number ≤ best = omega arith in rw (keeps_higher k) (row_running_keeps k)
+
+  -- so the higher of the two is the running value after the rise
+  pub row_running_next : {new : ℕ} → new ≡ higher_of best number → InRow a (LargestSoFar values (y + 1)) new
+  row_running_next e = subst (InRow a (LargestSoFar values (y + 1))) (sym e) row_running_higher
 
 -- ---- the running value's own steps
 pub rises_none : (values : List ℕ) → running_after values 0 ≡ 4294967295

@@ -1,7 +1,7 @@
 -- Document 02 §5: "keep it as a running value while the counts rise, instead of sweeping them at the end. Show that after each rise it is
 -- the largest count so far, and its β the smallest that has it." `LargestSoFar` is that sentence, and the contract of `rise` says it of the
 -- code's own running value, at each rise.
-use Rattle.std.specs.Prelude.{ℕ, zero, suc, ◌+◌, ◌-◌, ◌*◌, ◌/◌, ◌^◌, ◌≤◌, ◌<◌, ◌≡◌, true, false, List, ltb, length}
+use Rattle.std.specs.Prelude.{ℕ, zero, suc, ◌+◌, ◌-◌, ◌*◌, ◌/◌, ◌^◌, ◌≤◌, ◌<◌, ◌≡◌, List, max, length}
 use Rattle.std.specs.Int.Bits.{bit_and}
 use Rattle.boolean.specs.Sums.{list_below}
 use Rattle.boolean.specs.Functions.{at, occurrences}
@@ -72,8 +72,8 @@ abbrev pub risen_at : (differences : List ℕ) (y : ℕ) → ℕ
 risen_at differences y = count_with (occurrences differences (y + 1) (at differences y)) (at differences y)
 
 -- the higher of two numbers
-unfoldable pub higher_of : (x y : ℕ) → ℕ
-higher_of x y = elim (ltb x y) [ true ↦ y | false ↦ x ]
+abbrev pub higher_of : (x y : ℕ) → ℕ
+higher_of x y = max x y
 
 -- The running value after a number of rises: it starts from the count 0 with β = 0, and at each rise the standing of the difference whose
 -- count has risen takes its place, if that is above it.

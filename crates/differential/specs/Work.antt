@@ -1,5 +1,6 @@
 -- What the functions behind the calls on the XOR table ask and leave, but for the running value of a row (`Running`).
-use Rattle.std.specs.Prelude.{ℕ, ◌+◌, ◌-◌, ◌*◌, ◌/◌, ◌%◌, ◌^◌, ◌≤◌, ◌<◌, ◌≡◌, true, false, ◌⊎◌, List, [], ◌∷◌, map, eqb, ltb, length}
+use Rattle.std.specs.Prelude.{ℕ, ◌+◌, ◌-◌, ◌*◌, ◌/◌, ◌%◌, ◌^◌, ◌≤◌, ◌<◌, ◌≡◌, true, false, ◌⊎◌}
+use Rattle.std.specs.Prelude.{List, [], ◌∷◌, map, eqb, ltb, length, get_or}
 use Rattle.std.specs.Int.Bits.{bit_xor}
 use Rattle.boolean.specs.Sums.{count_below, list_below, each, keep}
 use Rattle.boolean.specs.Functions.{at, Below, occurrences}
@@ -9,6 +10,7 @@ use Rattle.sorting.specs.Work.{Sorted}
 use Rattle.differential.specs.XorTable.{difference, cell, cells_of, largest_cell, coded}
 use Rattle.differential.specs.Running.{Paired, LargestCount, count_with, LargestSoFar, number_in}
 use Rattle.differential.specs.declared.FoundCell.{FoundCell}
+use Rattle.differential.specs.declared.listing.RowLargest.{RowLargest}
 
 -- the best cell so far, as a candidate
 abbrev pub cell_found : FoundCell → Candidate
@@ -113,9 +115,14 @@ pub record RowMeasured (n m : ℕ) (rows : List ℕ) (a value number : ℕ) : Ty
   pub few : number ≤ 128
   pub counted : number ≡ count_below (2 ^ m) (λ v. eqb (cell n rows a v) (2 * largest))
 
--- the entry a of two arrays has that of the row of a
-abbrev pub RowsMeasured : (n m : ℕ) (rows standings numbers : List ℕ) → Type 0
-RowsMeasured n m rows standings numbers = (a : ℕ) → IsRow n a → RowMeasured n m rows a (at standings a) (at numbers a)
+-- the entry a of what was measured, and a standing of 0 past the end
+abbrev pub measured_at : (measured : List RowLargest) (a : ℕ) → RowLargest
+measured_at measured a = get_or measured a (record { standing = 0; cells = 0 })
+
+-- the entry a of an array has that of the row of a
+abbrev pub RowsMeasured : (n m : ℕ) (rows : List ℕ) (measured : List RowLargest) → Type 0
+RowsMeasured n m rows measured =
+    (a : ℕ) → IsRow n a → RowMeasured n m rows a (measured_at measured a).standing (measured_at measured a).cells
 
 -- the cells of the row of a that reach the largest count of the box, in ascending β
 unfoldable pub row_cells : (n m : ℕ) (rows : List ℕ) (a : ℕ) → List ℕ

@@ -14,6 +14,7 @@ ghost use Rattle.differential.specs.Calls.{row_checks, said_largest_cell, larges
 ghost use Rattle.differential.specs.Work.{cell_found, CellsSwept, XorInside, differences_of, FreeFrom, Buckets, after_standing};
 ghost use Rattle.differential.specs.Running.{HighestBit, Paired, LargestSoFar, number_in, InRow, risen_at, higher_of, running_after};
 
+use crate::listing::RowLargest;
 use refusals::Refusal;
 
 // Numbers of a count's standing: see `risen`. The standing of the difference 0 with a count of 0 is 2^32 − 1.
@@ -43,11 +44,8 @@ fn write_differences(rows: &[u32], a: u32, differences: &mut [u32])
     requires { XorInside (length rows.now) a × (length differences.old ≡ length rows.now) }
     ensures { differences.new ≡ differences_of rows.now a }
 {
-    let mut x = 0;
-    while x < rows.len() {
-        let other = x ^ (a as usize);
-        differences[x] = rows[x] ^ rows[other];
-        x += 1;
+    for (x, row) in rows.iter().enumerate() {
+        differences[x] = *row ^ rows[x ^ (a as usize)];
     }
 }
 
@@ -57,12 +55,10 @@ fn count_equal(differences: &[u32], beta: u32) -> u32
     ensures { result ≡ occurrences differences.now (length differences.now) beta }
 {
     let mut count: u32 = 0;
-    let mut x = 0;
-    while x < differences.len() {
-        if differences[x] == beta {
+    for difference in differences {
+        if *difference == beta {
             count += 1;
         }
-        x += 1;
     }
     count
 }
@@ -110,11 +106,7 @@ fn highest_bit(a: u32) -> u32
     requires { 0 < a }
     ensures { HighestBit a result }
 {
-    let mut top: u32 = 1;
-    while top <= a / 2 {
-        top *= 2;
-    }
-    top
+    1 << a.ilog2()
 }
 
 // The output differences under a, one for each pair of inputs x and x XOR a: the two inputs of a pair have the same.
@@ -123,20 +115,10 @@ fn write_pairs(rows: &[u32], a: u32, pairs: &mut [u32])
     ensures { Paired rows.now a pairs.new }
 {
     let top = highest_bit(a) as usize;
-    let mut y = 0;
-    while y < pairs.len() {
+    for (y, pair) in pairs.iter_mut().enumerate() {
         let x = 2 * y - (y & (top - 1));
-        let other = x ^ (a as usize);
-        pairs[y] = rows[x] ^ rows[other];
-        y += 1;
+        *pair = rows[x] ^ rows[x ^ (a as usize)];
     }
-}
-
-// The larger of two numbers.
-fn larger(x: u64, y: u64) -> u64
-    ensures { result ≡ higher_of x y }
-{
-    if x < y { y } else { x }
 }
 
 // The counts of a row stand in 4,096 buckets, since 32 outputs have too many differences for a count each. A bucket holds the standing of
@@ -156,7 +138,7 @@ fn risen(a: u32, differences: &[u32], y: usize, buckets: &mut [u64]) -> u64
     let beta = differences[y];
     let none = (a as u64) * TWO_TO_40 + STANDING_OF_0 - beta as u64;
     let bucket = (beta % 4096) as usize;
-    let held = larger(buckets[bucket], none);
+    let held = buckets[bucket].max(none);
     if (held - none) % TWO_TO_32 == 0 {
         let standing = held + TWO_TO_32;
         buckets[bucket] = standing;
@@ -168,6 +150,7 @@ fn risen(a: u32, differences: &[u32], y: usize, buckets: &mut [u64]) -> u64
 
 // One rise: the count of the difference at y goes up by one, and the running value is brought up to date by one comparison. After each rise
 // its count is the largest so far, and its difference the smallest that has it.
+#[tactic(auto, using(crate::proofs::Rises::row_running_next))]
 fn rise(a: u32, differences: &[u32], y: usize, buckets: &mut [u64], running: u64) -> AfterRise
     requires { (a < 256) × (y < length differences.now) × (length differences.now ≤ 128)
         × Buckets a differences.now y buckets.old × InRow a (LargestSoFar differences.now y) running }
@@ -176,13 +159,9 @@ fn rise(a: u32, differences: &[u32], y: usize, buckets: &mut [u64], running: u64
         × Buckets a differences.now (y + 1) buckets.new }
 {
     let standing = risen(a, differences, y, buckets);
-    if running < standing {
-        AfterRise {
-            standing,
-            running: standing,
-        }
-    } else {
-        AfterRise { standing, running }
+    AfterRise {
+        standing,
+        running: running.max(standing),
     }
 }
 
@@ -195,11 +174,9 @@ fn largest_risen(a: u32, differences: &[u32], buckets: &mut [u64]) -> u64
 {
     let row = (a as u64) * TWO_TO_40;
     let mut running: u64 = row + STANDING_OF_0;
-    let mut y = 0;
-    while y < differences.len() {
+    for y in 0..differences.len() {
         let after = rise(a, differences, y, buckets, running);
         running = after.running;
-        y += 1;
     }
     running - row
 }
@@ -230,12 +207,10 @@ fn sweep_cells(n: u32, m: u32, rows: &[u32], pairs: &mut [u32], buckets: &mut [u
         a: 0,
         beta: 0,
     };
-    let mut a: u32 = 1;
-    while a < inputs {
+    for a in 1..inputs {
         write_pairs(rows, a, pairs);
         let best = largest_risen(a, pairs, buckets);
         found = after_row(a, best, found);
-        a += 1;
     }
     found
 }
@@ -279,7 +254,9 @@ pub fn largest_cells(n: u32, m: u32, rows: &[u32], list: &mut [u64]) -> Result<u
     ensures { ListCalled n m rows.now list.old result list.new }
 {
     refusals::check_box(n, m, rows)?;
-    let mut standings = [0u64; 256];
-    let mut numbers = [0u32; 256];
-    listing::list_with(n, m, rows, &mut standings, &mut numbers, list)
+    let mut measured = [RowLargest {
+        standing: 0,
+        cells: 0,
+    }; 256];
+    listing::list_with(n, m, rows, &mut measured, list)
 }

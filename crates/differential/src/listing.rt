@@ -11,7 +11,7 @@ ghost use Rattle.differential.specs.Work.{CellsAfter, RunningCells, IsRow, RowMe
 ghost use Rattle.differential.specs.Work.{run_at, runs, FreeFrom, Buckets, PairsInOrder};
 ghost use Rattle.differential.specs.Running.{Paired};
 
-use crate::{STANDING_OF_0, TWO_TO_32, TWO_TO_40, larger, rise, write_pairs};
+use crate::{STANDING_OF_0, TWO_TO_32, TWO_TO_40, rise, write_pairs};
 use refusals::Refusal;
 
 // What the list needs of a row: its largest standing, and how many of its cells reach that count.
@@ -39,6 +39,7 @@ fn cells_after(running: u64, standing: u64, cells: u32) -> u32
 }
 
 // As `largest_risen`, with the number of differences that have the largest count brought up to date beside it.
+// kept: beside `largest_risen`. A closure for the line that counts the cells would be called at each rise, and is no plainer than it.
 fn measure_row(a: u32, differences: &[u32], buckets: &mut [u64]) -> RowLargest
     requires { (a < 256) × (length differences.now ≤ 128) × FreeFrom a buckets.old }
     ensures { RunningCells differences.now (length differences.now) result.standing result.cells
@@ -47,94 +48,66 @@ fn measure_row(a: u32, differences: &[u32], buckets: &mut [u64]) -> RowLargest
     let row = (a as u64) * TWO_TO_40;
     let mut running: u64 = row + STANDING_OF_0;
     let mut cells: u32 = 0;
-    let mut y = 0;
-    while y < differences.len() {
+    for y in 0..differences.len() {
         let after = rise(a, differences, y, buckets, running);
         cells = cells_after(running, after.standing, cells);
         running = after.running;
-        y += 1;
     }
     RowLargest {
         standing: running - row,
-        cells: cells,
+        cells,
     }
 }
 
-// Each row is measured in turn, and the entry a of two arrays keeps what was found. The largest count of all rows is returned.
+// Each row is measured in turn, and the entry a of an array keeps what was found. The largest count of all rows is returned.
 fn measure_rows(
     n: u32,
     m: u32,
     rows: &[u32],
     pairs: &mut [u32],
     buckets: &mut [u64],
-    standings: &mut [u64; 256],
-    numbers: &mut [u32; 256],
+    measured: &mut [RowLargest; 256],
 ) -> u64
     requires { Box n m rows.now × (length rows.now ≡ 2 * length pairs.old) × FreeFrom 1 buckets.old
-        × (length standings.old ≡ 256) × (length numbers.old ≡ 256) }
-    ensures { RowsMeasured n m rows.now standings.new numbers.new
+        × (length measured.old ≡ 256) }
+    ensures { RowsMeasured n m rows.now measured.new
         × (2 * result ≡ (spec.largest_cell n m rows.now).figure)
         × Paired rows.now (2 ^ n - 1) pairs.new × AnyContent buckets.old buckets.new }
 {
     let mut largest: u64 = 0;
-    let mut a: usize = 1;
-    while a < rows.len() {
+    for a in 1..rows.len() {
         write_pairs(rows, a as u32, pairs);
         let row = measure_row(a as u32, pairs, buckets);
-        standings[a] = row.standing;
-        numbers[a] = row.cells;
-        largest = larger(largest, row.standing / TWO_TO_32);
-        a += 1;
+        measured[a] = row;
+        largest = largest.max(row.standing / TWO_TO_32);
     }
     largest
 }
 
 // The rows of a box that was checked. The arrays to work in are made once for all of them.
-fn measure(
-    n: u32,
-    m: u32,
-    rows: &[u32],
-    standings: &mut [u64; 256],
-    numbers: &mut [u32; 256],
-) -> u64
-    requires { Box n m rows.now × (length standings.old ≡ 256) × (length numbers.old ≡ 256) }
-    ensures { RowsMeasured n m rows.now standings.new numbers.new
+fn measure(n: u32, m: u32, rows: &[u32], measured: &mut [RowLargest; 256]) -> u64
+    requires { Box n m rows.now × (length measured.old ≡ 256) }
+    ensures { RowsMeasured n m rows.now measured.new
         × (2 * result ≡ (spec.largest_cell n m rows.now).figure) }
 {
     let mut pairs = [0u32; 128];
     let mut buckets = [0u64; 4096];
     let half = rows.len() / 2;
-    measure_rows(
-        n,
-        m,
-        rows,
-        &mut pairs[..half],
-        &mut buckets,
-        standings,
-        numbers,
-    )
+    measure_rows(n, m, rows, &mut pairs[..half], &mut buckets, measured)
 }
 
 // How many cells of all rows reach the largest count.
-fn count_cells(
-    n: u32,
-    m: u32,
-    rows: &[u32],
-    standings: &[u64; 256],
-    numbers: &[u32; 256],
-    largest: u64,
-) -> usize
-    requires { Box n m rows.now × RowsMeasured n m rows.now standings.now numbers.now
+fn count_cells(n: u32, m: u32, rows: &[u32], measured: &[RowLargest; 256], largest: u64) -> usize
+    requires { Box n m rows.now × RowsMeasured n m rows.now measured.now
         × (2 * largest ≡ (spec.largest_cell n m rows.now).figure) }
     ensures { (result ≡ length (largest_cells n m rows.now)) × (result ≤ 65536) }
 {
     let mut count = 0;
-    let mut a = 1;
-    while a < rows.len() {
-        if standings[a] / TWO_TO_32 == largest {
-            count += numbers[a] as usize;
+    for a in 1..rows.len() {
+        let row = measured[a];
+        if row.standing / TWO_TO_32 == largest {
+            count += row.cells as usize;
         }
-        a += 1;
     }
     count
 }
@@ -163,10 +136,8 @@ fn list_runs(a: u32, pairs: &[u32], largest: usize, list: &mut [u64], start: usi
         × (list.new ≡ sets list.old start (runs largest a pairs.now)) }
 {
     let mut next = start;
-    let mut y = 0;
-    while y + largest <= pairs.len() {
+    for y in 0..(pairs.len() + 1).saturating_sub(largest) {
         next = list_run(a, pairs, y, largest, list, next);
-        y += 1;
     }
     next
 }
@@ -238,24 +209,17 @@ fn list_cells(
     n: u32,
     m: u32,
     rows: &[u32],
-    standings: &[u64; 256],
-    numbers: &[u32; 256],
+    measured: &[RowLargest; 256],
     largest: u64,
     list: &mut [u64],
 )
-    requires { Box n m rows.now × RowsMeasured n m rows.now standings.now numbers.now
+    requires { Box n m rows.now × RowsMeasured n m rows.now measured.now
         × (2 * largest ≡ (spec.largest_cell n m rows.now).figure) × (length (largest_cells n m rows.now) ≤ length list.old) }
     ensures { list.new ≡ sets list.old 0 (largest_cells n m rows.now) }
 {
     let mut next = 0;
-    let mut a = 1;
-    while a < rows.len() {
-        let row = RowLargest {
-            standing: standings[a],
-            cells: numbers[a],
-        };
-        next = list_row(n, m, rows, a as u32, row, largest, list, next);
-        a += 1;
+    for a in 1..rows.len() {
+        next = list_row(n, m, rows, a as u32, measured[a], largest, list, next);
     }
 }
 
@@ -265,19 +229,18 @@ pub fn list_with(
     n: u32,
     m: u32,
     rows: &[u32],
-    standings: &mut [u64; 256],
-    numbers: &mut [u32; 256],
+    measured: &mut [RowLargest; 256],
     list: &mut [u64],
 ) -> Result<u32, Refusal>
-    requires { Box n m rows.now × (length standings.old ≡ 256) × (length numbers.old ≡ 256) }
+    requires { Box n m rows.now × (length measured.old ≡ 256) }
     ensures list_called { ListCalled n m rows.now list.old result list.new }
-    ensures measured { RowsMeasured n m rows.now standings.new numbers.new }
+    ensures measured { RowsMeasured n m rows.now measured.new }
 {
-    let largest = measure(n, m, rows, standings, numbers);
-    let count = count_cells(n, m, rows, standings, numbers, largest);
+    let largest = measure(n, m, rows, measured);
+    let count = count_cells(n, m, rows, measured, largest);
     if list.len() < count {
         return Err(Refusal::ListTooShort);
     }
-    list_cells(n, m, rows, standings, numbers, largest, list);
+    list_cells(n, m, rows, measured, largest, list);
     Ok(count as u32)
 }

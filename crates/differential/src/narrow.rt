@@ -8,17 +8,15 @@ ghost use Rattle.differential.specs.XorTable as spec;
 ghost use Rattle.differential.specs.Work.{cell_found, OwnBuckets};
 ghost use Rattle.differential.specs.Running.{Paired, count_with, LargestSoFar, risen_at, higher_of, running_after};
 
-use crate::{FoundCell, STANDING_OF_0, TWO_TO_32, after_row, larger, write_pairs};
+use crate::{FoundCell, STANDING_OF_0, TWO_TO_32, after_row, write_pairs};
 
 // The bucket of each difference holds its standing with a count of 0.
 fn clear_buckets(buckets: &mut [u64])
     requires { length buckets.old ≤ 256 }
     ensures { buckets.new ≡ list_below (length buckets.old) (λ β. count_with 0 β) }
 {
-    let mut beta = 0;
-    while beta < buckets.len() {
-        buckets[beta] = STANDING_OF_0 - beta as u64;
-        beta += 1;
+    for (beta, bucket) in buckets.iter_mut().enumerate() {
+        *bucket = STANDING_OF_0 - beta as u64;
     }
 }
 
@@ -34,11 +32,12 @@ fn rise_alone(differences: &[u32], y: usize, buckets: &mut [u64], running: u64) 
     let bucket = differences[y] as usize;
     let standing = buckets[bucket] + TWO_TO_32;
     buckets[bucket] = standing;
-    larger(running, standing)
+    running.max(standing)
 }
 
 // The largest count of the differences and the smallest difference that has it, as one standing: a running value while the counts rise,
 // which starts from the bucket of 0 with its count of 0.
+// kept: beside `largest_risen`. Start, rise and end of the value differ, so a trait of three methods would be no plainer than both loops.
 fn largest_alone(differences: &[u32], buckets: &mut [u64]) -> u64
     requires { (length differences.now ≤ 128) × (0 < length buckets.old) × (length buckets.old ≤ 256)
         × Below (length buckets.old) differences.now }
@@ -49,15 +48,14 @@ fn largest_alone(differences: &[u32], buckets: &mut [u64]) -> u64
 {
     clear_buckets(buckets);
     let mut running = buckets[0];
-    let mut y = 0;
-    while y < differences.len() {
+    for y in 0..differences.len() {
         running = rise_alone(differences, y, buckets, running);
-        y += 1;
     }
     running
 }
 
 // Every row in turn, from 1 to 2^n − 1. It starts from a count that every row exceeds.
+// kept: beside `sweep_cells`. A trait would have to say what each kind of buckets keeps between rows: longer than the lines they share.
 fn sweep_narrow(n: u32, m: u32, rows: &[u32], pairs: &mut [u32], buckets: &mut [u64]) -> FoundCell
     requires { Box n m rows.now × (m ≤ 8) × (length rows.now ≡ 2 * length pairs.old) × (length buckets.old ≡ 2 ^ m) }
     ensures { (cell_found result ≡ spec.largest_cell n m rows.now)
@@ -69,17 +67,16 @@ fn sweep_narrow(n: u32, m: u32, rows: &[u32], pairs: &mut [u32], buckets: &mut [
         a: 0,
         beta: 0,
     };
-    let mut a: u32 = 1;
-    while a < inputs {
+    for a in 1..inputs {
         write_pairs(rows, a, pairs);
         let best = largest_alone(pairs, buckets);
         found = after_row(a, best, found);
-        a += 1;
     }
     found
 }
 
 // The largest cell of a box that was checked. The buckets are made once for all rows, and room for the pairs is lent.
+// kept: beside `find_wide`. The buckets' number and the sweep differ: only the line with `half` is shared, so one form is no plainer.
 pub fn find_narrow(n: u32, m: u32, rows: &[u32], pairs: &mut [u32]) -> FoundCell
     requires { Box n m rows.now × (m ≤ 8) × (length pairs.old ≡ 128) }
     ensures { (cell_found result ≡ spec.largest_cell n m rows.now) × AnyContent pairs.old pairs.new }

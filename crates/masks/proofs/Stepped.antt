@@ -1,8 +1,8 @@
 -- A step table added to the truth table of a component gives another's; one or two of them lead to the mask that comes next. Assumes nothing.
 use mathlib.Core.Path.{◌≡◌, sym, ap, ap₂, ◌∙◌, subst}
 use mathlib.Core.List.{List}
-use Prim.Native.Nat.{ℕ, zero, suc, ◌+◌, ◌*◌, ◌-◌, ◌/◌, ◌%◌, ◌^◌, ◌≤◌, ◌<◌, zero-le}
-use native.Mathlib.Nat.{mul-add-div_right, div-eq_of_lt, mul-add-mod_self_right, mod-eq_of_lt, mul-le-mul, mul-le-mul_right, add-zero, le_trans, lt_of_lt_of_le, lt_of_le_of_lt, add-sub_cancel_left, suc-mul}
+use Prim.Native.Nat.{ℕ, suc, ◌+◌, ◌*◌, ◌-◌, ◌/◌, ◌%◌, ◌^◌, ◌≤◌, ◌<◌, zero-le}
+use native.Mathlib.Nat.{mul-add-div_right, div-eq_of_lt, mul-add-mod_self_right, mod-eq_of_lt, mul-le-mul_right, add-zero, lt_of_lt_of_le, lt_of_le_of_lt, add-sub_cancel_left, suc-mul}
 use native.Mathlib.Omega.{arith}
 use lib.Bits.{bit_xor, xor_zero_r}
 use lib.Count.{count_trailing_zeros}
@@ -28,9 +28,6 @@ module _ {m : ℕ} {rows steps : List ℕ} (s : Steps m rows steps) {k : ℕ} (h
 
   pub step_inside : k * length rows + length rows ≤ length steps
   step_inside = omega (arith, table_end, steps_long)
-
-  pub step_bound : k * length rows + length rows ≤ 8192
-  step_bound = le_trans table_end (mul-le-mul s.m_high s.few)
 
   -- the part of the step tables that is added
   abbrev pub part : List ℕ

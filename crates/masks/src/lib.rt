@@ -45,13 +45,7 @@ pub fn first_mask(limit: u32, c: u64) -> u64
 pub fn is_preferred(low: u32, high: u32, c: u32, best: u32) -> bool
     ensures { result ≡ preferred low high c best }
 {
-    if low < high {
-        true
-    } else if low == high {
-        u32::count_ones(c) < u32::count_ones(best)
-    } else {
-        false
-    }
+    low < high || low == high && u32::count_ones(c) < u32::count_ones(best)
 }
 
 // Whether the result of mask c comes before that of mask `best`, where two parts of a sweep are merged: by its figure, and among equal
@@ -59,21 +53,7 @@ pub fn is_preferred(low: u32, high: u32, c: u32, best: u32) -> bool
 pub fn is_sooner(low: u32, high: u32, c: u32, best: u32) -> bool
     ensures { result ≡ sooner low high c best }
 {
-    if low < high {
-        return true;
-    }
-    if low != high {
-        return false;
-    }
-    let ones = u32::count_ones(c);
-    let fewest = u32::count_ones(best);
-    if ones < fewest {
-        return true;
-    }
-    if ones != fewest {
-        return false;
-    }
-    c < best
+    (low, u32::count_ones(c), c) < (high, u32::count_ones(best), best)
 }
 
 // The lines on a part of a sweep, of an m that was checked: it lies from 1 to 2^m − 1 and has a mask.
@@ -104,10 +84,8 @@ pub fn write_component(rows: &[u32], c: u32, table: &mut [u8])
     requires { length table.old ≡ length rows.now }
     ensures { table.new ≡ list_below (length rows.now) (λ x. component rows.now c x) }
 {
-    let mut x = 0;
-    while x < rows.len() {
-        table[x] = component_at(rows[x], c);
-        x += 1;
+    for (x, row) in rows.iter().enumerate() {
+        table[x] = component_at(*row, c);
     }
 }
 
@@ -117,11 +95,9 @@ pub fn write_steps(m: u32, rows: &[u32], steps: &mut [u8])
     ensures { Steps m rows.now steps.new }
 {
     let size = rows.len();
-    let mut i = 0;
-    while i < steps.len() {
+    for (i, step) in steps.iter_mut().enumerate() {
         let run = 2 * boolean::power_of_two((i / size) as u32) - 1;
-        steps[i] = component_at(rows[i % size], run as u32);
-        i += 1;
+        *step = component_at(rows[i % size], run as u32);
     }
 }
 
@@ -131,10 +107,8 @@ fn add_table(other: &[u8], table: &mut [u8])
     ensures { table.new
         ≡ list_below (length other.now) (λ x. bit_xor (at table.old x) (at other.now x)) }
 {
-    let mut x = 0;
-    while x < other.len() {
-        table[x] = table[x] ^ other[x];
-        x += 1;
+    for (x, value) in other.iter().enumerate() {
+        table[x] ^= *value;
     }
 }
 

@@ -19,4 +19,4 @@ returns-in_err-check_box c =
 pub list_with-requires : goal.list_with-requires
 list_with-requires c =
     let a = c.args in
-    (box a.n a.m a.rows.now [] (sym c.in_ok-check_box.ensures), refl, refl)
+    (box a.n a.m a.rows.now [] (sym c.in_ok-check_box.ensures), refl)
