@@ -63,11 +63,15 @@ unfoldable pub largest_below : (k : ℕ) (f : ℕ → ℕ) → ℕ
 largest_below zero f = zero
 largest_below (suc k) f = max (largest_below k f) (f k)
 
--- no two members are equal
-unfoldable pub distinct : List ℕ → Bool
+-- no two members are the same, by a test of two
+unfoldable pub distinct_by : {A : Type 0} (same : A → A → Bool) (xs : List A) → Bool
 unfolding every
-distinct [] = true
-distinct (x ∷ xs) = every (λ y. not (eqb x y)) xs && distinct xs
+distinct_by same [] = true
+distinct_by same (x ∷ xs) = every (λ y. not (same x y)) xs && distinct_by same xs
+
+-- no two numbers are equal
+abbrev pub distinct : List ℕ → Bool
+distinct xs = distinct_by eqb xs
 
 -- What a function leaves in an array that it was lent only to work in: any content, as long as before.
 abbrev pub AnyContent : {A : Type 0} (old new : List A) → Type 0
