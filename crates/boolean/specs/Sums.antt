@@ -1,5 +1,5 @@
 -- Sums, counts and lists over the numbers below a bound.
-use Rattle.std.specs.Prelude.{ℕ, zero, suc, ◌+◌, max, ◌≡◌, Bool, true, false, not, ◌&&◌, List, [], ◌∷◌, ◌++◌, eqb, ℤ, pos, ◌+ℤ◌, length}
+use Rattle.std.specs.Prelude.{ℕ, zero, suc, ◌+◌, max, ◌≡◌, Bool, true, false, not, ◌&&◌, List, [], ◌∷◌, ◌++◌, ℤ, pos, ◌+ℤ◌, length}
 use Rattle.std.specs.Int.Bits.{bit_xor}
 
 -- F 0 + F 1 + .. + F (k − 1)
@@ -64,14 +64,10 @@ largest_below zero f = zero
 largest_below (suc k) f = max (largest_below k f) (f k)
 
 -- no two members are the same, by a test of two
-unfoldable pub distinct_by : {A : Type 0} (same : A → A → Bool) (xs : List A) → Bool
+unfoldable pub distinct : {A : Type 0} (same : A → A → Bool) (xs : List A) → Bool
 unfolding every
-distinct_by same [] = true
-distinct_by same (x ∷ xs) = every (λ y. not (same x y)) xs && distinct_by same xs
-
--- no two numbers are equal
-abbrev pub distinct : List ℕ → Bool
-distinct xs = distinct_by eqb xs
+distinct same [] = true
+distinct same (x ∷ xs) = every (λ y. not (same x y)) xs && distinct same xs
 
 -- What a function leaves in an array that it was lent only to work in: any content, as long as before.
 abbrev pub AnyContent : {A : Type 0} (old new : List A) → Type 0

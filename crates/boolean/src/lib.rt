@@ -3,7 +3,7 @@
 
 ghost use Rattle.std.specs.Prelude.{◌≡◌, not, ◌^◌, ◌≤◌, ◌<◌, nat_abs, length};
 ghost use Rattle.boolean.specs.Bits as bits;
-ghost use Rattle.boolean.specs.Sums.{every, distinct_by};
+ghost use Rattle.boolean.specs.Sums.{every, distinct};
 ghost use Rattle.boolean.specs.Functions.{sign_bit};
 
 // w·x: the parity of the ones in (w AND x).
@@ -66,7 +66,7 @@ pub fn lacks_row<T: PartialEq + Copy>(rows: &[T], row: T) -> bool
 
 // Whether no two rows, or no two bytes or other items, are equal: no later row equals row i, for each i.
 pub fn rows_distinct<T: PartialEq + Copy>(rows: &[T]) -> bool
-    ensures { result ≡ distinct_by T.eq rows.now }
+    ensures { result ≡ distinct T.eq rows.now }
 {
     rows.iter()
         .enumerate()
