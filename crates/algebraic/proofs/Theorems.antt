@@ -164,7 +164,7 @@ degree_falls n m rows i j wider d e v w p q =
 
 -- ---- a bijective box
 module _ (n m : ℕ) (rows : List ℕ) (size : length rows ≡ 2 ^ n) where
-  injective : distinct rows ≡ true → Injective n rows
+  injective : distinct eqb rows ≡ true → Injective n rows
   injective d x y hx hy e = go (dec_lt x y) (dec_lt y x)
     where
       go : Dec (x < y) → Dec (y < x) → x ≡ y
@@ -176,7 +176,7 @@ module _ (n m : ℕ) (rows : List ℕ) (size : length rows ≡ 2 ^ n) where
   pub bijective_iff : (bijective n m rows ≡ true) ↔ ((n ≡ m) × Injective n rows)
   unfolding bijective
   bijective_iff = (
-    λ b. let p = both (eqb n m) (distinct rows) b in (eqb-true n m p.0, injective p.1),
+    λ b. let p = both (eqb n m) (distinct eqb rows) b in (eqb-true n m p.0, injective p.1),
     λ p.
         bijective_equal n m rows p.0
         ∙ distinct_of rows (λ x y l h e. let same : x ≡ y = p.1 x y (omega arith) (omega arith) e in omega arith),

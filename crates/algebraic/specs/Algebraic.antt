@@ -21,4 +21,4 @@ box_degree n m rows i = first_least (degrees n m rows i)
 -- bijective: n = m and no two rows equal
 unfoldable pub bijective : (n m : ℕ) (rows : List ℕ) → Bool
 unfolding distinct
-bijective n m rows = eqb n m && distinct rows
+bijective n m rows = eqb n m && distinct eqb rows

@@ -316,7 +316,7 @@ fn weakest_of(n: u32, m: u32, rows: &[u32], i: u32, words: &mut [u32], inputs: &
     ensures { (degree_candidate result ≡ box_degree n m rows.now i) × (result.threshold ≡ threshold_of result.degree result.c)
         × (words.new ≡ normal_form n (at rows.now)) × AnyContent inputs.old inputs.new }
 {
-    boolean::copy(rows, words);
+    words.copy_from_slice(rows);
     moebius(n, words);
     let count = gather(m, words, inputs);
     sweep(n, m, words, i, inputs, count)

@@ -9,7 +9,7 @@ use native.Mathlib.Omega.{arith}
 use borrow.Author.Tests.{eq-eqb}
 use lib.Bits.{bit_xor, xor_lt, xor_zero_r}
 use lib.Dec.{eqb}
-use lib.IntN.{ℤ, pos, negsuc, ◌+ℤ◌, ◌-ℤ◌, ◌*ℤ◌, nat_abs, +ℤ-neg_ℤ_cancel}
+use lib.IntN.{ℤ, pos, negsuc, ◌-ℤ◌, ◌*ℤ◌, nat_abs, +ℤ-neg_ℤ_cancel}
 use Rattle.boolean.specs.Bits.{affine, dot}
 use Rattle.boolean.specs.Functions.{walsh, transform, agreement, autocorrelation, changes, Boolean, same_value, sign}
 use Rattle.boolean.proofs.Cases.{all5, same_value_lem}

@@ -1,6 +1,6 @@
 -- A test of every member of a list, and the loop that runs it by an index and stops at the first member that fails.
 use Prim.Native.Nat.{ℕ, zero, suc, ◌+◌, ◌<◌, ◌≤◌, zero-le, suc-le-suc}
-use mathlib.Core.Path.{◌≡◌, refl, sym, ◌∙◌, ap₂}
+use mathlib.Core.Path.{◌≡◌, refl, sym, ap, ◌∙◌, ap₂}
 use mathlib.Core.List.{List, [], ◌∷◌}
 use mathlib.Core.Bool.{Bool, true, false, ◌&&◌, and-eq-true_iff}
 use native.Mathlib.Nat.{not-suc-le-zero, le_of_suc-le-suc, zero-lt-suc}
@@ -9,6 +9,7 @@ use native.Mathlib.Omega.{arith}
 use lib.ListN.{length, get_or, drop, drop_of_length-le, replicate}
 use lib.Seq.{drop-cons}
 use lib.Dec.{ltb}
+use Rattle.std.specs.List.{list_all}
 use Rattle.boolean.specs.Sums.{every}
 use borrow.Author.Tests.{ltb-true}
 
@@ -18,6 +19,11 @@ both a b = (and-eq-true_iff a b).0
 
 pub both_true : (a b : Bool) → a ≡ true → b ≡ true → (a && b) ≡ true
 both_true a b p q = (and-eq-true_iff a b).1 (p, q)
+
+pub every_is : {A : Type 0} (p : A → Bool) (xs : List A) → every p xs ≡ list_all p xs
+unfolding every
+every_is p [] = refl
+every_is p (x ∷ xs) = ap (λ (t : Bool). p x && t) (every_is p xs)
 
 module _ {A : Type 0} (p : A → Bool) (d : A) where
   pub every_at : (xs : List A) → every p xs ≡ true → (k : ℕ) → k < length xs → p (get_or xs k d) ≡ true

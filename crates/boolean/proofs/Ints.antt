@@ -1,6 +1,6 @@
 -- The ring laws of ℤ that lib.IntN lacks: the product distributes over the sum, is associative and passes signs, and a few identities.
 use mathlib.Core.Path.{◌≡◌, refl, sym, ap, ap₂, ◌∙◌}
-use Prim.Native.Nat.{zero, suc, ◌+◌, ◌*◌, ◌-◌}
+use Prim.Native.Nat.{zero, suc}
 use lib.IntN.{ℤ, pos, negsuc, ◌+ℤ◌, ◌-ℤ◌, ◌*ℤ◌, neg_ℤ, suc_ℤ-+ℤ, pred_ℤ-+ℤ, +ℤ_assoc, +ℤ_comm, *ℤ_comm, suc_ℤ-*ℤ, pred_ℤ-*ℤ, +ℤ_idl, +ℤ_idr, zero-*ℤ, +ℤ-neg_ℤ_cancel, neg_ℤ-+ℤ, +ℤ_invr, +ℤ_invl, *ℤ-one}
 
 pub +ℤ-left-comm : (a b c : ℤ) → a +ℤ (b +ℤ c) ≡ b +ℤ (a +ℤ c)

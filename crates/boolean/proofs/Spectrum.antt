@@ -1,14 +1,13 @@
 -- The Walsh values of a 0/1 function, which are twice its spectrum: Parseval in naturals and what follows, inversion, and the autocorrelation.
-use mathlib.Core.Path.{◌≡◌, refl, sym, ap, ap₂, ◌∙◌, subst}
-use mathlib.Core.Logic.{◌⊎◌, inl, inr}
-use Prim.Native.Nat.{ℕ, zero, suc, ◌+◌, ◌*◌, ◌-◌, ◌/◌, ◌^◌, ◌<◌, ◌≤◌}
+use mathlib.Core.Path.{◌≡◌, refl, sym, ap, ap₂, ◌∙◌}
+use Prim.Native.Nat.{ℕ, zero, suc, ◌+◌, ◌*◌, ◌/◌, ◌^◌, ◌<◌, ◌≤◌}
 use native.Mathlib.Nat.{le_of_eq, mul-one, mul-div_right, mul-zero, not-suc-le-zero}
 use native.Mathlib.Omega.{arith}
 use lib.Pow.{pow_pos}
 use lib.Bits.{bit_xor, xor_lt}
 use lib.IntN.{ℤ, pos, negsuc, ◌+ℤ◌, ◌-ℤ◌, ◌*ℤ◌, neg_ℤ, nat_abs, +ℤ_idl, *ℤ_comm, *ℤ-one, -ℤ-+ℤ_cancel, +ℤ_invr}
 use Rattle.boolean.specs.Bits.{dot}
-use Rattle.boolean.specs.Functions.{inverse, sign, walsh, transform, autocorrelation, square, Boolean, sign_bit}
+use Rattle.boolean.specs.Functions.{sign, walsh, transform, autocorrelation, square, Boolean, sign_bit}
 use Rattle.boolean.specs.Sums.{sum_below, total_below}
 use Rattle.boolean.proofs.Ints.{*ℤ-left-comm, *ℤ-neg, neg_neg, *ℤ-distl}
 use Rattle.boolean.proofs.Dots.{bit_cases}

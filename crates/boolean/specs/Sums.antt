@@ -1,5 +1,5 @@
 -- Sums, counts and lists over the numbers below a bound.
-use Rattle.std.specs.Prelude.{ℕ, zero, suc, ◌+◌, max, ◌≡◌, Bool, true, false, not, ◌&&◌, List, [], ◌∷◌, ◌++◌, eqb, ℤ, pos, ◌+ℤ◌, length}
+use Rattle.std.specs.Prelude.{ℕ, zero, suc, ◌+◌, max, ◌≡◌, Bool, true, false, not, ◌&&◌, List, [], ◌∷◌, ◌++◌, ℤ, pos, ◌+ℤ◌, length}
 use Rattle.std.specs.Int.Bits.{bit_xor}
 
 -- F 0 + F 1 + .. + F (k − 1)
@@ -63,11 +63,11 @@ unfoldable pub largest_below : (k : ℕ) (f : ℕ → ℕ) → ℕ
 largest_below zero f = zero
 largest_below (suc k) f = max (largest_below k f) (f k)
 
--- no two members are equal
-unfoldable pub distinct : List ℕ → Bool
+-- no two members are the same, by a test of two
+unfoldable pub distinct : {A : Type 0} (same : A → A → Bool) (xs : List A) → Bool
 unfolding every
-distinct [] = true
-distinct (x ∷ xs) = every (λ y. not (eqb x y)) xs && distinct xs
+distinct same [] = true
+distinct same (x ∷ xs) = every (λ y. not (same x y)) xs && distinct same xs
 
 -- What a function leaves in an array that it was lent only to work in: any content, as long as before.
 abbrev pub AnyContent : {A : Type 0} (old new : List A) → Type 0

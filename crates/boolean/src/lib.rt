@@ -1,12 +1,13 @@
 // Boolean functions: the inner product, powers of two, bytes and rows. The definitions are in specs/, their laws in proofs/.
 #![tactic(auto)]
 
-ghost use Rattle.std.specs.Prelude.{◌≡◌, not, ◌^◌, ◌≤◌, ◌<◌, eqb, nat_abs, length};
+ghost use Rattle.std.specs.Prelude.{◌≡◌, not, ◌^◌, ◌≤◌, ◌<◌, nat_abs, length};
 ghost use Rattle.boolean.specs.Bits as bits;
 ghost use Rattle.boolean.specs.Sums.{every, distinct};
 ghost use Rattle.boolean.specs.Functions.{sign_bit};
 
 // w·x: the parity of the ones in (w AND x).
+#[tactic(auto, unfolding(crate::specs::Bits::dot, crate::specs::Bits::parity))]
 pub fn dot(w: u32, x: u32) -> u32
     ensures { (result ≡ bits.dot w x) × (result < 2) }
 {
@@ -25,7 +26,7 @@ pub fn power_of_two(k: u32) -> usize
 pub fn wide(x: u8) -> u32
     ensures { (result ≡ x) × (result < 256) }
 {
-    x as u32
+    u32::from(x)
 }
 
 // The magnitude of a signed number, by negation. The lowest number has no negation that fits, so one is added before and after it.
@@ -41,10 +42,11 @@ pub fn magnitude(v: i32) -> u32
 }
 
 // The sign of a number as a truth value: 1 for what is below 0.
+#[tactic(auto, unfolding(crate::specs::Functions::sign_bit))]
 pub fn sign_bit(v: i32) -> u8
     ensures { result ≡ sign_bit v }
 {
-    if v < 0 { 1 } else { 0 }
+    u8::from(v < 0)
 }
 
 // A copy of rows, or of other numbers.
@@ -52,67 +54,21 @@ pub fn copy(rows: &[u32], out: &mut [u32])
     requires { length out.old ≡ length rows.now }
     ensures { out.new ≡ rows.now }
 {
-    let mut x = 0;
-    while x < rows.len() {
-        out[x] = rows[x];
-        x += 1;
-    }
+    out.copy_from_slice(rows);
 }
 
-// Whether no row equals this one.
-pub fn lacks_row(rows: &[u32], row: u32) -> bool
-    ensures { result ≡ every (λ y. not (eqb row y)) rows.now }
+// Whether no row, or no byte or other item, equals this one.
+pub fn lacks_row<T: PartialEq + Copy>(rows: &[T], row: T) -> bool
+    ensures { result ≡ every (λ y. not (T.eq row y)) rows.now }
 {
-    let mut k = 0;
-    while k < rows.len() {
-        if row == rows[k] {
-            return false;
-        }
-        k += 1;
-    }
-    true
+    rows.iter().all(|other| row != *other)
 }
 
-// Whether no two rows are equal: no later row equals row i, for each i.
-pub fn rows_distinct(rows: &[u32]) -> bool
-    ensures { result ≡ distinct rows.now }
+// Whether no two rows, or no two bytes or other items, are equal: no later row equals row i, for each i.
+pub fn rows_distinct<T: PartialEq + Copy>(rows: &[T]) -> bool
+    ensures { result ≡ distinct T.eq rows.now }
 {
-    let mut i = 0;
-    while i < rows.len() {
-        let later = i + 1;
-        if !lacks_row(&rows[later..], rows[i]) {
-            return false;
-        }
-        i += 1;
-    }
-    true
-}
-
-// Whether no byte equals this one.
-fn lacks_byte(bytes: &[u8], byte: u8) -> bool
-    ensures { result ≡ every (λ y. not (eqb byte y)) bytes.now }
-{
-    let mut k = 0;
-    while k < bytes.len() {
-        if byte == bytes[k] {
-            return false;
-        }
-        k += 1;
-    }
-    true
-}
-
-// Whether no two bytes are equal: `rows_distinct` for bytes, since a function takes slices of one type.
-pub fn bytes_distinct(bytes: &[u8]) -> bool
-    ensures { result ≡ distinct bytes.now }
-{
-    let mut i = 0;
-    while i < bytes.len() {
-        let later = i + 1;
-        if !lacks_byte(&bytes[later..], bytes[i]) {
-            return false;
-        }
-        i += 1;
-    }
-    true
+    rows.iter()
+        .enumerate()
+        .all(|(i, row)| lacks_row(&rows[i + 1..], *row))
 }

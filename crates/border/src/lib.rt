@@ -25,7 +25,7 @@ pub fn give(found: &[u32], figures: &mut [u32]) -> u32
     if figures.len() != found.len() {
         return refusals::number_of(Refusal::WrittenLength);
     }
-    boolean::copy(found, figures);
+    figures.copy_from_slice(found);
     0
 }
 

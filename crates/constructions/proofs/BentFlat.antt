@@ -8,7 +8,7 @@ use native.Mathlib.Nat.{le_of_eq, le_refl, le_trans, mod-lt, mul-le-mul, mul-one
 use native.Mathlib.Omega.{arith}
 use borrow.Author.Tests.{ltb-true}
 use lib.Bits.{bit_xor, xor_lt}
-use lib.Dec.{ltb}
+use lib.Dec.{eqb, ltb}
 use lib.IntN.{ℤ, pos, ◌*ℤ◌, neg_ℤ, nat_abs}
 use lib.ListN.{length}
 use lib.Pow.{high, low, pow-add, pow_pos, shr_lt, split}
@@ -63,9 +63,9 @@ module _ (h : ℕ) (permutation table : List ℕ) where
 
   module _ (size : length permutation ≡ 2 ^ h) (p : is_permutation (2 ^ h) permutation ≡ true) (bits : Boolean h (at table)) where
     -- what the test of a permutation says
-    tests : (all_below (2 ^ h) permutation ≡ true) × (distinct permutation ≡ true)
+    tests : (all_below (2 ^ h) permutation ≡ true) × (distinct eqb permutation ≡ true)
     unfolding is_permutation
-    tests = both (all_below (2 ^ h) permutation) (distinct permutation) p
+    tests = both (all_below (2 ^ h) permutation) (distinct eqb permutation) p
 
     -- its entries are below 2^h
     entry_lt : (x : ℕ) → x < 2 ^ h → at permutation x < 2 ^ h

@@ -1,5 +1,5 @@
 -- The Maiorana-McFarland form of a bent function of n = 2h inputs.
-use Rattle.std.specs.Prelude.{ℕ, ◌/◌, ◌%◌, ◌^◌, Bool, ◌&&◌, List}
+use Rattle.std.specs.Prelude.{ℕ, ◌/◌, ◌%◌, ◌^◌, Bool, ◌&&◌, List, eqb}
 use Rattle.std.specs.Int.Bits.{bit_xor}
 use Rattle.boolean.specs.Bits.{dot}
 use Rattle.boolean.specs.Sums.{list_below, distinct}
@@ -18,4 +18,4 @@ bent_table n permutation table = list_below (2 ^ n) (λ z. bent_form (n / 2) per
 -- a permutation of 0 to size − 1, of a list that is as long: every entry is in range, and no two are equal
 unfoldable pub is_permutation : (size : ℕ) (permutation : List ℕ) → Bool
 unfolding distinct
-is_permutation size permutation = all_below size permutation && distinct permutation
+is_permutation size permutation = all_below size permutation && distinct eqb permutation

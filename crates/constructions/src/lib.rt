@@ -183,7 +183,7 @@ fn is_permutation(size: usize, entries: &[u8]) -> bool
     if !refusals::values_below(entries, size) {
         return false;
     }
-    boolean::bytes_distinct(entries)
+    boolean::rows_distinct(entries)
 }
 
 // The value of the bent form at z, whose upper half of bits is x, and whose lower half is y.

@@ -126,7 +126,7 @@ below limit xs = (
   λ h. every_of (λ y. ltb y limit) 0 xs (λ x l. lt-ltb (at xs x) limit (h x l)),
 )
 
-pub unlike : (xs : List ℕ) → (distinct xs ≡ true) ↔ NoTwoEqual xs
+pub unlike : (xs : List ℕ) → (distinct eqb xs ≡ true) ↔ NoTwoEqual xs
 unlike xs = (distinct_at xs, distinct_of xs)
 
 pub box_means : (most n m : ℕ) (rows : List ℕ) {cs : List Check} {ls : List TableLine}

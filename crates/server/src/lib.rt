@@ -107,7 +107,7 @@ fn fresh(n: u32, m: u32, rows: &[u32]) -> Place
         b: 0,
     };
     let mut kept = [0u32; 256];
-    boolean::copy(rows, &mut kept[..rows.len()]);
+    kept[..rows.len()].copy_from_slice(rows);
     Place {
         taken: 1,
         n,

@@ -86,7 +86,7 @@ fn write_swapped(rows: &[u32], low: usize, high: usize, out: &mut [u32])
     requires { (length out.old ≡ length rows.now) × (low < length rows.now) × (high < length rows.now) }
     ensures { out.new ≡ swapped rows.now low high }
 {
-    boolean::copy(rows, out);
+    out.copy_from_slice(rows);
     out[low] = rows[high];
     out[high] = rows[low];
 }

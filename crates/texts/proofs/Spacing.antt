@@ -1,11 +1,15 @@
 -- A loop that writes figures, each after a space: those before the index stand in the buffer. Assumes nothing.
-use mathlib.Core.Path.{◌≡◌, ap, ◌∙◌}
+use mathlib.Core.Path.{◌≡◌, refl, sym, ap, ◌∙◌}
 use mathlib.Core.List.{List, [], ◌∷◌, ◌++◌, append-nil}
 use Prim.Native.Nat.{ℕ, ◌+◌, ◌*◌, ◌≤◌, ◌<◌, zero-le}
 use native.Mathlib.Numerals.{add-one}
 use native.Mathlib.Omega.{arith}
-use lib.ListN.{length, get_or, take}
+use lib.ListN.{length, get_or, take, drop, length-append}
 use lib.Seq.{sets, take-suc, take_all, length-take-le}
+use borrow.Rule.Slice.PartMut.{put_mid}
+use Rattle.std.proofs.Common.{append_assoc}
+use Rattle.std.proofs.lemmas.List.Edits.{sets-eq, paste_all}
+use Rattle.std.proofs.lemmas.Slice.{put_mid-paste}
 use Rattle.boolean.specs.Sums.{each}
 use Rattle.boolean.proofs.Lists.{each_append}
 use Rattle.boolean.proofs.Stored.{Stored, stored_none, stored_more, stored_length}
@@ -44,3 +48,21 @@ module _ {figures : List ℕ} {start : ℕ} {old : List ℕ} where
     spacing_all l =
         let all : spaced (take i figures) ≡ spaced figures = ap spaced (take_all i figures l) in
         (t.stored.place ∙ ap (λ (s : List ℕ). start + length s) all, t.stored.stored ∙ ap (sets old start) all)
+
+-- bytes that replace as many in the middle of the buffer
+pub put_sets : (out bytes : List ℕ) (at : ℕ) {k : ℕ} {ys : List ℕ} → ys ≡ bytes → length bytes ≡ k → at + length bytes ≤ length out
+    → put_mid at k out ys ≡ sets out at bytes
+put_sets out bytes at {k} {ys} is long h =
+    put_mid-paste at k out ys bytes (length bytes) is long refl ∙ paste_all out at bytes (length bytes) refl
+    ∙ sym (sets-eq bytes out at h ∙ append_assoc (take at out) bytes (drop (at + length bytes) out))
+
+-- the word and the figures of a line, where both have been written
+pub line_written : (word figures : List ℕ) {at after end : ℕ} {out first second : List ℕ} → after ≡ at + length word → first ≡ sets out at word
+    → end ≡ after + length (spaced figures) → second ≡ sets first after (spaced figures) → Stored at out (word ++ spaced figures) end second
+line_written word figures {at = at} {out = out} p q r s = stored_more (stored_more (stored_none at out) word p q) (spaced figures) r s
+
+-- one place is left for the line's end
+pub line_room : (word figures : List ℕ) {at end : ℕ} {out second : List ℕ} → Stored at out (word ++ spaced figures) end second
+    → at + length word + 11 * length figures + 1 ≤ length out → end < length second
+line_room word figures t h =
+    omega (arith, t.place, stored_length t, length-append word (spaced figures), spaced_few figures)

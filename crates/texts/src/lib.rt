@@ -10,12 +10,8 @@ pub fn put_bytes(out: &mut [u8], at: usize, bytes: &[u8]) -> usize
     requires { at + length bytes.now ≤ length out.old }
     ensures { (result ≡ at + length bytes.now) × (out.new ≡ sets out.old at bytes.now) }
 {
-    let mut i: usize = 0;
-    while i < bytes.len() {
-        out[at + i] = bytes[i];
-        i += 1;
-    }
-    at + i
+    out[at..at + bytes.len()].copy_from_slice(bytes);
+    at + bytes.len()
 }
 
 // A number's decimal digits at a place, and the place after them.
@@ -44,10 +40,8 @@ fn put_figures(out: &mut [u8], at: usize, figures: &[u32]) -> usize
         × (out.new ≡ sets out.old at (spaced figures.now)) }
 {
     let mut next = at;
-    let mut i = 0;
-    while i < figures.len() {
-        next = put_figure(out, next, figures[i]);
-        i += 1;
+    for figure in figures {
+        next = put_figure(out, next, *figure);
     }
     next
 }
