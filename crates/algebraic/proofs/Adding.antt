@@ -1,52 +1,57 @@
--- The turns that XOR one list to another: k of them have changed the first k numbers of it and nothing else.
-use mathlib.Core.Path.{◌≡◌, refl, sym, ap, ap₂, ◌∙◌, subst}
-use mathlib.Core.List.{List, ◌++◌}
+-- The turns that XOR the lower half to the upper: k of them have changed the first k numbers of the upper half and nothing else.
+use mathlib.Core.Path.{◌≡◌, refl, sym, ap₂, ◌∙◌, subst}
+use mathlib.Core.List.{List}
 use Prim.Native.Nat.{ℕ, ◌+◌, ◌≤◌, ◌<◌}
 use native.Mathlib.Decide.{ℕ_discrete}
 use native.Mathlib.Omega.{arith}
 use lib.Bits.{bit_xor, xor_comm}
-use lib.ListN.{length, take, drop, set, length-set}
-use lib.Seq.{get_or-take, get_or-set_same, get_or-set_other, length-take-le}
-use Rattle.std.proofs.lemmas.List.{get_or-drop, get_or_append_left, get_or-append-add}
+use lib.ListN.{length, set, length-set}
+use lib.Seq.{get_or-set_same, get_or-set_other}
 use Rattle.boolean.specs.Functions.{at}
 use Rattle.algebraic.specs.Work.{HalvesAdded}
 
-pub record Adding (lower old : List ℕ) (k : ℕ) (new : List ℕ) : Type 0 where
+pub record Adding (h k : ℕ) (old new : List ℕ) : Type 0 where
+  pub within : k ≤ h
   pub long : length new ≡ length old
-  pub sums : (i : ℕ) → i < k → at new i ≡ bit_xor (at old i) (at lower i)
-  pub rest : (i : ℕ) → k ≤ i → at new i ≡ at old i
+  pub kept : (i : ℕ) → i < h → at new i ≡ at old i
+  pub sums : (i : ℕ) → i < k → at new (h + i) ≡ bit_xor (at old i) (at old (h + i))
+  pub rest : (i : ℕ) → k ≤ i → at new (h + i) ≡ at old (h + i)
 
-pub adding_none : (lower old : List ℕ) → Adding lower old 0 old
-adding_none lower old = record { long = refl; sums = λ i below. absurd (omega arith); rest = λ i from. refl }
+pub adding_none : (h : ℕ) (old : List ℕ) → Adding h 0 old old
+adding_none h old = record {
+  within = omega arith;
+  long = refl;
+  kept = λ i below. refl;
+  sums = λ i below. absurd (omega arith);
+  rest = λ i from. refl;
+}
+
+pub adding_all : {h k : ℕ} {old new : List ℕ} → Adding h k old new → h ≤ k → HalvesAdded h old new
+adding_all t end = record { kept = t.kept; sums = λ i below. t.sums i (omega arith) }
 
 -- one more turn
-pub adding_more : {lower old new : List ℕ} {k : ℕ} → Adding lower old k new → k < length new → (sum : ℕ) → sum ≡ bit_xor (at new k) (at lower k)
-    → Adding lower old (k + 1) (set new k sum)
-adding_more {lower} {old} {new} {k} t lt sum e = record {
-  long = length-set new k sum ∙ t.long;
-  sums = λ i below. more i below (ℕ_discrete i k);
-  rest = λ i from. get_or-set_other new k i sum 0 (λ e. omega arith) ∙ t.rest i (omega arith);
-}
-  where
-    here : at (set new k sum) k ≡ bit_xor (at old k) (at lower k)
-    here = get_or-set_same new k sum 0 lt ∙ e ∙ ap (λ (v : ℕ). bit_xor v (at lower k)) (t.rest k (omega arith))
+module _ {h k : ℕ} {old new : List ℕ} (size : length old ≡ h + h) (t : Adding h k old new) (lt : k < h) where
+  abbrev sum : ℕ
+  sum = bit_xor (at new (h + k)) (at new k)
 
-    more : (i : ℕ) → i < k + 1 → Dec (i ≡ k) → at (set new k sum) i ≡ bit_xor (at old i) (at lower i)
-    more i below (yes q) = subst (λ (j : ℕ). at (set new k sum) j ≡ bit_xor (at old j) (at lower j)) (sym q) here
-    more i below (no q) = get_or-set_other new k i sum 0 q ∙ t.sums i (omega arith)
+  abbrev next : List ℕ
+  next = set new (h + k) sum
 
--- all of them, over the upper half of a list
-pub adding_all : {h k : ℕ} {values lower old new : List ℕ} → h ≤ length values → lower ≡ take h values → old ≡ drop h values
-    → Adding lower old k new → h ≤ k → HalvesAdded h values (lower ++ new)
-adding_all {h} {k} {values} {lower} {old} {new} room front back t end = record {
-  kept = λ i below. get_or_append_left lower new 0 i (omega (arith, long)) ∙ as_lower i below;
-  sums = λ i below.
-      ap (λ (j : ℕ). at (lower ++ new) (j + i)) (sym long) ∙ get_or-append-add lower new i 0
-      ∙ t.sums i (omega arith) ∙ xor_comm (at old i) (at lower i) ∙ ap₂ bit_xor (as_lower i below) (ap (λ (l : List ℕ). at l i) back ∙ get_or-drop h values i 0);
-}
-  where
-    long : length lower ≡ h
-    long = ap length front ∙ length-take-le _ _ room
+  elsewhere : (i : ℕ) → (i ≡ h + k → ⊥) → at next i ≡ at new i
+  elsewhere i ne = get_or-set_other new (h + k) i sum 0 ne
 
-    as_lower : (i : ℕ) → i < h → at lower i ≡ at values i
-    as_lower i below = ap (λ (l : List ℕ). at l i) front ∙ get_or-take h values i 0 below
+  sum_is : at next (h + k) ≡ bit_xor (at old k) (at old (h + k))
+  sum_is = get_or-set_same new (h + k) sum 0 (omega (arith, t.long)) ∙ ap₂ bit_xor (t.rest k (omega arith)) (t.kept k lt) ∙ xor_comm (at old (h + k)) (at old k)
+
+  sums_more : (i : ℕ) → i < k + 1 → Dec (i ≡ k) → at next (h + i) ≡ bit_xor (at old i) (at old (h + i))
+  sums_more i below (yes e) = subst (λ (j : ℕ). at next (h + j) ≡ bit_xor (at old j) (at old (h + j))) (sym e) sum_is
+  sums_more i below (no ne) = elsewhere (h + i) (λ e. ne (omega arith)) ∙ t.sums i (omega arith)
+
+  pub adding_more : Adding h (k + 1) old next
+  adding_more = record {
+    within = omega arith;
+    long = length-set new (h + k) sum ∙ t.long;
+    kept = λ i below. elsewhere i (λ e. omega arith) ∙ t.kept i below;
+    sums = λ i below. sums_more i below (ℕ_discrete i k);
+    rest = λ i from. elsewhere (h + i) (λ e. omega arith) ∙ t.rest i (omega arith);
+  }

@@ -66,9 +66,9 @@ fn add_lower_half(values: &mut [u32], h: usize)
     requires { length values.old ≡ h + h }
     ensures { HalvesAdded h values.old values.new }
 {
-    let (lower, upper) = values.split_at_mut(h);
-    for (k, sum) in upper.iter_mut().enumerate() {
-        *sum ^= lower[k];
+    // kept: over the two halves of split_at_mut the degree of an 8 by 8 box takes 1.11 times as long
+    for k in 0..h {
+        values[h + k] ^= values[k];
     }
 }
 
@@ -211,6 +211,7 @@ fn next_below(n: u32, m: u32, words: &[u32], i: u32, inputs: &[u8], threshold: u
 {
     let masks = boolean::power_of_two(m) as u64;
     let mut at: u64 = c;
+    // kept: the next mask within the limit is not the next number, so that no range has the masks in turn
     while at != masks {
         let degree = component_degree(words, inputs, at as u32);
         if degree < threshold {
@@ -265,6 +266,7 @@ fn sweep(n: u32, m: u32, words: &[u32], i: u32, inputs: &[u8]) -> Weakest
         threshold: n + 1,
     };
     let mut met = next_below(n, m, words, i, inputs, found.threshold, 1);
+    // kept: the mask that is met next is not the next number, so that no range has these masks in turn
     while met.c != masks {
         found = weaker(found, met.degree, met.c as u32);
         let next = next_within(m, i, met.c);

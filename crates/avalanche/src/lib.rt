@@ -180,6 +180,7 @@ fn largest_listed(values: &[i32], list: &[u32]) -> u32
 }
 
 // The largest magnitude at an s from 1. None of them has more than 8 ones, so that none is counted.
+// kept: apart from largest_listed, since values that stand side by side are gone through by vector instructions
 fn largest_from_one(values: &[i32]) -> u32
     requires { (1 ≤ length values.now) × (length values.now ≤ 256) }
     ensures { LargestWithin values.now 8 result × (result ≡ largest_magnitude (drop 1 values.now)) }
@@ -331,6 +332,7 @@ fn sweep(
     };
     let mut c = first as u64;
     let mut before = c - 1;
+    // kept: the next mask within the limit is not the next number, so that no range has the masks in turn
     while c < end {
         next_correlation(fixed, n, m, rows, steps, before, c, table, work, values);
         found = with_correlation(found, n, m, rows, j, list, c as u32, values);
