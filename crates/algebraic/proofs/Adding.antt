@@ -4,7 +4,7 @@ use mathlib.Core.List.{List}
 use Prim.Native.Nat.{ℕ, ◌+◌, ◌≤◌, ◌<◌}
 use native.Mathlib.Decide.{ℕ_discrete}
 use native.Mathlib.Omega.{arith}
-use lib.Bits.{bit_xor}
+use lib.Bits.{bit_xor, xor_comm}
 use lib.ListN.{length, set, length-set}
 use lib.Seq.{get_or-set_same, get_or-set_other}
 use Rattle.boolean.specs.Functions.{at}
@@ -32,7 +32,7 @@ adding_all t end = record { kept = t.kept; sums = λ i below. t.sums i (omega ar
 -- one more turn
 module _ {h k : ℕ} {old new : List ℕ} (size : length old ≡ h + h) (t : Adding h k old new) (lt : k < h) where
   abbrev sum : ℕ
-  sum = bit_xor (at new k) (at new (h + k))
+  sum = bit_xor (at new (h + k)) (at new k)
 
   abbrev next : List ℕ
   next = set new (h + k) sum
@@ -41,7 +41,7 @@ module _ {h k : ℕ} {old new : List ℕ} (size : length old ≡ h + h) (t : Add
   elsewhere i ne = get_or-set_other new (h + k) i sum 0 ne
 
   sum_is : at next (h + k) ≡ bit_xor (at old k) (at old (h + k))
-  sum_is = get_or-set_same new (h + k) sum 0 (omega (arith, t.long)) ∙ ap₂ bit_xor (t.kept k lt) (t.rest k (omega arith))
+  sum_is = get_or-set_same new (h + k) sum 0 (omega (arith, t.long)) ∙ ap₂ bit_xor (t.rest k (omega arith)) (t.kept k lt) ∙ xor_comm (at old (h + k)) (at old k)
 
   sums_more : (i : ℕ) → i < k + 1 → Dec (i ≡ k) → at next (h + i) ≡ bit_xor (at old i) (at old (h + i))
   sums_more i below (yes e) = subst (λ (j : ℕ). at next (h + j) ≡ bit_xor (at old j) (at old (h + j))) (sym e) sum_is

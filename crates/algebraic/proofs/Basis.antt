@@ -9,7 +9,7 @@ use native.Mathlib.Nat.{le_trans}
 use native.Mathlib.Omega.{arith}
 use lib.Bits.{bit_xor, xor_block, xor_lt, xor_zero_r}
 use lib.ListN.{set}
-use lib.Pow.{pow_mono}
+use lib.Pow.{pow_mono, pow_pos}
 use Rattle.boolean.specs.Bits.{dot}
 use Rattle.boolean.specs.Functions.{at}
 use Rattle.boolean.proofs.Dots.{dot_zero, dot_xor}
@@ -39,84 +39,57 @@ all_even (suc m) basis c stairs full even v l = pick (all_even m basis c stairs 
     pick lower (no k) (inl z) = absurd (full m (omega arith) z)
     pick lower (no k) (inr t) = sym (even_xor v (at basis m) c (even m)) ∙ lower (bit_xor v (at basis m)) (top_cancels m v (at basis m) (omega arith) l t.0 t.1)
 
--- what is left of the word lies below the place, and is as odd or even as the word on what is even on the basis
-pub record Reducing (m word : ℕ) (basis : List ℕ) (rest place top : ℕ) : Type 0 where
-  pub inside : place ≤ m
-  pub top_is : top ≡ 2 ^ place
-  pub below : rest < 2 ^ place
+-- what is left of the word is as odd or even as the word on what is even on the basis
+pub record Reducing (m word : ℕ) (basis : List ℕ) (rest : ℕ) : Type 0 where
+  pub below : rest < 2 ^ m
   pub none : word ≡ 0 → rest ≡ 0
   pub same : (c : ℕ) → EvenOn basis c → dot rest c ≡ dot word c
 
-pub reducing_starts : (m word : ℕ) (basis : List ℕ) (top : ℕ) → word < 2 ^ m → top ≡ 2 ^ m → Reducing m word basis word m top
-reducing_starts m word basis top l e = record {
-  inside = omega arith;
-  top_is = e;
-  below = l;
-  none = λ z. z;
-  same = λ c h. refl;
-}
+pub reducing_starts : (m word : ℕ) (basis : List ℕ) → word < 2 ^ m → Reducing m word basis word
+reducing_starts m word basis l = record { below = l; none = λ z. z; same = λ c h. refl }
 
-module _ {m word : ℕ} {basis : List ℕ} {rest place top : ℕ} (r : Reducing m word basis rest place top) (some : rest ≡ 0 → ⊥) where
-  pub place_left : 1 ≤ place
-  place_left = go place r.below
+-- the place of its highest one
+module _ {m word : ℕ} {basis : List ℕ} {rest : ℕ} (r : Reducing m word basis rest) (place : ℕ) (low : 2 ^ place ≤ rest) (high : rest < 2 * 2 ^ place) where
+  pub place_inside : place < m
+  place_inside = go (dec_lt place m)
     where
-      go : (p : ℕ) → rest < 2 ^ p → 1 ≤ p
-      go zero l = absurd (some (omega arith))
-      go (suc p) l = omega arith
+      go : Dec (place < m) → place < m
+      go (yes l) = l
+      go (no l) = absurd (omega (arith, r.below, pow_mono {i = m} {j = place} (omega arith)))
 
-  split : place ≡ suc (place - 1)
-  split = omega (arith, place_left)
+  some : rest ≡ 0 → ⊥
+  some z = omega (arith, pow_pos place)
 
-  pub half : top / 2 ≡ 2 ^ (place - 1)
-  half =
-      let e : top ≡ 2 ^ suc (place - 1) = r.top_is ∙ ap (λ (p : ℕ). 2 ^ p) split in
-      omega (arith, e)
+  -- the basis has a word there: their XOR has its highest one at a lower place
+  module _ (stairs : Echelon basis) (here : at basis place ≡ 0 → ⊥) where
+    pub taken_less : bit_xor rest (at basis place) < 2 ^ place
+    taken_less = pick (stairs place)
+      where
+        pick : (at basis place ≡ 0) ⊎ ((2 ^ place ≤ at basis place) × (at basis place < 2 ^ suc place)) → bit_xor rest (at basis place) < 2 ^ place
+        pick (inl z) = absurd (here z)
+        pick (inr t) = top_cancels place rest (at basis place) low (omega arith) t.0 t.1
 
-  high : rest < 2 ^ suc (place - 1)
-  high = subst (λ (p : ℕ). rest < 2 ^ p) split r.below
-
-  -- the word is below the next place
-  pub reducing_passed : rest < top / 2 → Reducing m word basis rest (place - 1) (top / 2)
-  reducing_passed l = record {
-    inside = omega (arith, r.inside);
-    top_is = half;
-    below = omega (arith, half);
-    none = r.none;
-    same = r.same;
-  }
-
-  -- the basis has a word there
-  pub reducing_taken : Echelon basis → top / 2 ≤ rest → (at basis (place - 1) ≡ 0 → ⊥) → Reducing m word basis (bit_xor rest (at basis (place - 1))) (place - 1) (top / 2)
-  reducing_taken stairs l here = record {
-    inside = omega (arith, r.inside);
-    top_is = half;
-    below = pick (stairs (place - 1));
-    none = λ z. absurd (some (r.none z));
-    same = λ c e. even_xor rest (at basis (place - 1)) c (e (place - 1)) ∙ r.same c e;
-  }
-    where
-      pick : (at basis (place - 1) ≡ 0) ⊎ ((2 ^ (place - 1) ≤ at basis (place - 1)) × (at basis (place - 1) < 2 ^ suc (place - 1))) → bit_xor rest (at basis (place - 1)) < 2 ^ (place - 1)
-      pick (inl z) = absurd (here z)
-      pick (inr t) = top_cancels (place - 1) rest (at basis (place - 1)) (omega (arith, half)) high t.0 t.1
+    pub reducing_taken : Reducing m word basis (bit_xor rest (at basis place))
+    reducing_taken = record {
+      below = omega (arith, taken_less, low, r.below);
+      none = λ z. absurd (some (r.none z));
+      same = λ c e. even_xor rest (at basis place) c (e place) ∙ r.same c e;
+    }
 
   -- the place is free
-  pub reducing_placed : top / 2 ≤ rest → at basis (place - 1) ≡ 0 → WordPlaced m word basis (set basis (place - 1) rest)
-  reducing_placed l e = record {
-    place = place - 1;
+  pub reducing_placed : at basis place ≡ 0 → WordPlaced m word basis (set basis place rest)
+  reducing_placed e = record {
+    place = place;
     rest = rest;
-    inside = omega (arith, r.inside, place_left);
+    inside = place_inside;
     free = e;
-    low = omega (arith, half);
-    high = high;
+    low = low;
+    high = omega arith;
     some = λ z. some (r.none z);
     put = refl;
     same = r.same;
   }
 
--- it is a word of 32 bits
-pub left_small : {m word : ℕ} {basis : List ℕ} {rest place top : ℕ} → Reducing m word basis rest place top → m ≤ 32 → rest < 4294967296
-left_small {m} {word} {basis} {rest} {place} r h = omega (arith, r.below, pow_mono {i = place} {j = 32} (le_trans r.inside h))
-
 -- nothing is left
-pub reducing_ends : {m word : ℕ} {basis : List ℕ} {rest place top : ℕ} → Reducing m word basis rest place top → rest ≡ 0 → Spanned word basis basis
+pub reducing_ends : {m word : ℕ} {basis : List ℕ} {rest : ℕ} → Reducing m word basis rest → rest ≡ 0 → Spanned word basis basis
 reducing_ends r z = record { kept = refl; even = λ c e. sym (r.same c e) ∙ ap (λ (v : ℕ). dot v c) z ∙ dot_zero c }

@@ -11,7 +11,7 @@ use lib.Count.{ones}
 use lib.Dec.{eqb}
 use lib.ListN.{length, take, length-take, set, length-set, get_or-eq_default}
 use lib.Pow.{pow_pos}
-use lib.Seq.{get_or-take, get_or-set_same, get_or-set_other}
+use lib.Seq.{length-take-le, get_or-take, get_or-set_same, get_or-set_other}
 use Rattle.boolean.specs.Bits.{dot}
 use Rattle.boolean.specs.Functions.{at, coefficient, normal_form}
 use Rattle.boolean.specs.Sums.{every}
@@ -195,14 +195,25 @@ module _ {table words basis : List ℕ} {i count : ℕ} {inputs : List ℕ} (g :
     }
 
   -- the whole table, or as much of it as makes every later word even where those gathered are
-  gathered : length words ≤ 256 → ((c u : ℕ) → EvenOn basis c → (k : ℕ) → i ≤ k → k < 256 → dot (at words u) c ≡ 0) → BasisGathered words inputs count
+  gathered : length words ≤ 256 → ((c u : ℕ) → EvenOn basis c → (k : ℕ) → i ≤ k → k < 256 → dot (at words u) c ≡ 0) → BasisGathered words (take count inputs)
   gathered small later = record {
-    few = omega (arith, g.few, g.within, g.long);
-    inside = g.inside;
-    settle = λ c u l o. let t = b.all u (omega arith) in at_place c u l o t.0 t.1 t.2 (dec_lt t.0 i);
-    falling = g.falling;
+    inside = λ j l. subst (λ (u : ℕ). u < length words) (sym (taken j l)) (g.inside j (omega (arith, size)));
+    settle = λ c u l o. let t = b.all u (omega arith) in among c u (at_place c u l o t.0 t.1 t.2 (dec_lt t.0 i));
+    falling = λ j k h l. omega (arith, g.falling j k h (omega (arith, size)), ap ones (taken j (omega arith)), ap ones (taken k l));
   }
     where
+      size : length (take count inputs) ≡ count
+      size = length-take-le _ _ (omega (arith, g.few, g.within, g.long))
+
+      taken : (j : ℕ) → j < length (take count inputs) → at (take count inputs) j ≡ at inputs j
+      taken j l = get_or-take count inputs j 0 (omega (arith, size))
+
+      among : (c u : ℕ) → Settled words inputs count c u
+          → (j : ℕ) × (j < length (take count inputs)) × (dot (at words (at (take count inputs) j)) c ≡ 1) × (ones u ≤ ones (at (take count inputs) j))
+      among c u t =
+          let l : t.0 < length (take count inputs) = omega (arith, size, t.1) in
+          (t.0, l, ap (λ (u : ℕ). dot (at words u) c) (taken t.0 l) ∙ t.2, omega (arith, t.3, ap ones (taken t.0 l)))
+
       at_place : (c u : ℕ) → u < length words → dot (at words u) c ≡ 1 → (k : ℕ) → k < 256 → at table k ≡ u → Dec (k < i) → Settled words inputs count c u
       at_place c u l o k h e (yes d) = subst (λ (v : ℕ). Settled words inputs count c v) e (g.settled c k d (ap (λ (v : ℕ). dot (at words v) c) e ∙ o))
       at_place c u l o k h e (no d) = pick (settled_or_even c k (omega arith) h)
@@ -211,8 +222,8 @@ module _ {table words basis : List ℕ} {i count : ℕ} {inputs : List ℕ} (g :
           pick (inl t) = subst (λ (v : ℕ). Settled words inputs count c v) e t
           pick (inr even) = absurd (not_both (at words u) c o (later c u even k (omega arith) h))
 
-  pub gathering_all : length words ≤ 256 → 256 ≤ i → BasisGathered words inputs count
+  pub gathering_all : length words ≤ 256 → 256 ≤ i → BasisGathered words (take count inputs)
   gathering_all small end = gathered small (λ c u even k h l. absurd (omega arith))
 
-  pub gathering_full : {m : ℕ} → length words ≤ 256 → ((u : ℕ) → at words u < 2 ^ m) → ((k : ℕ) → k < m → at basis k ≡ 0 → ⊥) → BasisGathered words inputs count
+  pub gathering_full : {m : ℕ} → length words ≤ 256 → ((u : ℕ) → at words u < 2 ^ m) → ((k : ℕ) → k < m → at basis k ≡ 0 → ⊥) → BasisGathered words (take count inputs)
   gathering_full {m} small low full = gathered small (λ c u even k h l. all_even m basis c g.stairs full even (at words u) (low u))

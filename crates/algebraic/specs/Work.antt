@@ -90,14 +90,13 @@ abbrev pub WordInserted : (m word : ℕ) (old new : List ℕ) (put : Bool) → T
 WordInserted m word old new true = WordPlaced m word old new
 WordInserted m word old new false = Spanned word old new
 
--- Inputs that settle every degree, those with the most ones first, as many as are counted: a component that is odd anywhere is odd at one
--- of them that has as many ones or more. Which of several such choices they are, and what stands after them, is open.
-pub record BasisGathered (words inputs : List ℕ) (count : ℕ) : Type 0 where
-  pub few : count ≤ length inputs
-  pub inside : (i : ℕ) → i < count → at inputs i < length words
+-- Inputs that settle every degree, those with the most ones first: a component that is odd anywhere is odd at one of them that has as many
+-- ones or more. Which of several such choices they are is open.
+pub record BasisGathered (words inputs : List ℕ) : Type 0 where
+  pub inside : (i : ℕ) → i < length inputs → at inputs i < length words
   pub settle : (c u : ℕ) → u < length words → dot (at words u) c ≡ 1
-      → (i : ℕ) × (i < count) × (dot (at words (at inputs i)) c ≡ 1) × (ones u ≤ ones (at inputs i))
-  pub falling : (i j : ℕ) → i ≤ j → j < count → ones (at inputs j) ≤ ones (at inputs i)
+      → (i : ℕ) × (i < length inputs) × (dot (at words (at inputs i)) c ≡ 1) × (ones u ≤ ones (at inputs i))
+  pub falling : (i j : ℕ) → i ≤ j → j < length inputs → ones (at inputs j) ≤ ones (at inputs i)
 
 -- the words of an accepted box, and a limit
 pub record DegreesSwept (n m : ℕ) (words : List ℕ) (i : ℕ) : Type 0 where

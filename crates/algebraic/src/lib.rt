@@ -3,7 +3,7 @@
 
 mod order;
 
-ghost use Rattle.std.specs.Prelude.{◌≡◌, [], ◌∷◌, ℕ, ◌+◌, ◌^◌, ◌≤◌, ◌<◌, eqb, length};
+ghost use Rattle.std.specs.Prelude.{◌≡◌, [], ◌∷◌, ℕ, ◌+◌, ◌^◌, ◌≤◌, ◌<◌, eqb, length, take};
 ghost use Rattle.std.specs.Int.Count.{ones};
 ghost use Rattle.boolean.specs.Bits.{dot};
 ghost use Rattle.boolean.specs.Sums.{AnyContent};
@@ -41,23 +41,13 @@ pub struct FoundDegree {
     pub c: u32,
 }
 
-// A word that is a truth value.
-fn bit_of(word: u32) -> u8
-    requires { word < 2 }
-    ensures { result ≡ word }
-{
-    word as u8
-}
-
 // The truth table, copied to the words that the transform works on.
 fn write_words(table: &[u8], words: &mut [u32])
     requires { length words.old ≡ length table.now }
     ensures { words.new ≡ table.now }
 {
-    let mut x = 0;
-    while x < table.len() {
-        words[x] = boolean::wide(table[x]);
-        x += 1;
+    for (x, value) in table.iter().enumerate() {
+        words[x] = u32::from(*value);
     }
 }
 
@@ -66,10 +56,8 @@ fn write_bits(words: &[u32], out: &mut [u8])
     requires { (length out.old ≡ length words.now) × ((x : ℕ) → at words.now x < 2) }
     ensures { out.new ≡ words.now }
 {
-    let mut x = 0;
-    while x < words.len() {
-        out[x] = bit_of(words[x]);
-        x += 1;
+    for (x, word) in words.iter().enumerate() {
+        out[x] = *word as u8;
     }
 }
 
@@ -78,10 +66,9 @@ fn add_lower_half(values: &mut [u32], h: usize)
     requires { length values.old ≡ h + h }
     ensures { HalvesAdded h values.old values.new }
 {
-    let mut k: usize = 0;
-    while k < h {
-        values[h + k] = values[k] ^ values[h + k];
-        k += 1;
+    // kept: over the two halves of split_at_mut the degree of an 8 by 8 box takes 1.11 times as long
+    for k in 0..h {
+        values[h + k] ^= values[k];
     }
 }
 
@@ -122,13 +109,6 @@ pub fn normal_form(n: u32, table: &[u8], out: &mut [u8]) -> Result<(), Refusal>
     Ok(())
 }
 
-// The ones of an input.
-fn ones_of(u: u8) -> u32
-    ensures { result ≡ ones u }
-{
-    u8::count_ones(u)
-}
-
 // Whether the component at the mask c has the coefficient 1 where the normal form has this word.
 fn is_odd(word: u32, c: u32) -> bool
     ensures { result ≡ eqb (dot word c) 1 }
@@ -137,26 +117,21 @@ fn is_odd(word: u32, c: u32) -> bool
 }
 
 // Whether the word is no XOR of words of the basis; then what they leave of it is put into the basis, at the place of its highest one.
-// Where a word of the basis has its highest one, that word is XORed to it, from the highest place down. (The contract leaves open what the
-// rest has below its highest one.)
+// Where a word of the basis has its highest one, that word is XORed to it, until a place is free or nothing is left. (The contract leaves
+// open what the rest has below its highest one.)
 fn insert_word(m: u32, word: u32, basis: &mut [u32; 32]) -> bool
     requires { (m ≤ 32) × (word < 2 ^ m) × Echelon basis.old }
     ensures { WordInserted m word basis.old basis.new result }
 {
     let mut rest = word;
-    let mut place = m as usize;
-    let mut top = boolean::power_of_two(m);
     while rest != 0 {
-        place -= 1;
-        top /= 2;
-        if top <= rest as usize {
-            let here = basis[place];
-            if here == 0 {
-                basis[place] = rest;
-                return true;
-            }
-            rest = rest ^ here;
+        let place = rest.ilog2() as usize;
+        let here = basis[place];
+        if here == 0 {
+            basis[place] = rest;
+            return true;
         }
+        rest ^= here;
     }
     false
 }
@@ -166,7 +141,7 @@ fn adds_word(m: u32, words: &[u32], u: u8, basis: &mut [u32; 32]) -> bool
     requires { (m ≤ 32) × ((x : ℕ) → at words.now x < 2 ^ m) × Echelon basis.old }
     ensures { WordInserted m (at words.now u) basis.old basis.new result }
 {
-    let place = boolean::wide(u) as usize;
+    let place = usize::from(u);
     if place < words.len() {
         insert_word(m, words[place], basis)
     } else {
@@ -180,38 +155,33 @@ fn adds_word(m: u32, words: &[u32], u: u8, basis: &mut [u32; 32]) -> bool
 fn gather(m: u32, words: &[u32], inputs: &mut [u8]) -> usize
     requires { (m ≤ 32) × ((x : ℕ) → at words.now x < 2 ^ m) × (length words.now ≤ 256)
         × (length inputs.old ≡ 256) }
-    ensures { BasisGathered words.now inputs.new result }
+    ensures { (result ≤ length inputs.new) × BasisGathered words.now (take result inputs.new) × AnyContent inputs.old inputs.new }
 {
     let table = order::by_ones();
     let width = m as usize;
     let mut basis = [0u32; 32];
     let mut count: usize = 0;
-    let mut i: usize = 0;
-    while i < 256 {
-        if adds_word(m, words, table[i], &mut basis) {
-            inputs[count] = table[i];
+    for u in &table {
+        if adds_word(m, words, *u, &mut basis) {
+            inputs[count] = *u;
             count += 1;
             if boolean::lacks_row(&basis[..width], 0) {
                 return count;
             }
         }
-        i += 1;
     }
     count
 }
 
 // The degree of the component at the mask c: the first input that is found odd has the most ones.
-fn component_degree(words: &[u32], inputs: &[u8], count: usize, c: u32) -> u32
-    requires { BasisGathered words.now inputs.now count }
+fn component_degree(words: &[u32], inputs: &[u8], c: u32) -> u32
+    requires { BasisGathered words.now inputs.now }
     ensures { result ≡ degree_of_words words.now c }
 {
-    let mut i: usize = 0;
-    while i < count {
-        let u = inputs[i];
-        if is_odd(words[boolean::wide(u) as usize], c) {
-            return ones_of(u);
+    for u in inputs {
+        if is_odd(words[usize::from(*u)], c) {
+            return u.count_ones();
         }
-        i += 1;
     }
     0
 }
@@ -232,24 +202,16 @@ fn next_within(m: u32, i: u32, c: u64) -> u64
 // The first mask from c on, within the limit, whose degree is below the threshold, or 2^m with the degree 0. Nearly all masks are passed
 // over here, so that this loop has no other test than the threshold. The walk ends at 2^m itself, so that != tells its end; < a power of
 // two would be compiled to a shift in each turn.
-fn next_below(
-    n: u32,
-    m: u32,
-    words: &[u32],
-    i: u32,
-    inputs: &[u8],
-    count: usize,
-    threshold: u32,
-    c: u64,
-) -> Met
-    requires { DegreesSwept n m words.now i × BasisGathered words.now inputs.now count × (1 ≤ c) × (c ≤ 2 ^ m)
+fn next_below(n: u32, m: u32, words: &[u32], i: u32, inputs: &[u8], threshold: u32, c: u64) -> Met
+    requires { DegreesSwept n m words.now i × BasisGathered words.now inputs.now × (1 ≤ c) × (c ≤ 2 ^ m)
         × (ones c ≤ i) }
     ensures { FirstBelow m words.now i threshold c result }
 {
     let masks = boolean::power_of_two(m) as u64;
     let mut at: u64 = c;
+    // kept: the next mask within the limit is not the next number, so that no range has the masks in turn
     while at != masks {
-        let degree = component_degree(words, inputs, count, at as u32);
+        let degree = component_degree(words, inputs, at as u32);
         if degree < threshold {
             return Met { c: at, degree };
         }
@@ -290,8 +252,8 @@ fn weaker(found: Weakest, degree: u32, c: u32) -> Weakest
 }
 
 // Every component within the limit in turn. It starts from a degree that no component has.
-fn sweep(n: u32, m: u32, words: &[u32], i: u32, inputs: &[u8], count: usize) -> Weakest
-    requires { DegreesSwept n m words.now i × BasisGathered words.now inputs.now count }
+fn sweep(n: u32, m: u32, words: &[u32], i: u32, inputs: &[u8]) -> Weakest
+    requires { DegreesSwept n m words.now i × BasisGathered words.now inputs.now }
     ensures { (degree_candidate result ≡ first_least (degrees_of m words.now i)) ×
         (result.threshold ≡ threshold_of result.degree result.c) }
 {
@@ -301,11 +263,12 @@ fn sweep(n: u32, m: u32, words: &[u32], i: u32, inputs: &[u8], count: usize) -> 
         c: 0,
         threshold: n + 1,
     };
-    let mut met = next_below(n, m, words, i, inputs, count, found.threshold, 1);
+    let mut met = next_below(n, m, words, i, inputs, found.threshold, 1);
+    // kept: the mask that is met next is not the next number, so that no range has these masks in turn
     while met.c != masks {
         found = weaker(found, met.degree, met.c as u32);
         let next = next_within(m, i, met.c);
-        met = next_below(n, m, words, i, inputs, count, found.threshold, next);
+        met = next_below(n, m, words, i, inputs, found.threshold, next);
     }
     found
 }
@@ -319,7 +282,7 @@ fn weakest_of(n: u32, m: u32, rows: &[u32], i: u32, words: &mut [u32], inputs: &
     words.copy_from_slice(rows);
     moebius(n, words);
     let count = gather(m, words, inputs);
-    sweep(n, m, words, i, inputs, count)
+    sweep(n, m, words, i, &inputs[..count])
 }
 
 // The degree of a box over its combinations of at most i outputs: the least degree of one, with the first that has it.

@@ -2,7 +2,7 @@
 use mathlib.Core.Path.{◌≡◌, refl, sym, ap, ◌∙◌, subst}
 use mathlib.Core.List.{List, [], ◌∷◌, ◌++◌}
 use mathlib.Core.Logic.{◌⊎◌, inl, inr}
-use Prim.Native.Nat.{ℕ, ◌+◌, ◌<◌, ◌≤◌}
+use Prim.Native.Nat.{ℕ, ◌+◌, ◌<◌, ◌≤◌, max}
 use native.Mathlib.Numerals.{add-one}
 use native.Mathlib.Omega.{arith}
 use native.Mathlib.Decide.{ℕ_discrete, dec_lt}
@@ -13,16 +13,9 @@ use lib.Seq.{take-suc-set, get_or-append_seam}
 use Rattle.boolean.specs.Functions.{at, value_at, MaskWithin}
 use Rattle.boolean.specs.Sums.{largest_below}
 use Rattle.boolean.proofs.Largest.{le_largest, largest_reached}
-use Rattle.avalanche.specs.Work.{LargestWithin, FirstWithin, Listed, ChangesInside, LargestListed, FirstListed}
+use Rattle.avalanche.specs.Work.{FirstWithin, Listed, LargestListed, FirstListed}
 
 -- ---- the list, made one change after the other
-pub listed_none : (j : ℕ) (list : List ℕ) → Listed j 1 (take 0 list)
-listed_none j list = record {
-  within = λ k l. absurd (omega arith);
-  all = λ s w. absurd (omega (arith, w.low, w.high));
-  rises = λ h k l m. absurd (omega arith);
-}
-
 module _ {j s : ℕ} {list : List ℕ} (d : Listed j s list) where
   wider : {t : ℕ} → MaskWithin j s t → MaskWithin j (s + 1) t
   wider w = record { low = w.low; high = omega (arith, w.high); few = w.few }
@@ -76,7 +69,11 @@ pub listed_takes : (j s count : ℕ) (array : List ℕ) → Listed j s (take cou
 listed_takes j s count array d low few l =
     subst (Listed j (s + 1)) (sym (ap (λ (k : ℕ). take k (set array count s)) (add-one count) ∙ take-suc-set array count s l)) (listed_more d low few)
 
--- ---- the largest at the places of the list
+-- ---- the largest at the places of the list, one place after the other
+pub largest_more : (k : ℕ) (f : ℕ → ℕ) {most here : ℕ} → most ≡ largest_below k f → here ≡ f k → max here most ≡ largest_below (k + 1) f
+unfolding largest_below
+largest_more k f e h = rw (add-one k) (omega (arith, e, h))
+
 pub largest_listed : (values : List ℤ) (list : List ℕ) {largest : ℕ} → largest ≡ largest_below (length list) (λ k. nat_abs (value_at values (at list k)))
     → LargestListed values list largest
 largest_listed values list {largest} e = record {
@@ -92,71 +89,8 @@ largest_listed values list {largest} e = record {
     go p (inl z) = absurd (omega (arith, e, z))
     go p (inr t) = (t.0, t.1, t.2 ∙ sym e)
 
--- ---- none before place k has the size, and one from there on does
-pub record Passing (values : List ℤ) (list : List ℕ) (size k : ℕ) : Type 0 where
-  pub none : (h : ℕ) → h < k → nat_abs (value_at values (at list h)) ≡ size → ⊥
-  pub place : ℕ
-  pub beyond : k ≤ place
-  pub inside : place < length list
-  pub reached : nat_abs (value_at values (at list place)) ≡ size
-
-pub passing_none : (values : List ℤ) (list : List ℕ) (largest : ℕ) → LargestListed values list largest → 0 < largest → Passing values list largest 0
-passing_none values list largest h p =
-    let t = h.reached p in
-    record { none = λ h l e. absurd (omega arith); place = t.0; beyond = omega arith; inside = t.1; reached = t.2 }
-
-module _ {values : List ℤ} {list : List ℕ} {size k : ℕ} (d : Passing values list size k) where
-  pub passing_inside : k < length list
-  passing_inside = omega (arith, d.beyond, d.inside)
-
-  module _ {found : ℕ} (e : found ≡ nat_abs (value_at values (at list k))) where
-    pub passing_next : (found ≡ size → ⊥) → Passing values list size (k + 1)
-    passing_next p = record {
-      none = λ h l q. more h l q (ℕ_discrete h k);
-      place = d.place;
-      beyond = further (ℕ_discrete d.place k);
-      inside = d.inside;
-      reached = d.reached;
-    }
-      where
-        other : (h : ℕ) → h ≡ k → nat_abs (value_at values (at list h)) ≡ size → ⊥
-        other h q r = p (e ∙ sym (ap (λ (z : ℕ). nat_abs (value_at values (at list z))) q) ∙ r)
-
-        more : (h : ℕ) → h < k + 1 → nat_abs (value_at values (at list h)) ≡ size → Dec (h ≡ k) → ⊥
-        more h l r (yes q) = other h q r
-        more h l r (no q) = d.none h (omega arith) r
-
-        further : Dec (d.place ≡ k) → k + 1 ≤ d.place
-        further (yes q) = absurd (other d.place q d.reached)
-        further (no q) = omega (arith, d.beyond)
-
-    pub passing_found : {s : ℕ} → at list k ≡ s → found ≡ size → FirstListed values list size s
-    passing_found {s} is h = record {
-      place = k;
-      inside = passing_inside;
-      is = is;
-      has = sym (ap (λ (z : ℕ). nat_abs (value_at values z)) is) ∙ sym e ∙ h;
-      first = d.none;
-    }
-
 -- ---- what is looked at is what is within the limit
 module _ (values : List ℤ) {j : ℕ} {list : List ℕ} (d : Listed j (length values) list) where
-  pub listed_inside : ChangesInside values list
-  listed_inside k l = (d.within k l).high
-
-  pub largest_listed_within : {largest : ℕ} → LargestListed values list largest → LargestWithin values j largest
-  largest_listed_within {largest} h = record { bounds = λ s w. below s (d.all s w); reached = λ p. let t = h.reached p in (at list t.0, d.within t.0 t.1, t.2) }
-    where
-      below : (s : ℕ) → (k : ℕ) × (k < length list) × (at list k ≡ s) → nat_abs (value_at values s) ≤ largest
-      below s t = subst (λ (z : ℕ). nat_abs (value_at values z) ≤ largest) t.2 (h.bounds t.0 t.1)
-
-  pub largest_within_listed : {largest : ℕ} → LargestWithin values j largest → LargestListed values list largest
-  largest_within_listed {largest} h = record { bounds = λ k l. h.bounds (at list k) (d.within k l); reached = λ p. let t = h.reached p in place t.0 (d.all t.0 t.1) t.2 }
-    where
-      place : (s : ℕ) → (k : ℕ) × (k < length list) × (at list k ≡ s) → nat_abs (value_at values s) ≡ largest
-          → (k : ℕ) × (k < length list) × (nat_abs (value_at values (at list k)) ≡ largest)
-      place s t e = (t.0, t.1, ap (λ (z : ℕ). nat_abs (value_at values z)) t.2 ∙ e)
-
   pub first_listed_within : {size s : ℕ} → FirstListed values list size s → FirstWithin values j size s
   first_listed_within {size} {s} h = record {
     within = subst (MaskWithin j (length values)) h.is (d.within h.place h.inside);

@@ -1,12 +1,11 @@
 -- The first change, where every magnitude is 0. Assumes nothing.
 use mathlib.Core.Path.{◌≡◌, sym, subst}
 use mathlib.Core.List.{List}
-use Prim.Native.Nat.{ℕ, ◌^◌, ◌≤◌, ◌<◌}
-use native.Mathlib.Nat.{le_refl}
+use Prim.Native.Nat.{ℕ, ◌^◌, ◌≤◌}
 use native.Mathlib.Omega.{arith}
-use lib.IntN.{ℤ, nat_abs}
+use lib.IntN.{ℤ}
 use lib.ListN.{length}
-use Rattle.boolean.specs.Functions.{MaskWithin, value_at}
+use Rattle.boolean.specs.Functions.{MaskWithin}
 use Rattle.boolean.proofs.Components.{first_mask}
 use Rattle.avalanche.specs.Work.{LargestWithin, FirstWithin}
 

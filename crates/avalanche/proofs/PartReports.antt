@@ -1,10 +1,10 @@
 -- What the calls over a part of the combinations report: the largest figure of the part's changes and the first of them that has it; and no figure
 -- exactly where no combination within the limit lies in the part.
 use Rattle.std.specs.Prelude.{Ok}
-use mathlib.Core.Path.{◌≡◌, refl, sym, ap, ◌∙◌}
+use mathlib.Core.Path.{◌≡◌, sym, ap, ◌∙◌}
 use mathlib.Core.Logic.{◌↔◌}
 use mathlib.Core.List.{List, [], ◌∷◌, Memᴰ}
-use Prim.Native.Nat.{ℕ, ◌^◌, ◌<◌, ◌≤◌}
+use Prim.Native.Nat.{ℕ, ◌<◌, ◌≤◌}
 use native.Mathlib.Omega.{arith}
 use Rattle.boolean.specs.Sums.{each}
 use Rattle.boolean.specs.Selection.{Candidate, higher, first_largest}

@@ -6,7 +6,7 @@ use Prim.Native.Nat.{ℕ, ◌*◌, ◌/◌, ◌^◌, ◌<◌, ◌≤◌}
 use native.Mathlib.Nat.{le_trans, le_of_eq, le_antisymm, mul_comm, mul-div_right, le-div_iff_mul-le, div-le_self}
 use native.Mathlib.Omega.{arith}
 use native.Mathlib.Decide.{dec_lt, ℕ_discrete}
-use borrow.Author.Tests.{lt-ltb, le-ltb, ltb-true, ltb-false, eqb-true, ne_eqb}
+use borrow.Author.Tests.{lt-ltb, le-ltb, ltb-false, ne_eqb}
 use lib.Count.{ones}
 use lib.Dec.{ltb, eqb}
 use lib.Pow.{pow_pos}
@@ -16,7 +16,6 @@ use Rattle.boolean.specs.Functions.{at, value_at, component, autocorrelation, Ma
 use Rattle.boolean.specs.Selection.{Candidate, best, higher, first_largest, ranked}
 use Rattle.boolean.proofs.Lists.{length_list_below, get_or_list_below}
 use Rattle.boolean.proofs.Products.{abs_multiple}
-use Rattle.boolean.proofs.OneBit.{ones_pos}
 use Rattle.boolean.proofs.Selection.{best_takes, best_keeps, first_is, first_largest_chooses, ranked_first}
 use Rattle.masks.specs.Masks.{outputs}
 use Rattle.masks.specs.Work.{preferred}

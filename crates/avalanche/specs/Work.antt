@@ -1,6 +1,5 @@
 -- What the functions behind the calls on input changes ask and leave.
 use Rattle.std.specs.Prelude.{ℕ, ◌/◌, ◌^◌, ◌≤◌, ◌<◌, ◌≡◌, Bool, not, ◌&&◌, List, [], ◌∷◌, ltb, ℤ, pos, ◌*ℤ◌, nat_abs, length, drop}
-use Rattle.std.specs.Int.Count.{ones}
 use Rattle.boolean.specs.Sums.{list_below}
 use Rattle.boolean.specs.Functions.{at, value_at, autocorrelation, component, MaskWithin}
 use Rattle.boolean.specs.Selection.{Candidate}

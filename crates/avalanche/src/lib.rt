@@ -69,12 +69,10 @@ fn square_all(values: &[i16], squares: &mut [i32])
         ≡ list_below (length values.now)
         (λ k. pos (square (value_at values.now k +ℤ value_at values.now k))) }
 {
-    let mut k = 0;
-    while k < values.len() {
-        let value = values[k] as i32;
+    for (k, value) in values.iter().enumerate() {
+        let value = i32::from(*value);
         let double = value + value;
         squares[k] = double * double;
-        k += 1;
     }
 }
 
@@ -146,10 +144,8 @@ fn list_changes(n: u32, j: u32, list: &mut [u32]) -> usize
     }
     let end = list.len() as u32;
     let mut count = 0;
-    let mut s: u32 = 1;
-    while s < end {
+    for s in 1..end {
         count = list_change(j, s, count, list);
-        s += 1;
     }
     count
 }
@@ -159,20 +155,15 @@ fn largest_listed(values: &[i32], list: &[u32]) -> u32
     requires { ChangesInside values.now list.now }
     ensures { LargestListed values.now list.now result }
 {
-    let mut largest: u32 = 0;
-    let mut k = 0;
-    while k < list.len() {
-        let s = list[k];
-        let size = boolean::magnitude(values[s as usize]);
-        if largest < size {
-            largest = size;
-        }
-        k += 1;
+    let mut largest = 0;
+    for s in list {
+        largest = boolean::magnitude(values[*s as usize]).max(largest);
     }
     largest
 }
 
 // The largest magnitude at an s from 1. None of them has more than 8 ones, so that none is counted.
+// kept: apart from largest_listed, since values that stand side by side are gone through by vector instructions
 fn largest_from_one(values: &[i32]) -> u32
     requires { (1 ≤ length values.now) × (length values.now ≤ 256) }
     ensures { LargestWithin values.now 8 result × (result ≡ largest_magnitude (drop 1 values.now)) }
@@ -197,13 +188,10 @@ fn first_listed(values: &[i32], list: &[u32], largest: u32) -> u32
     requires { ChangesInside values.now list.now × LargestListed values.now list.now largest × (0 < largest) }
     ensures { FirstListed values.now list.now largest result }
 {
-    let mut k = 0;
-    let mut s = list[0];
-    while boolean::magnitude(values[s as usize]) != largest {
-        k += 1;
-        s = list[k];
-    }
-    s
+    *list
+        .iter()
+        .find(|s| boolean::magnitude(values[**s as usize]) == largest)
+        .unwrap()
 }
 
 // The first s from 1 that has the largest magnitude, which is not 0.
@@ -327,6 +315,7 @@ fn sweep(
     };
     let mut c = first as u64;
     let mut before = c - 1;
+    // kept: the next mask within the limit is not the next number, so that no range has the masks in turn
     while c < end {
         next_correlation(fixed, n, m, rows, steps, before, c, table, work, values);
         found = with_correlation(found, n, m, rows, j, list, c as u32, values);
@@ -389,14 +378,7 @@ fn column_changes(n: u32, m: u32, rows: &[u32], flip: usize, j: u32) -> bool
     requires { Box n m rows.now × (flip < 2 ^ n) × (1 ≤ j) × (j ≤ m) }
     ensures { result ≡ not (eqb (changes n (column rows.now j) flip) 0) }
 {
-    let mut x = 0;
-    while x < rows.len() {
-        if bit_differs(rows[x], rows[x ^ flip], j) {
-            return true;
-        }
-        x += 1;
-    }
-    false
+    (0..rows.len()).any(|x| bit_differs(rows[x], rows[x ^ flip], j))
 }
 
 // Whether every column changes at some input where `flip` is XORed to it.
@@ -404,14 +386,7 @@ fn every_column_changes(n: u32, m: u32, rows: &[u32], flip: usize) -> bool
     requires { Box n m rows.now × (flip < 2 ^ n) }
     ensures { result ≡ every (λ j. not (eqb (changes n (column rows.now j) flip) 0)) (list_from 1 m (λ j. j)) }
 {
-    let mut j: u32 = 1;
-    while j <= m {
-        if !column_changes(n, m, rows, flip, j) {
-            return false;
-        }
-        j += 1;
-    }
-    true
+    (1..m + 1).all(|j| column_changes(n, m, rows, flip, j))
 }
 
 // Whether every input bit changes every column at some input, for an accepted box.
@@ -419,14 +394,7 @@ fn all_complete(n: u32, m: u32, rows: &[u32]) -> bool
     requires { Box n m rows.now }
     ensures { result ≡ spec.complete n m rows.now }
 {
-    let mut k: u32 = 1;
-    while k <= n {
-        if !every_column_changes(n, m, rows, boolean::power_of_two(k - 1)) {
-            return false;
-        }
-        k += 1;
-    }
-    true
+    (0..n).all(|k| every_column_changes(n, m, rows, boolean::power_of_two(k)))
 }
 
 // The largest |r(s)| over the combinations of at most i outputs and all s from 1.

@@ -190,18 +190,16 @@ fn examine(fixed: &[i16; 2048], p: Place) -> Place
 }
 
 // The next place after the one last served, in a circle, whose box is unfinished, and 0 where there is none.
+// kept: 0 and no None, since `turn` and `served`, which the clause and the theorems on histories name, say it so
 fn next_place(waiting: &[bool; 8], last: u32) -> u32
     ensures { (result ≤ 8) × (result ≡ turn waiting.now last) }
 {
     let start = last % 8;
-    let mut k = 0;
-    while k < 8 {
+    for k in 0..8 {
         let i = (start + k) % 8;
-        let j = i as usize;
-        if waiting[j] {
+        if waiting[i as usize] {
             return i + 1;
         }
-        k += 1;
     }
     0
 }
@@ -308,11 +306,9 @@ impl Server {
         ensures { Waiting self result }
     {
         let mut waiting = [false; 8];
-        let mut at = 0;
-        while at < 8 {
+        for at in 0..8 {
             let held = self.places[at];
             waiting[at] = unfinished(held);
-            at += 1;
         }
         waiting
     }
@@ -333,8 +329,7 @@ impl Server {
         let fixed = walsh::spectra();
         let mut waiting = self.waiting_places();
         let mut server = self;
-        let mut done = 0;
-        while done < budget {
+        for _done in 0..budget {
             let last = server.last;
             let place = next_place(&waiting, last);
             if place == 0 {
@@ -346,7 +341,6 @@ impl Server {
             waiting[i] = unfinished(served);
             server.places[i] = served;
             server.last = place;
-            done += 1;
         }
         server
     }
