@@ -201,7 +201,7 @@ def fixed_table(code):
 
 
 def let_else(code):
-    """Each figure's answer is taken apart by `let .. else` before its line is written, and so is each line's own answer."""
+    """Each figure's answer is taken apart by `let .. else` before its line is written, and `?` stops the sheet at a line's own answer."""
     found = []
     for line in LINES:
         name = f"sheet::write_{line}"
@@ -214,16 +214,17 @@ def let_else(code):
         written = next((at for at, word in enumerate(body) if word == "texts"), 0)
         if body[:3] != ["let", "answer", "="] or taken is None or body.index(";") + 1 != body.index("let", 1):
             found.append(f"{name} does not take its answer apart by `let .. else`")
-        elif place(body, "return Printed::Stopped;", taken) is None:
+        elif place(body, "return None;", taken) is None:
             found.append(f"{name} does not stop where its figure is refused")
         elif written < taken or {"match", "if"} & set(body):
             found.append(f"{name} writes before its answer is taken apart, or takes it apart otherwise")
-    expected, before = ['let box_end = texts::put_line(text, 0, b"box", &[n, m]);'], "box_end"
-    for line in LINES:
-        expected.append(f"let Printed::UpTo({line}_end) = write_{line}(n, m, rows, text, {before}) else {{ return {before}; }};")
-        before = f"{line}_end"
-    body = code.body("sheet::write_lines")
-    return found + (lacks("sheet::write_lines", body, *expected) or differs("sheet::write_lines", body, " ".join(expected + [before])))
+    figures = [f"*end = write_{line}(n, m, rows, text, *end)?;" for line in LINES] + ["Some(())"]
+    first = ['let mut end = texts::put_line(text, 0, b"box", &[n, m]);', "let _ = write_figures(n, m, rows, text, &mut end);", "end"]
+    for name, expected in (("sheet::write_figures", figures), ("sheet::write_lines", first)):
+        body = code.body(name)
+        found += lacks(name, body, *expected) or differs(name, body, " ".join(expected))
+    return found
+
 
 
 def upper_crate(code):

@@ -17,9 +17,9 @@ HALF = """        let h = table.len() / 2;
         butterfly(out, h);
 """
 STOPPED = """    let LargestCell::Reached { count, a, beta } = answer else {
-        return Printed::Stopped;
+        return None;
     };
-    Printed::UpTo(texts::put_line(text, at, b"xor", &[count, a, beta]))
+    Some(texts::put_line(text, at, b"xor", &[count, a, beta]))
 """
 
 
@@ -101,11 +101,16 @@ class Forms(unittest.TestCase):
         self.found("01.forms.7", SHEET, call, line + call, "write_xor")
 
     def test_a_refused_figure_that_goes_on(self):
-        self.found("01.forms.7", SHEET, STOPPED, STOPPED.replace("Stopped", "UpTo(at)"), "does not stop")
+        self.found("01.forms.7", SHEET, STOPPED, STOPPED.replace("None", "Some(at)"), "does not stop")
 
     def test_a_line_that_is_not_in_the_list(self):
-        old = "    let Printed::UpTo(sac_end) = write_sac(n, m, rows, text, autocorrelation_end) else {\n        return autocorrelation_end;\n    };\n"
-        self.found("01.forms.7", SHEET, old, "    let sac_end = autocorrelation_end;\n", "sheet::write_lines")
+        old = "    *end = write_sac(n, m, rows, text, *end)?;\n"
+        self.found("01.forms.7", SHEET, old, "", "sheet::write_figures")
+        self.found("01.forms.7", SHEET, old, old + old, "sheet::write_figures")
+
+    def test_lines_that_are_not_asked_for(self):
+        call = "    let _ = write_figures(n, m, rows, text, &mut end);\n"
+        self.found("01.forms.7", SHEET, call, "", "sheet::write_lines")
 
     def test_sums_that_call_what_is_not_published(self):
         self.found("01.forms.8", ROUNDS, "linear::next_peak(", "linear::component_spectrum(", "does not list")

@@ -1,7 +1,6 @@
 -- A value of the bent form: the two halves of the input's bits, and what the tables then give. Assumes nothing.
 use Prim.Native.Nat.{ℕ, ◌+◌, ◌/◌, ◌%◌, ◌^◌, ◌≤◌, ◌<◌}
 use mathlib.Core.Path.{◌≡◌, sym, ap, ◌∙◌, subst}
-use mathlib.Core.Bool.{Bool, true, false, ◌&&◌}
 use mathlib.Core.List.{List}
 use native.Mathlib.Nat.{mod-lt}
 use native.Mathlib.Omega.{arith}
@@ -10,13 +9,6 @@ use lib.Pow.{pow_pos, pow_mono, shr_lt}
 use Rattle.boolean.specs.Bits.{dot}
 use Rattle.boolean.specs.Functions.{at}
 use Rattle.constructions.specs.BentForm.{bent_form}
-
--- a test in two parts: the first fails, or the second is the answer
-pub and_fails : {t : Bool} (u : Bool) → t ≡ false → false ≡ (t && u)
-and_fails u e = sym (rw e)
-
-pub and_holds : {t : Bool} (u : Bool) → t ≡ true → u ≡ (t && u)
-and_holds u e = sym (rw e)
 
 -- the input's two halves, each a place of the tables, where the size is 2^h
 pub record Halves (z size : ℕ) : Type 0 where

@@ -9,7 +9,7 @@ use native.Mathlib.Omega.{arith}
 use borrow.Author.Tests.{lt-ltb, le-ltb}
 use lib.Bits.{bit_xor, xor_lt, xor_zero_r}
 use lib.Dec.{ltb, eqb}
-use lib.Pow.{pow-lt, pow_mono, shl_lt, shl_exact}
+use lib.Pow.{pow-lt, shl_exact}
 use Rattle.constructions.specs.Enlargement.{enlarged}
 use Rattle.constructions.specs.Work.{source_of, Enlarges}
 
@@ -57,15 +57,7 @@ module _ (n k x : ℕ) where
         halves true = h x
         halves false = xor_lt bits (f (bit_xor (x - 2 ^ n) (2 ^ (k - 1)))) a (h (bit_xor (x - 2 ^ n) (2 ^ (k - 1)))) ha
 
--- a row of the new box: the shift and the sum stay within 32 bits
-module _ (n row top : ℕ) (high : n ≤ 7) (bit : top < 2) where
+-- the new top bit of a row: its shift stays within 32 bits
+module _ (n top : ℕ) (high : n ≤ 7) (bit : top < 2) where
   pub shifted : top * 2 ^ n % 2 ^ 32 ≡ top * 2 ^ n
   shifted = shl_exact 1 n 32 bit (omega arith)
-
-  pub row_fits : row < 2 ^ n → row + top * 2 ^ n % 2 ^ 32 < 2 ^ 32
-  row_fits l =
-      let small : 2 ^ n ≤ 2 ^ 7 = pow_mono high in
-      let above : top * 2 ^ n < 2 ^ (1 + n) = shl_lt 1 n bit in
-      let width : 1 + n ≤ 8 = omega arith in
-      let limit : 2 ^ (1 + n) ≤ 2 ^ 8 = pow_mono width in
-      omega (arith, shifted)

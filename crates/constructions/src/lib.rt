@@ -56,10 +56,8 @@ fn write_column(n: u32, table: &[u8], k: u32, a: u32, out: &mut [u8])
     requires { EnlargesColumn n table.now k a × (length out.old ≡ 2 ^ suc n) }
     ensures { out.new ≡ enlarged_table n table.now k a }
 {
-    let mut x = 0;
-    while x < out.len() {
-        out[x] = column_at(n, table, k, a, x);
-        x += 1;
+    for (x, entry) in out.iter_mut().enumerate() {
+        *entry = column_at(n, table, k, a, x);
     }
 }
 
@@ -98,20 +96,13 @@ pub fn enlarge_column(n: u32, table: &[u8], k: u32, a: u32, out: &mut [u8]) -> R
     Ok(())
 }
 
-// The part of an enlarged box's row that its old rows make: the constant is 0, so both halves are looked up alike.
-fn row_at(n: u32, rows: &[u32], k: u32, x: usize) -> u32
-    requires { Enlarges n k × (length rows.now ≡ 2 ^ n) × (x < 2 ^ suc n) }
-    ensures { result ≡ enlarged n (at rows.now) k 0 x }
-{
-    rows[source(n, k, x)]
-}
-
-// A row of the enlarged box: the old rows' part, and above it the new top bit, which the table makes with the constant 1.
+// A row of the enlarged box: the old row at the source, in both halves alike, and above it the new top bit, which the table makes with
+// the constant 1.
 fn box_row(n: u32, rows: &[u32], table: &[u8], k: u32, x: usize) -> u32
     requires { EnlargesBox n rows.now table.now k × (x < 2 ^ suc n) }
     ensures { result ≡ enlarged n (at rows.now) k 0 x + enlarged n (at table.now) k 1 x * 2 ^ n }
 {
-    let row = row_at(n, rows, k, x);
+    let row = rows[source(n, k, x)];
     let top = column_at(n, table, k, 1, x);
     row + ((top as u32) << n)
 }
@@ -121,10 +112,8 @@ fn write_box(n: u32, rows: &[u32], table: &[u8], k: u32, out: &mut [u32])
     requires { EnlargesBox n rows.now table.now k × (length out.old ≡ 2 ^ suc n) }
     ensures { out.new ≡ enlarged_rows n rows.now table.now k }
 {
-    let mut x = 0;
-    while x < out.len() {
-        out[x] = box_row(n, rows, table, k, x);
-        x += 1;
+    for (x, row) in out.iter_mut().enumerate() {
+        *row = box_row(n, rows, table, k, x);
     }
 }
 
@@ -170,20 +159,15 @@ pub fn enlarge_box(n: u32, rows: &[u32], table: &[u8], k: u32, out: &mut [u32]) 
 fn even_width(n: u32) -> bool
     ensures { result ≡ (in_range 2 8 n && eqb (n % 2) 0) }
 {
-    if !refusals::in_range(2, 8, n) {
-        return false;
-    }
-    n % 2 == 0
+    refusals::in_range(2, 8, n) && n % 2 == 0
 }
 
 // Whether the entries, of which there are as many, are the numbers below the size in some order.
+#[tactic(auto, unfolding(crate::specs::BentForm::is_permutation))]
 fn is_permutation(size: usize, entries: &[u8]) -> bool
     ensures { result ≡ is_permutation size entries.now }
 {
-    if !refusals::values_below(entries, size) {
-        return false;
-    }
-    boolean::rows_distinct(entries)
+    refusals::values_below(entries, size) && boolean::rows_distinct(entries)
 }
 
 // The value of the bent form at z, whose upper half of bits is x, and whose lower half is y.
@@ -203,11 +187,8 @@ fn write_bent(n: u32, permutation: &[u8], table: &[u8], out: &mut [u8])
     requires { MakesBent (n / 2) permutation.now table.now × (n / 2 + n / 2 ≡ n) × (length out.old ≡ 2 ^ n) }
     ensures { out.new ≡ bent_table n permutation.now table.now }
 {
-    let h = n / 2;
-    let mut z = 0;
-    while z < out.len() {
-        out[z] = bent_at(h, permutation, table, z);
-        z += 1;
+    for (z, entry) in out.iter_mut().enumerate() {
+        *entry = bent_at(n / 2, permutation, table, z);
     }
 }
 

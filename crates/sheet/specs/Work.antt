@@ -1,10 +1,8 @@
 -- What the functions behind the sheet leave.
-use Rattle.std.specs.Prelude.{ℕ, ◌+◌, ◌≤◌, ◌≡◌, List, [], ◌∷◌, ◌++◌, length}
+use Rattle.std.specs.Prelude.{ℕ, ◌+◌, ◌≤◌, ◌≡◌, Option, Some, None, List, [], ◌∷◌, ◌++◌, length}
 use Rattle.std.proofs.lemmas.List.Edits.{sets}
 use Rattle.texts.specs.Text.{bytes, line}
 use Rattle.sheet.specs.Sheet.{SheetLine, prints, stops, outcome_of, until_refused, sheet_lines}
-use Rattle.sheet.specs.declared.Printed.{Printed}
-use Rattle.sheet.specs.declared.Printed.TheVariants.{UpTo, Stopped}
 
 -- a line that is printed stands in the text from the start on up to the next place, and takes at most so many bytes
 pub record LinePrinted (l : SheetLine) (most start : ℕ) (old : List ℕ) (next : ℕ) (new : List ℕ) : Type 0 where
@@ -14,9 +12,14 @@ pub record LinePrinted (l : SheetLine) (most start : ℕ) (old : List ℕ) (next
   pub stored : (next ≡ start + length bytes) × (new ≡ sets old start bytes)
 
 -- and one that stops the sheet leaves the text as it is
-abbrev pub LineWritten : (l : SheetLine) (most start : ℕ) (old : List ℕ) (answer : Printed) (new : List ℕ) → Type 0
-LineWritten l most start old (UpTo next) new = LinePrinted l most start old next new
-LineWritten l most start old Stopped new = (outcome_of l ≡ stops) × (new ≡ old)
+abbrev pub LineWritten : (l : SheetLine) (most start : ℕ) (old : List ℕ) (answer : Option ℕ) (new : List ℕ) → Type 0
+LineWritten l most start old (Some next) new = LinePrinted l most start old next new
+LineWritten l most start old None new = (outcome_of l ≡ stops) × (new ≡ old)
+
+-- lines that stand in the text from the start on up to the next place, as far as none is refused
+pub record LinesWritten (ls : List SheetLine) (start : ℕ) (old : List ℕ) (next : ℕ) (new : List ℕ) : Type 0 where
+  pub place : next ≡ start + length (until_refused ls)
+  pub stored : new ≡ sets old start (until_refused ls)
 
 -- the sheet of a box that was read
 unfoldable pub box_text : (n m : ℕ) (rows : List ℕ) → List ℕ

@@ -18,28 +18,24 @@ fn line_end(text: &[u8], from: usize) -> usize
     requires { from ≤ length text.now }
     ensures { (result ≡ line_end text.now from) × (from ≤ result) × (result ≤ length text.now) }
 {
-    let mut at = from;
-    while at < text.len() {
+    for at in from..text.len() {
         if text[at] == LINE_END {
             return at;
         }
-        at += 1;
     }
-    at
+    text.len()
 }
 
 // The largest width whose tables are no longer than this; 0 where there is none, and 8 at most.
 fn width_of(length: usize) -> u32
     ensures { result ≡ width_of length }
 {
-    let mut n: u32 = 0;
-    while n < 8 {
+    for n in 0..8 {
         if length < boolean::power_of_two(n + 1) {
             return n;
         }
-        n += 1;
     }
-    n
+    8
 }
 
 // A digit's value; what is no digit has a value above 1 too.
@@ -54,10 +50,8 @@ fn read_digits(text: &[u8], table: &mut [u8])
     requires { length table.old ≤ length text.now }
     ensures { table.new ≡ digits_of text.now (length table.old) }
 {
-    let mut x = 0;
-    while x < table.len() {
-        table[x] = digit(text[x]);
-        x += 1;
+    for (x, value) in table.iter_mut().enumerate() {
+        *value = digit(text[x]);
     }
 }
 

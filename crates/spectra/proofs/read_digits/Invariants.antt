@@ -1,4 +1,4 @@
-use Rattle.std.proofs.Common.{length, ◌-◌}
+use Rattle.std.proofs.Common.{length}
 use Rattle.boolean.specs.Functions.{at}
 use Rattle.boolean.proofs.Filled.{Filled}
 use Rattle.spectra.specs.Reading.{digit_of}
@@ -6,6 +6,3 @@ use Rattle.spectra.proofs.read_digits.Given as goal
 
 abbrev pub invariant-loop-x : goal.invariant-loop-x
 invariant-loop-x l = Filled 0 (λ y. digit_of (at l.fn.text y)) (length l.fn.table) l.x l.table
-
-abbrev pub decreases-loop-x : goal.decreases-loop-x
-decreases-loop-x l = length l.fn.table - l.x

@@ -2,24 +2,17 @@
 use Prim.Native.Nat.{ℕ}
 use mathlib.Core.Path.{ap, ◌∙◌}
 use native.Mathlib.Omega.{arith}
-use borrow.Author.Rules.{rules}
 use lib.Bits.{bit_xor}
 use Rattle.boolean.specs.Functions.{at}
 use Rattle.constructions.proofs.Enlarging.{enlarged_lower, enlarged_upper}
-use Rattle.constructions.proofs.column_at.Statement.{statement}
-use Rattle.constructions.proofs.column_at.Tie as tie
+use Rattle.constructions.proofs.column_at.Goals as goal
 
-returns : tie.Need-returns-then-x-power_of_two
-returns c =
+pub returns-then-x-power_of_two : goal.returns-then-x-power_of_two
+returns-then-x-power_of_two c =
     let a = c.args in
     ap (at a.table.now) c.source.ensures.0 ∙ enlarged_lower a.n a.k a.x (at a.table.now) a.a (omega arith)
 
-returns-2 : tie.Need-returns
-returns-2 c =
+pub returns : goal.returns
+returns c =
     let a = c.args in
     ap (λ (s : ℕ). bit_xor (at a.table.now s) a.a) c.source.ensures.0 ∙ enlarged_upper a.n a.k a.x (at a.table.now) a.a (omega arith)
-
-pub column_at_spec : {M : Type 1} → statement M
-column_at_spec =
-    tie.close
-    (tie.spec (λ c κs. search rules) (λ c. search rules) (λ c κs. search rules) returns (λ c. search rules) returns-2)
