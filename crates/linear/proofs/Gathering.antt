@@ -1,6 +1,6 @@
 -- The nonlinearity by parts: merging the replies of parts, cut anywhere, in any order and grouping, gives the plain call's reply. It is the law of sweeps in
 -- parts (masks, proofs/Gathering), of the pairs.
-use mathlib.Core.Path.{◌≡◌, refl, sym, ap, ◌∙◌}
+use mathlib.Core.Path.{◌≡◌, refl, ap, ◌∙◌}
 use mathlib.Core.Bool.{Bool, true}
 use mathlib.Core.List.{List, ◌∷◌}
 use Prim.Native.Nat.{ℕ, ◌+◌, ◌^◌, ◌≤◌, ◌<◌}
