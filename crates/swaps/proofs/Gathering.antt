@@ -7,7 +7,7 @@ use native.Mathlib.Decide.{dec_lt}
 use native.Mathlib.Numerals.{add-one}
 use native.Mathlib.Omega.{arith}
 use borrow.Author.Tests.{eq-eqb, ne_eqb}
-use lib.ListN.{length, get_or, set}
+use lib.ListN.{length, get_or, set, length-set}
 use lib.Seq.{get_or-set_same, get_or-set_other}
 use Rattle.boolean.specs.Functions.{at, component, distance, MaskWithin}
 use Rattle.boolean.specs.Selection.{Candidate, best, first_least}
@@ -85,7 +85,11 @@ module _ {value near v a : ℕ} (value_is : value ≡ v) (near_is : near ≡ a) 
 module _ {n m : ℕ} {rows : List ℕ} {figure : ℕ} {tables tables' : List (List ℕ)} {count count' : ℕ} (g : PairsGathered n m rows figure (record { tables = tables; count = count })) where
   pub gathered_more : {table : List ℕ} → tables' ≡ set tables count table → count' ≡ count + 1 → count < length tables → count < 16 → NearestTable n m rows figure table
       → PairsGathered n m rows figure (record { tables = tables'; count = count' })
-  gathered_more {table} e more room few t = record { few = omega arith; tables_are = λ k h. pick k h (dec_lt k count) }
+  gathered_more {table} e more room few t = record {
+    room = ap length e ∙ length-set tables count table ∙ g.room;
+    few = omega arith;
+    tables_are = λ k h. pick k h (dec_lt k count);
+  }
     where
       pick : (k : ℕ) → k < count' → Dec (k < count) → NearestTable n m rows figure (get_or tables' k [])
       pick k h (yes l) =
@@ -95,10 +99,3 @@ module _ {n m : ℕ} {rows : List ℕ} {figure : ℕ} {tables tables' : List (Li
           let z : k ≡ count = omega arith in
           subst (λ (l : List ℕ). NearestTable n m rows figure l)
           (sym (ap₂ (λ (l : List (List ℕ)) (j : ℕ). get_or l j []) e z ∙ get_or-set_same tables count table [] room)) t
-
-  -- or none
-  pub gathered_same : tables' ≡ tables → count' ≡ count → PairsGathered n m rows figure (record { tables = tables'; count = count' })
-  gathered_same p q = record {
-    few = omega (arith, g.few);
-    tables_are = λ k h. subst (λ (l : List ℕ). NearestTable n m rows figure l) (ap (λ (l : List (List ℕ)). get_or l k []) (sym p)) (g.tables_are k (omega arith));
-  }

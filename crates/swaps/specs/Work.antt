@@ -48,6 +48,7 @@ pub record NearestTable (n m : ℕ) (rows : List ℕ) (figure : ℕ) (table : Li
 
 -- so are the first tables, as many as the count
 pub record PairsGathered (n m : ℕ) (rows : List ℕ) (figure : ℕ) (pairs : Gathered) : Type 0 where
+  pub room : length pairs.tables ≡ 16
   pub few : pairs.count ≤ 16
   pub tables_are : (k : ℕ) → k < pairs.count → NearestTable n m rows figure (get_or pairs.tables k [])
 

@@ -131,15 +131,22 @@ fn write_table(rows: &[u32], pair: Found, table: &mut [u8])
 
 // The tables of up to 16 nearest pairs, and how many they are: that of the present witness, and from six inputs on also those of the first
 // nearest pair of each component that has one. (With fewer inputs the whole search takes less time than to gather them.)
-fn gather_pairs(fixed: &[i16; 2048], n: u32, m: u32, rows: &[u32], present: Found) -> Gathered
+fn gather_pairs(
+    fixed: &[i16; 2048],
+    n: u32,
+    m: u32,
+    rows: &[u32],
+    present: Found,
+    pairs: &mut Gathered,
+)
     requires { Box n m rows.now × Spectra fixed.now × (m ≤ 8) × NearestPair n m rows.now present.count present }
-    ensures { PairsGathered n m rows.now present.count result }
+    ensures { PairsGathered n m rows.now present.count pairs.new }
 {
-    let mut tables = [[0u8; 256]; 16];
+    let tables = &mut pairs.tables;
     write_table(rows, present, &mut tables[0]);
-    let mut count = 1;
+    pairs.count = 1;
     if n < 6 {
-        return Gathered { tables, count };
+        return;
     }
     let mut farther = present;
     farther.count = present.count + 1;
@@ -148,17 +155,18 @@ fn gather_pairs(fixed: &[i16; 2048], n: u32, m: u32, rows: &[u32], present: Foun
     let size = rows.len();
     let masks = boolean::power_of_two(m) as u32;
     for mask in 1..masks {
+        let count = pairs.count;
         if count == 16 {
-            break;
+            return;
         }
         linear::component_spectrum(fixed, n, m, rows, mask, &mut bits[..size], &mut out[..size]);
         let pair = linear::with_spectrum(farther, n, m, rows, mask, &out[..size]);
         if pair.count == present.count {
+            let tables = &mut pairs.tables;
             write_table(rows, pair, &mut tables[count]);
-            count += 1;
+            pairs.count = count + 1;
         }
     }
-    Gathered { tables, count }
 }
 
 // Whether a swap takes every gathered pair apart: that pair agrees at both inputs, and its component's values there are unlike, so that its
@@ -289,13 +297,16 @@ fn gather_and_search(n: u32, m: u32, rows: &[u32], present: Found) -> Result<Rai
     ensures { SearchedIn n m rows.now (swaps n m rows.now) result }
 {
     let fixed = walsh::spectra();
-    let pairs = gather_pairs(&fixed, n, m, rows, present);
-    let job = Job {
+    let mut job = Job {
         n,
         m,
         figure: present.count,
-        pairs,
+        pairs: Gathered {
+            tables: [[0; 256]; 16],
+            count: 0,
+        },
     };
+    gather_pairs(&fixed, n, m, rows, present, &mut job.pairs);
     let mut space = Workspace {
         rows: [0; 256],
         bits: [0; 256],

@@ -1,5 +1,6 @@
-use Rattle.std.proofs.Common.{◌+◌, ◌^◌, ◌<◌, arith, ◌∙◌, ap, length, length-set}
-use Rattle.swaps.proofs.Gathering.{differs_le, preferred_nearest, gathered_more, gathered_same}
+use Rattle.std.proofs.Common.{◌+◌, ◌^◌, ◌<◌, arith, refl, sym, subst}
+use Rattle.swaps.proofs.Gathering.{differs_le, preferred_nearest, gathered_more}
+use Rattle.swaps.specs.Work.{PairsGathered}
 use Rattle.swaps.proofs.gather_pairs.Goals as goal
 use Rattle.swaps.proofs.gather_pairs.Goals.{then-pair-present, else-pair-present}
 
@@ -13,15 +14,13 @@ loop-mask-preserved c =
     let i = c.loop-mask.invariant in
     let inside : c.loop-mask.mask < 2 ^ a.m = omega arith in
     elim c.if-pair-present.branch [
-      | then-pair-present w ↦ (
-        ap length w.tables-is ∙ length-set _ _ _ ∙ i.0,
-        gathered_more i.1 w.tables-is w.count-is (omega (arith, i.0, i.1.few)) (omega (arith, i.1.few)) (record {
-          pair = c.with_spectrum-pair.result;
-          nearest =
-              preferred_nearest a.n a.m a.rows.now _ (record { count = a.present.count + 1; c = a.present.c; w = a.present.w; b = a.present.b }) c.loop-mask.auto.mask
-              inside c.with_spectrum-pair.ensures (omega arith) w.if-pair-present.true;
-          entries = w.write_table-then-pair-present.ensures;
-        }),
-      )
-      | else-pair-present w ↦ (ap length w.tables-is ∙ i.0, gathered_same i.1 w.tables-is w.count-is)
+      | then-pair-present w ↦
+          subst (PairsGathered a.n a.m a.rows.now a.present.count) (sym w.pairs-is) (gathered_more i refl refl (omega (arith, i.few, i.room)) (omega (arith, i.few)) (record {
+            pair = c.with_spectrum-pair.result;
+            nearest =
+                preferred_nearest a.n a.m a.rows.now _ (record { count = a.present.count + 1; c = a.present.c; w = a.present.w; b = a.present.b }) c.loop-mask.auto.mask
+                inside c.with_spectrum-pair.ensures (omega arith) w.if-pair-present.true;
+            entries = w.write_table-then-pair-present.ensures;
+          }))
+      | else-pair-present w ↦ subst (PairsGathered a.n a.m a.rows.now a.present.count) (sym w.pairs-is) i
     ]
