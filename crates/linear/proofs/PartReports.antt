@@ -4,13 +4,12 @@ use Rattle.std.specs.Prelude.{Ok}
 use mathlib.Core.Path.{◌≡◌, refl, sym, ap, ◌∙◌}
 use mathlib.Core.Logic.{◌↔◌}
 use mathlib.Core.List.{List, [], ◌∷◌, Memᴰ}
-use Prim.Native.Nat.{ℕ, ◌^◌, ◌<◌, ◌≤◌}
+use Prim.Native.Nat.{ℕ, ◌<◌}
 use native.Mathlib.Nat.{zero-lt-suc}
 use native.Mathlib.Omega.{arith}
 use lib.Pow.{pow_pos}
 use Rattle.boolean.specs.Sums.{each}
-use Rattle.boolean.specs.Functions.{component, distance}
-use Rattle.boolean.specs.Selection.{Candidate, shown, lower, first_least}
+use Rattle.boolean.specs.Selection.{Candidate, lower, first_least}
 use Rattle.boolean.proofs.Lists.{some_member, mem_each, in_each}
 use Rattle.boolean.proofs.Selection.{first_least_chooses, first_ranked}
 use Rattle.refusals.specs.Table.{figures, first}
@@ -19,7 +18,7 @@ use Rattle.masks.specs.Parts.{components_between, shown_best, best_between}
 use Rattle.masks.specs.Statements.{MaskBetween}
 use Rattle.masks.proofs.Parts.{in_between, mem_between, ascending_between, none_between}
 use Rattle.linear.specs.Nonlinearity.{pair, pairs_of, nonlinearity_between, nonlinearity_between_reply, part_checks}
-use Rattle.linear.specs.Statements.{IsPairBetween, PairBefore, NonlinearityBetweenReported, pair_rank}
+use Rattle.linear.specs.Statements.{IsPairBetween, NonlinearityBetweenReported, pair_rank}
 use Rattle.linear.proofs.Pairs.{before_rank, in_pairs_of, mem_pairs_of, ascending_over}
 use Rattle.linear.proofs.Ranges.{shown_least}
 

@@ -228,6 +228,7 @@ fn sweep(
     };
     let mut before = prior as u64;
     let mut c = first as u64;
+    // kept: no plainer in another form, since each mask is made from the one before
     while c < end {
         let largest = next_peak(fixed, n, m, rows, steps, before, c, table, work);
         found = with_peak(fixed, found, n, m, rows, c as u32, largest, table, values);

@@ -1,17 +1,17 @@
 -- The loops that list pairs: over the places of a spectrum, over the masks of k ones, and over k. Each knows what stands in the list, and that the
 -- next entry's number fits. Assumes nothing.
-use mathlib.Core.Path.{◌≡◌, refl, sym, ap, ◌∙◌, subst}
+use mathlib.Core.Path.{◌≡◌, sym, ap, ◌∙◌, subst}
 use mathlib.Core.List.{List, [], ◌∷◌, ◌++◌, append-nil}
-use Prim.Native.Nat.{ℕ, suc, ◌+◌, ◌*◌, ◌-◌, ◌^◌, ◌≤◌, ◌<◌, min, zero-le}
-use native.Mathlib.Nat.{add-zero, le_refl, lt_of_lt_of_le}
+use Prim.Native.Nat.{ℕ, ◌+◌, ◌*◌, ◌-◌, ◌^◌, ◌≤◌, ◌<◌, min, zero-le}
+use native.Mathlib.Nat.{le_refl}
 use native.Mathlib.Omega.{arith}
 use lib.Count.{ones, ones-ones}
 use lib.IntN.{ℤ}
 use lib.ListN.{length}
-use lib.Pow.{pow_pos, pow_mono}
+use lib.Pow.{pow_mono}
 use lib.Seq.{sets}
 use Rattle.boolean.specs.Sums.{list_from, list_below, each, AnyContent}
-use Rattle.boolean.specs.Functions.{value_at, MaskWithin}
+use Rattle.boolean.specs.Functions.{value_at}
 use Rattle.boolean.proofs.Lists.{each_append, each_from_one, each_from_zero}
 use Rattle.boolean.proofs.Stored.{Stored, stored_none, stored_more}
 use Rattle.nearest.specs.declared.Sought.{Sought}
@@ -86,13 +86,6 @@ module _ {s : Sought} {rows : List ℕ} {k start : ℕ} {old : List ℕ} where
       }
 
   module _ {table : List ℕ} {work values : List ℤ} {next : ℕ} {list : List ℕ} {c : ℕ} (t : Listing s rows k start old table work values next list c) where
-    -- the loop's mask is one of the box's
-    pub listing_within : c < 2 ^ s.m → k ≤ s.i → MaskWithin s.i (2 ^ s.m) c
-    listing_within l h = record { low = t.c_low; high = l; few = omega (arith, t.c_ones) }
-
-    pub listing_room : c < 2 ^ s.m → start ≤ 2 ^ 61 → next ≤ 2 ^ 62
-    listing_room l h = omega (arith, t.few, pow_mono {i = s.m} {j = 32} t.lent.arrays.box.m_high)
-
     pub listing_next : {table' : List ℕ} {work' values' : List ℤ} {after : ℕ} {list' : List ℕ} {r : ℕ} → c < 2 ^ s.m → NextOfOnes c r
         → ListLent s rows table' work' values' → after ≡ next + length (pairs_at s.n rows s.d c) → after ≤ next + 256
         → list' ≡ sets list next (pairs_at s.n rows s.d c) → Listing s rows k start old table' work' values' after list' r
@@ -137,11 +130,8 @@ module _ {s : Sought} {rows old : List ℕ} where
 
   module _ {table : List ℕ} {work values : List ℤ} {next : ℕ} {list : List ℕ} {k : ℕ} (t : Rising s rows old table work values next list k) where
     -- a limit is at most 32
-    pub rising_limit : s.i ≤ 32
+    rising_limit : s.i ≤ 32
     rising_limit = omega (arith, t.lent.known.i_high, t.lent.arrays.box.m_high)
-
-    pub rising_room : k ≤ s.i → next ≤ 2 ^ 61
-    rising_room l = omega (arith, t.few, rising_limit)
 
     pub rising_next : {table' : List ℕ} {work' values' : List ℤ} {after : ℕ} {list' : List ℕ} → k ≤ s.i → ListLent s rows table' work' values'
         → after ≡ next + length (pairs_of_ones s rows k) → after ≤ next + 2 ^ 40 → list' ≡ sets list next (pairs_of_ones s rows k)

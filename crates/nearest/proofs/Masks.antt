@@ -1,13 +1,13 @@
 -- The masks of k ones, one after the other: none below the first, and one more with each step to the next. Assumes nothing.
-use mathlib.Core.Path.{◌≡◌, refl, sym, ap, ◌∙◌}
+use mathlib.Core.Path.{◌≡◌, sym, ap, ◌∙◌}
 use mathlib.Core.Bool.{Bool, true, false}
 use mathlib.Core.List.{List, [], ◌∷◌, ◌++◌}
 use Prim.Native.Nat.{ℕ, suc, ◌+◌, ◌-◌, ◌^◌, ◌≤◌, ◌<◌, min}
 use native.Mathlib.Omega.{arith}
 use borrow.Author.Tests.{eq-eqb, ne_eqb}
-use lib.Count.{ones, ones-ones}
+use lib.Count.{ones}
 use lib.Dec.{eqb}
-use lib.Pow.{pow_pos, pow_mono}
+use lib.Pow.{pow_mono}
 use Rattle.boolean.specs.Sums.{list_from, each, keep}
 use Rattle.boolean.specs.Functions.{components}
 use Rattle.boolean.proofs.Components.{split, keep_none}

@@ -1,11 +1,11 @@
 -- The next mask with as many ones: where adding the lowest one carries to, and the ones that were lost put at the lowest places. Assumes nothing.
 use mathlib.Core.Path.{◌≡◌, refl, sym, ap, ◌∙◌, subst}
 use Prim.Native.Nat.{ℕ, zero, suc, ◌+◌, ◌*◌, ◌-◌, ◌/◌, ◌%◌, ◌^◌, ◌≤◌, ◌<◌}
-use native.Mathlib.Nat.{mod-lt, zero-lt-suc, le_refl, le_trans, one-mul, mul_assoc, mul_comm, suc-mul, pow-suc, two-pow-succ}
+use native.Mathlib.Nat.{mod-lt, zero-lt-suc, one-mul, mul_assoc, mul_comm, suc-mul, pow-suc, two-pow-succ}
 use native.Mathlib.Decide.{dec_lt}
 use native.Mathlib.Omega.{arith}
 use lib.Arith.{bin_ind}
-use lib.Count.{ones, ones_in, count_trailing_zeros, ones_step, ones_cat, ones-ones, ones-le}
+use lib.Count.{ones, count_trailing_zeros, ones_step, ones_cat, ones-ones, ones-le}
 use lib.Dec.{lit<}
 use lib.Pow.{pow_pos, pow_mono, shl_exact}
 use Rattle.boolean.proofs.Dots.{bit_cases}
@@ -13,7 +13,7 @@ use Rattle.boolean.proofs.OneBit.{ones_one, ones_pos}
 use Rattle.masks.specs.Masks.{Next}
 use Rattle.masks.proofs.Ones.{ones_none, ones_shifted}
 use Rattle.masks.proofs.Trailing.{Odd}
-use Rattle.masks.proofs.NextMask.{next_carried, lowest_one, lowest_place, lowest_shifted, power_low}
+use Rattle.masks.proofs.NextMask.{next_carried, lowest_one, lowest_shifted, power_low}
 use Rattle.nearest.specs.Work.{NextOfOnes}
 
 -- ---- of the numbers below 2^j the last alone has j ones
@@ -117,9 +117,6 @@ module _ (c : ℕ) (low : 1 ≤ c) (small : c < 4294967296) where
   odd : Odd c place
   odd = lowest_one c some_ones small
 
-  pub place_small : place < 32
-  place_small = lowest_place c some_ones small
-
   pub lowest : 1 * 2 ^ place % 2 ^ 64 ≡ 2 ^ place
   lowest = lowest_shifted c some_ones small
 
@@ -134,7 +131,7 @@ module _ (c : ℕ) (low : 1 ≤ c) (small : c < 4294967296) where
     pub lost_sub : ones (c + step) ≤ ones c
     lost_sub = subst (λ (z : ℕ). ones (c + z) ≤ ones c) (sym e) (no_more c place odd)
 
-    pub lost_small : lost ≤ 32
+    lost_small : lost ≤ 32
     lost_small = omega (arith, ones-le 32 c small)
 
     pub lost_shifted : 1 * 2 ^ lost % 2 ^ 64 ≡ 2 ^ lost
@@ -142,9 +139,6 @@ module _ (c : ℕ) (low : 1 ≤ c) (small : c < 4294967296) where
 
     pub lost_power : 2 ^ lost ≤ 4294967296
     lost_power = pow_mono {i = lost} {j = 32} lost_small
-
-    pub lost_some : 1 ≤ 2 ^ lost
-    lost_some = pow_pos lost
 
     pub next_is : {power : ℕ} → power ≡ 2 ^ lost → NextOfOnes c (c + step + (power - 1))
     next_is q =

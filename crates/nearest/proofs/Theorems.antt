@@ -1,24 +1,23 @@
 -- All nearest pairs, as the call leaves them in the list: exactly the pairs within the limit that differ at d inputs, d being the nonlinearity that
 -- its call replies, each once, in the order of the pairs, the nonlinearity's witness first.
 use Rattle.std.specs.Prelude.{Ok}
-use Rattle.std.specs.Prelude.{Ok}
 use mathlib.Core.Path.{◌≡◌, sym, ap, ◌∙◌}
-use mathlib.Core.Logic.{◌⊎◌, inl, inr}
+use mathlib.Core.Logic.{inl, inr}
 use mathlib.Core.Bool.{Bool}
-use mathlib.Core.List.{List, [], ◌∷◌, ◌++◌, map, Memᴰ}
+use mathlib.Core.List.{List, [], ◌∷◌, ◌++◌}
 use Prim.Native.Nat.{ℕ, zero, suc, ◌+◌, ◌*◌, ◌-◌, ◌^◌, ◌<◌, ◌≤◌}
 use native.Mathlib.Decide.{dec_lt}
 use native.Mathlib.Omega.{arith}
 use borrow.Author.Tests.{eq-eqb, eqb-true, leb-true}
 use lib.Count.{ones}
-use lib.Dec.{eqb, leb}
+use lib.Dec.{eqb}
 use lib.ListN.{length, get_or, drop, length-map, length-append, length-drop, get_or-append, get_or-map}
 use lib.Seq.{get_or-append-add, get_or-drop}
 use Rattle.boolean.specs.Sums.{keep}
 use Rattle.boolean.specs.Functions.{at, component, distance, mask_rank}
 use Rattle.boolean.specs.Selection.{Candidate, nothing, shown}
 use Rattle.boolean.proofs.Kept.{mem_keep, in_keep, ascending_keep}
-use Rattle.refusals.specs.Table.{first, limit_checks, figures}
+use Rattle.refusals.specs.Table.{first, limit_checks}
 use Rattle.refusals.proofs.Checks.{limited, accepted_before, accepted_after, passed}
 use Rattle.refusals.proofs.Outcomes.{wrote_when_told}
 use Rattle.refusals.proofs.Replies.{head_same, figures_accepted}
@@ -28,7 +27,7 @@ use Rattle.linear.proofs.Pairs.{before_rank, in_pairs, mem_pairs, ascending_pair
 use Rattle.linear.proofs.Theorems.{nonlinearity_reported, nonlinearity_reached, nonlinearity_first, figure_told}
 use Rattle.nearest.specs.NearestPairs.{code, coded_pair, nearest_pairs}
 use Rattle.nearest.specs.Calls.{pairs_checks, PairsCalled}
-use Rattle.nearest.specs.Statements.{PairOf, PairsReported}
+use Rattle.nearest.specs.Statements.{PairsReported}
 use Rattle.nearest.proofs.Lists.{at_each, place_of, ascending_places}
 
 -- a number of the list names one pair, at every width: w is below 2^8, and b below 2

@@ -1,5 +1,5 @@
 -- What the theorem beside the contract says; no contract needs it.
-use Rattle.std.specs.Prelude.{ℕ, ◌+◌, ◌<◌, ◌≤◌, ◌≡◌, List, [], ◌∷◌, length}
+use Rattle.std.specs.Prelude.{ℕ, ◌<◌, ◌≤◌, ◌≡◌, List, [], ◌∷◌, length}
 use Rattle.boolean.specs.Functions.{at, component, distance}
 use Rattle.refusals.specs.Table.{figures}
 use Rattle.linear.specs.Nonlinearity.{nonlinearity_reply}

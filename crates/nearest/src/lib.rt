@@ -63,10 +63,8 @@ fn list_places(c: u64, size: u32, values: &[i32], list: &mut [u64], start: usize
         × (list.new ≡ sets list.old start (pair_numbers c size values.now)) }
 {
     let mut next = start;
-    let mut w = 0;
-    while w < values.len() {
-        next = list_place(c, size, w, values[w], list, next);
-        w += 1;
+    for (w, value) in values.iter().enumerate() {
+        next = list_place(c, size, w, *value, list, next);
     }
     next
 }
@@ -122,6 +120,7 @@ fn list_of_ones(
     let masks = boolean::power_of_two(sought.m) as u64;
     let mut next = start;
     let mut c = boolean::power_of_two(k) as u64 - 1;
+    // kept: no plainer in another form, since each mask is made from the one before
     while c < masks {
         next = list_component(fixed, sought, rows, c, table, work, values, list, next);
         c = next_of_ones(c);
@@ -145,12 +144,9 @@ fn list_all(
         × AnyContent table.old table.new × AnyContent work.old work.new
         × AnyContent values.old values.new }
 {
-    let limit = sought.i;
     let mut next = 0;
-    let mut k = 1;
-    while k <= limit {
+    for k in 1..=sought.i {
         next = list_of_ones(fixed, sought, rows, k, table, work, values, list, next);
-        k += 1;
     }
     next
 }

@@ -1,6 +1,5 @@
 -- What the nonlinearity call answers of an accepted box, and what the search gives of it. Assumes nothing.
 use mathlib.Core.Path.{◌≡◌, sym, ap, ap₂, ◌∙◌}
-use mathlib.Core.Bool.{Bool, true, false, cond}
 use mathlib.Core.List.{List, [], ◌∷◌}
 use Prim.Native.Nat.{ℕ}
 use native.Mathlib.Nat.{le_refl}
@@ -10,8 +9,8 @@ use Rattle.refusals.specs.Table.{Box, figures, refusal}
 use Rattle.refusals.proofs.Checks.{limit_accepted, reply_accepted}
 use Rattle.linear.specs.Nonlinearity.{nonlinearity, nonlinearity_reply}
 use Rattle.swaps.specs.Swaps.{figure_of, swaps, shown_swap, raised}
-use Rattle.swaps.specs.Work.{SearchedIn}
-use Rattle.swaps.specs.declared.Searched.{Searched}
+use Rattle.swaps.specs.Work.{RaiseIn, NoneIn}
+use Rattle.swaps.specs.declared.Raise.{Raise}
 
 -- ---- the nonlinearity over all combinations
 module _ {n m : ℕ} {rows : List ℕ} (boxed : Box n m rows) where
@@ -31,13 +30,11 @@ module _ {n m : ℕ} {rows : List ℕ} (boxed : Box n m rows) where
   never_declined e = let z = e ∙ reply_is in absurd (let k : ◌≡◌ {A = ℕ} 0 1 = cc in omega arith)
 
 -- ---- what the call gives of a swap that was found, and of none
-module _ {n m : ℕ} {rows : List ℕ} {s : Searched} (t : SearchedIn n m rows (swaps n m rows) s) where
-  shows : (b : Bool) → s.found ≡ b → shown_swap n m rows (cond b (record { low = s.low; high = s.high } ∷ []) []) ≡ raised n m rows
+module _ {n m : ℕ} {rows : List ℕ} where
+  pub raised_found : {raise : Raise} → RaiseIn n m rows (swaps n m rows) raise → 1 ∷ raise.low ∷ raise.high ∷ raise.figure ∷ [] ≡ raised n m rows
   unfolding raised
-  shows b e = ap (shown_swap n m rows) (sym (ap (λ (b : Bool). cond b (record { low = s.low; high = s.high } ∷ []) []) e) ∙ t.result)
+  raised_found {raise} t = ap (λ (k : ℕ). 1 ∷ raise.low ∷ raise.high ∷ k ∷ []) t.figure_is ∙ ap (shown_swap n m rows) (sym t.first)
 
-  pub raised_found : s.found ≡ true → 1 ∷ s.low ∷ s.high ∷ s.figure ∷ [] ≡ raised n m rows
-  raised_found e = ap (λ (k : ℕ). 1 ∷ s.low ∷ s.high ∷ k ∷ []) (t.figure_is e) ∙ shows true e
-
-  pub raised_none : s.found ≡ false → 0 ∷ 0 ∷ 0 ∷ 0 ∷ [] ≡ raised n m rows
-  raised_none e = shows false e
+  pub raised_none : {hint : ℕ} → NoneIn n m rows (swaps n m rows) hint → 0 ∷ 0 ∷ 0 ∷ 0 ∷ [] ≡ raised n m rows
+  unfolding raised
+  raised_none t = ap (shown_swap n m rows) (sym t.none)

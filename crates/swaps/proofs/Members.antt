@@ -1,7 +1,6 @@
 -- Which swaps the list has: those of two inputs with unlike rows. Assumes nothing.
 use mathlib.Core.Path.{◌≡◌, refl, sym, ap, ap₂, ◌∙◌}
-use mathlib.Core.Bool.{Bool, true, cond}
-use mathlib.Core.List.{List, [], ◌∷◌, Memᴰ}
+use mathlib.Core.List.{List, Memᴰ}
 use Prim.Native.Nat.{ℕ, zero, suc, ◌-◌, ◌^◌, ◌<◌, ◌≤◌}
 use native.Mathlib.Omega.{arith}
 use borrow.Author.Tests.{eqb-true, eq-eqb}
@@ -16,11 +15,8 @@ use Rattle.boolean.proofs.Members.{mem_if, in_if}
 use Rattle.boolean.proofs.OneBit.{ones_power, power_of_ones}
 use Rattle.boolean.proofs.Xor.{xor_cancel}
 use Rattle.refusals.specs.Table.{Box}
-use Rattle.swaps.specs.Swaps.{Swap, swap_at, swaps_from, swaps_by, swaps, raises}
-use Rattle.swaps.specs.Work.{SearchedIn, swap_of}
+use Rattle.swaps.specs.Swaps.{Swap, swap_at, swaps_from, swaps_by, swaps}
 use Rattle.swaps.specs.Statements.{IsSwap, row_distance}
-use Rattle.swaps.specs.declared.Searched.{Searched}
-use Rattle.boolean.proofs.FirstOf.{first_is}
 
 -- ---- numbers differ exactly where their XOR has ones
 no_ones : ones 0 ≡ 0
@@ -93,11 +89,3 @@ module _ (n m : ℕ) (rows : List ℕ) where
 pub first_mem : {A : Type 0} {S : A → A → Type 0} {r : A} {xs : List A} → FirstIn S r xs → Memᴰ r xs
 first_mem here = Memᴰ.head refl
 first_mem (there s f) = Memᴰ.tail (first_mem f)
-
--- a swap that was found lies within the rows
-pub found_inside : {n m : ℕ} {rows : List ℕ} {s : Searched} → SearchedIn n m rows (swaps n m rows) s → s.found ≡ true → (s.low < 2 ^ n) × (s.high < 2 ^ n)
-found_inside {n} {m} {rows} {s} t e =
-    let one : swap_of s ≡ record { low = s.low; high = s.high } ∷ [] = ap (λ (b : Bool). cond b (record { low = s.low; high = s.high } ∷ []) []) e in
-    let h = mem_swaps n m rows (record { low = s.low; high = s.high })
-    (first_mem (first_is (raises n m rows) (swaps n m rows) (record { low = s.low; high = s.high }) (sym t.result ∙ one)).1) in
-    (omega (arith, h.ordered, h.inside), h.inside)

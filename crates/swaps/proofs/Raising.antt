@@ -2,47 +2,43 @@
 use mathlib.Core.Path.{◌≡◌, refl, sym, ap, ap₂, ◌∙◌, subst}
 use mathlib.Core.Bool.{Bool, true, false}
 use mathlib.Core.List.{List, [], ◌∷◌}
-use Prim.Native.Nat.{ℕ, ◌+◌, ◌*◌, ◌^◌, ◌<◌, ◌≤◌}
+use Prim.Native.Nat.{ℕ, ◌^◌, ◌<◌, ◌≤◌}
 use native.Mathlib.Omega.{arith}
 use borrow.Author.Tests.{lt-ltb, le-ltb, eq-eqb, ne_eqb}
 use lib.Bits.{bit_xor}
 use lib.Count.{ones}
 use lib.Dec.{eqb}
-use lib.ListN.{length}
+use lib.ListN.{get_or}
 use Rattle.boolean.specs.Bits.{affine}
 use Rattle.boolean.specs.Functions.{at, component, MaskWithin, swapped}
-use Rattle.boolean.specs.Sums.{list_below, every, first_of}
-use Rattle.boolean.proofs.Every.{every_of}
-use Rattle.boolean.proofs.Lists.{length_list_below, get_or_list_below}
+use Rattle.boolean.specs.Sums.{first_of}
+use Rattle.boolean.specs.Selection.{first_least}
 use Rattle.boolean.proofs.Members.{if_kept}
 use Rattle.refusals.specs.Table.{Box}
 use Rattle.linear.specs.declared.Found.{Found}
 use Rattle.linear.proofs.Theorems.{nonlinearity_least, component_least}
-use Rattle.boolean.proofs.Components.{whole_within}
 use native.Mathlib.Nat.{le_trans}
 use Rattle.swaps.specs.Swaps.{Swap, figure_of, swap_at, raises}
-use Rattle.swaps.specs.Work.{Tried, Passed, entry_of, table_of, apart_in, NearestPair, NearestTable, PairsGathered}
-use Rattle.swaps.specs.declared.Attempt.{Attempt}
+use Rattle.swaps.specs.Work.{Tried, Passed, NoneIn, entry_of, ApartIn, TakesApart, NearestPair, NearestTable, PairsGathered}
+use Rattle.swaps.specs.declared.Gathered.{Gathered}
+use Rattle.linear.specs.Nonlinearity.{pairs_of}
+use Rattle.std.proofs.Common.{Result, Ok, Err}
+use native.Mathlib.Decide.{ℕ_discrete}
 use Rattle.swaps.proofs.Apart.{pair_stays}
 use Rattle.boolean.proofs.FirstOf.{first_takes, first_skips}
-
--- the entry of a pair's table
-entry_is : (rows : List ℕ) (pair : Found) (x : ℕ) → x < length rows → at (table_of rows pair) x ≡ entry_of (component rows pair.c x) (affine pair.w pair.b x)
-unfolding table_of
-entry_is rows pair x h = get_or_list_below (length rows) _ x 0 h
 
 module _ {n m : ℕ} {rows : List ℕ} (box : Box n m rows) {figure : ℕ} (figure_is : figure ≡ figure_of n m rows) (d low high : ℕ) where
   abbrev swap : Swap
   swap = record { low = low; high = high }
 
-  swap_raises : {r : Attempt} → r.mask ≡ 0 → Tried n m (swapped rows low high) figure r → raises n m rows swap ≡ true
+  swap_raises : {new : ℕ} → (new ≡ figure_of n m (swapped rows low high)) × (figure < new) → raises n m rows swap ≡ true
   unfolding raises
-  swap_raises e t = lt-ltb _ _ (subst (λ (z : ℕ). z < figure_of n m (swapped rows low high)) figure_is (t.passes e))
+  swap_raises t = lt-ltb _ _ (omega (arith, figure_is))
 
-  swap_fails : {r : Attempt} → 1 ≤ r.mask → Tried n m (swapped rows low high) figure r → raises n m rows swap ≡ false
+  swap_fails : {by : ℕ} → MaskWithin m (2 ^ m) by × ((first_least (pairs_of n (swapped rows low high) by)).figure ≤ figure) → raises n m rows swap ≡ false
   unfolding raises
-  swap_fails {r} h t = le-ltb _ _ (subst (λ (z : ℕ). figure_of n m (swapped rows low high) ≤ z) figure_is
-      (le_trans (component_least n m (swapped rows low high) m r.mask (whole_within m r.mask h t.high)) (t.fails h)))
+  swap_fails {by} t = le-ltb _ _ (subst (λ (z : ℕ). figure_of n m (swapped rows low high) ≤ z) figure_is
+      (le_trans (component_least n m (swapped rows low high) m by t.0) t.1))
 
   module _ (low_in : low < 2 ^ n) (high_in : high < 2 ^ n) where
     -- a nearest pair that stays as near turns it down
@@ -55,69 +51,55 @@ module _ {n m : ℕ} {rows : List ℕ} (box : Box n m rows) {figure : ℕ} (figu
         let stays = pair_stays n rows box.size pair.c pair.w pair.b t.b_high low high low_in high_in e in
         le-ltb (figure_of n m rows) (figure_of n m (swapped rows low high)) (omega (arith, t.differs, figure_is))
 
-    table_fails : {tables : List ℕ} {k : ℕ} → NearestTable n m rows figure tables k → apart_in tables low high k ≡ false → raises n m rows swap ≡ false
-    table_fails {tables} {k} t e =
-        let l : at tables (256 * k + low) ≡ entry_of (component rows t.pair.c low) (affine t.pair.w t.pair.b low) = t.entries low low_in ∙ entry_is rows t.pair low (omega (arith, box.size)) in
-        let h : at tables (256 * k + high) ≡ entry_of (component rows t.pair.c high) (affine t.pair.w t.pair.b high) = t.entries high high_in ∙ entry_is rows t.pair high (omega (arith, box.size)) in
-        pair_fails t.nearest (sym (ap₂ (λ (a b : ℕ). eqb (bit_xor a b) 3) l h) ∙ e)
-
-    -- so does any of those gathered
-    some_fails : {tables : List ℕ} {count : ℕ} → PairsGathered n m rows figure tables count → every (apart_in tables low high) (list_below count (λ k. k)) ≡ false
-        → raises n m rows swap ≡ false
-    some_fails {tables} {count} g e = go (raises n m rows swap) refl
-      where
-        apart : raises n m rows swap ≡ true → (k : ℕ) → k < count → (t : Bool) → apart_in tables low high k ≡ t → t ≡ true
-        apart r k l true q = refl
-        apart r k l false q = sym (table_fails (g.tables_are k l) q) ∙ r
-
-        go : (t : Bool) → raises n m rows swap ≡ t → t ≡ false
-        go false r = refl
-        go true r =
-            sym (every_of (apart_in tables low high) 0 (list_below count (λ k. k)) (λ k l.
-            let inside : k < count = omega (arith, length_list_below count (λ (j : ℕ). j)) in
-            ap (apart_in tables low high) (get_or_list_below count (λ j. j) k 0 inside) ∙ apart r k inside (apart_in tables low high k) refl))
-            ∙ e
+    -- so does a table of one whose entries at the inputs are not 1 and 2
+    table_fails : {table : List ℕ} → NearestTable n m rows figure table → (ApartIn table low high → ⊥) → raises n m rows swap ≡ false
+    table_fails {table} t ne =
+        let l = t.entries low (omega (arith, box.size)) in
+        let h = t.entries high (omega (arith, box.size)) in
+        pair_fails t.nearest (ne_eqb _ 3 (λ e. ne (ap₂ bit_xor l h ∙ e)))
 
     -- the swap does not take every gathered pair apart
-    pub not_apart : {tables : List ℕ} {count hint : ℕ} {r : Attempt} → r.mask ≡ hint → MaskWithin m (2 ^ m) hint → PairsGathered n m rows figure tables count
-        → every (apart_in tables low high) (list_below count (λ k. k)) ≡ false → Passed n m rows (swap_at rows d low high) low high r
+    some_fails : {pairs : Gathered} → PairsGathered n m rows figure pairs → (TakesApart pairs low high → ⊥) → raises n m rows swap ≡ false
+    some_fails {pairs} g ne = go (raises n m rows swap) refl
+      where
+        go : (t : Bool) → raises n m rows swap ≡ t → t ≡ false
+        go false r = refl
+        go true r = absurd (ne (λ k l. same k l (ℕ_discrete (bit_xor (at (get_or pairs.tables k []) low) (at (get_or pairs.tables k []) high)) 3)))
+          where
+            same : (k : ℕ) → k < pairs.count → Dec (ApartIn (get_or pairs.tables k []) low high) → ApartIn (get_or pairs.tables k []) low high
+            same k l (yes e) = e
+            same k l (no d) = absurd (let z : ◌≡◌ {A = Bool} true false = sym r ∙ table_fails (g.tables_are k l) d in cc)
+
+    pub not_apart : {pairs : Gathered} {hint : ℕ} → MaskWithin m (2 ^ m) hint → PairsGathered n m rows figure pairs → (TakesApart pairs low high → ⊥)
+        → NoneIn n m rows (swap_at rows d low high) hint
     unfolding swap_at first_of
-    not_apart same k g e = record {
-      high_enough = omega (arith, same, k.high);
-      found = λ z. absurd (omega (arith, same, k.low));
-      figure_is = λ z. absurd (omega (arith, same, k.low));
-      none = λ h. none (eqb (ones (bit_xor (at rows low) (at rows high))) d);
-    }
+    not_apart k g ne = record { none = none (eqb (ones (bit_xor (at rows low) (at rows high))) d); hint_is = k }
       where
         none : (t : Bool) → first_of (raises n m rows) (if_kept t swap) ≡ []
-        none true = first_skips (raises n m rows) swap [] (some_fails g e)
+        none true = first_skips (raises n m rows) swap [] (some_fails g ne)
         none false = refl
 
   -- the rows differ in another number of bits
-  pub other_distance : {hint : ℕ} {r : Attempt} → r.mask ≡ hint → MaskWithin m (2 ^ m) hint → (ones (bit_xor (at rows low) (at rows high)) ≡ d → ⊥) → Passed n m rows (swap_at rows d low high) low high r
+  pub other_distance : {hint : ℕ} → MaskWithin m (2 ^ m) hint → (ones (bit_xor (at rows low) (at rows high)) ≡ d → ⊥) → NoneIn n m rows (swap_at rows d low high) hint
   unfolding swap_at first_of
-  other_distance same k ne =
-      let off = ne_eqb _ d ne in
-      record {
-        high_enough = omega (arith, same, k.high);
-        found = λ e. absurd (omega (arith, same, k.low));
-        figure_is = λ e. absurd (omega (arith, same, k.low));
-        none = λ h. ap (λ (t : Bool). first_of (raises n m rows) (if_kept t swap)) off;
-      }
+  other_distance k ne = record { none = ap (λ (t : Bool). first_of (raises n m rows) (if_kept t swap)) (ne_eqb _ d ne); hint_is = k }
 
   -- it was tried
-  pub this_distance : {r : Attempt} → ones (bit_xor (at rows low) (at rows high)) ≡ d → Tried n m (swapped rows low high) figure r
-      → Passed n m rows (swap_at rows d low high) low high r
-  unfolding swap_at first_of
-  this_distance {r} e t = record {
-    high_enough = t.high;
-    found = λ z. ap (first_of (raises n m rows)) one ∙ first_takes (raises n m rows) swap [] (swap_raises z t);
-    figure_is = t.figure_is;
-    none = λ h. ap (first_of (raises n m rows)) one ∙ first_skips (raises n m rows) swap [] (swap_fails h t) ∙ nothing;
-  }
-    where
-      one : swap_at rows d low high ≡ swap ∷ []
-      one = ap (λ (t : Bool). if_kept t swap) (eq-eqb _ d e)
+  module _ (e : ones (bit_xor (at rows low) (at rows high)) ≡ d) where
+    one : swap_at rows d low high ≡ swap ∷ []
+    unfolding swap_at
+    one = ap (λ (t : Bool). if_kept t swap) (eq-eqb _ d e)
 
-      nothing : first_of (raises n m rows) [] ≡ []
-      nothing = refl
+    nothing : first_of (raises n m rows) [] ≡ []
+    unfolding first_of
+    nothing = refl
+
+    pub this_distance : (r : Result ℕ ℕ) → Tried n m (swapped rows low high) figure r → Passed n m rows (swap_at rows d low high) low high r
+    this_distance (Ok new) t = record {
+      first = ap (first_of (raises n m rows)) one ∙ first_takes (raises n m rows) swap [] (swap_raises t);
+      figure_is = t.0;
+    }
+    this_distance (Err by) t = record {
+      none = ap (first_of (raises n m rows)) one ∙ first_skips (raises n m rows) swap [] (swap_fails t) ∙ nothing;
+      hint_is = t.0;
+    }

@@ -16,7 +16,7 @@ use lib.Count.{ones}
 use lib.Dec.{eqb, lit≤}
 use Rattle.boolean.specs.Functions.{at, swapped}
 use Rattle.boolean.specs.Selection.{Ascending}
-use Rattle.boolean.specs.Sums.{each, list_from, list_below, first_of}
+use Rattle.boolean.specs.Sums.{list_from, list_below, first_of}
 use Rattle.boolean.proofs.Lists.{ascending_list_from, ascending_list_below, ascending_each, ascending_blocks}
 use Rattle.boolean.proofs.Members.{if_kept, mem_if}
 use Rattle.boolean.proofs.Selection.{first_ranked}

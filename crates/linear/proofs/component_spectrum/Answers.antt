@@ -1,0 +1,17 @@
+use mathlib.Core.Path.{◌∙◌}
+use Rattle.linear.proofs.Components.{written_is, written_ready, written_spectrum}
+use Rattle.linear.proofs.component_spectrum.Goals as goal
+
+pub descend-requires : goal.descend-requires
+descend-requires c =
+    let a = c.args in (
+      written_ready a.n a.rows.now a.c a.m c.requires.0.box _ c.write_component.ensures _ c.requires.0.out_size,
+      c.requires.1,
+    )
+
+pub returns : goal.returns
+returns c =
+    let a = c.args in (
+      c.descend.ensures ∙ written_spectrum a.n a.rows.now a.c a.m c.requires.0.box _ c.write_component.ensures,
+      written_is a.n a.rows.now a.c a.m c.requires.0.box _ c.write_component.ensures,
+    )
