@@ -226,14 +226,12 @@ pub fn largest_magnitude(values: &[i32]) -> u32
 pub fn first_place(values: &[i32], size: u32) -> usize
     ensures { FirstOfMagnitude values.now size result }
 {
-    let mut w = 0;
-    while w < values.len() {
-        if boolean::magnitude(values[w]) == size {
+    for (w, v) in values.iter().enumerate() {
+        if boolean::magnitude(*v) == size {
             return w;
         }
-        w += 1;
     }
-    w
+    values.len()
 }
 
 // The values, copied.
