@@ -2,7 +2,8 @@
 """Holds every contract to what a function leaves: each lent array, and the reply.
 
 A `&mut` parameter has its `.new` in an `ensures` (DECISIONS 108), of a private function too: what no contract names may be left with any content,
-and a wrong program lives there. A function that returns something has an `ensures`.
+and a wrong program lives there. A function that returns something has an `ensures`. A method without clauses has those of the trait that its crate
+declares, which are asked for there.
 
 What a program writes is compared with the file stdout beside it. So nothing is asked of its `main`, nor of a function of a program that writes to an
 output of any type and gives no more than whether that went well; where such a function has an `ensures`, it names the output as it is left.
@@ -49,9 +50,15 @@ def only_writes(function, programs):
     return function.name == "main" or all(OUTPUT.match(types[name][-1]) for name in lent(function))
 
 
+def has_the_traits(function, declared):
+    """Whether a method has the clauses of its trait."""
+    return not function.clauses and (function.crate, function.implements, function.name.split("::")[-1]) in declared
+
+
 def faults(functions, worked_in=frozenset()):
     programs = {function.crate for function in functions if function.name == "main"}
-    functions = [function for function in functions if not only_writes(function, programs)]
+    declared = {(function.crate, function.declared, function.name.split("::")[-1]) for function in functions if function.declared}
+    functions = [function for function in functions if not only_writes(function, programs) and not has_the_traits(function, declared)]
     found, left = [], {(f"{function.crate}::{function.name}", name) for function in functions for name in unnamed(function)}
     found += [f"{whole} is said to work in {name}, and its contract names it, or it is gone" for whole, name in sorted(worked_in - left)]
     for function in functions:

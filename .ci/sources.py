@@ -22,6 +22,8 @@ class Function:
     clauses: list  # `requires` and `ensures`, in order
     promises: list  # the tokens of all its `ensures`
     body: list  # the tokens of its body
+    declared: str = ""  # the trait that it is declared in, or the empty text
+    implements: str = ""  # the trait that its `impl` is of, or the empty text
 
 
 def tokens(text):
@@ -89,18 +91,27 @@ def type_name(words):
     return next(word for word in reversed(words) if WORD.match(word) and word != "impl")
 
 
+def trait_name(words):
+    """The trait of an `impl`, without its parameters, or the empty text where it is of a type alone."""
+    return next(word for word in reversed(words[:words.index("for")]) if WORD.match(word)) if "for" in words else ""
+
+
 def functions(crate, module, words):
     """The functions of one file; `module` is '' for the root and else as 'listing::'."""
-    found, at, place, ends = [], 0, module, len(words)
+    found, at, place, ends, declared, implements = [], 0, module, len(words), "", ""
     while at < len(words):
         if at >= ends:
-            place, ends = module, len(words)
+            place, ends, declared, implements = module, len(words), "", ""
         if words[at] == "impl":
             opened = words.index("{", at)
+            implements = trait_name(words[at:opened])
             place, ends, at = f"{module}{type_name(words[at:opened])}::", closing(words, opened), opened + 1
+        elif words[at] == "trait" and at + 1 < len(words) and WORD.match(words[at + 1]):
+            opened = words.index("{", at)
+            declared, ends, at = words[at + 1], closing(words, opened), opened + 1
         elif words[at] == "fn" and WORD.match(words[at + 1]):
             function, at = function_at(crate, place, words, at)
-            found.append(function)
+            found.append(dataclasses.replace(function, declared=declared, implements=implements))
         else:
             at += 1
     return found

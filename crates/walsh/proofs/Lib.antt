@@ -1,6 +1,6 @@
 pub mod Numbers
 pub mod Crossing
-pub mod Turns
+pub mod Turned
 pub mod SpectrumHalves
 pub mod TransformHalves
 pub mod Inverting

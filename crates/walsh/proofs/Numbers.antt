@@ -3,12 +3,11 @@
 use mathlib.Core.Path.{◌≡◌, refl, sym, ap, ap₂, ◌∙◌, subst}
 use mathlib.Core.List.{List}
 use Prim.Native.Nat.{ℕ, zero, suc, ◌+◌, ◌-◌, ◌*◌, ◌/◌, ◌%◌, ◌^◌, ◌≤◌, ◌<◌}
-use native.Mathlib.Nat.{le_refl, le_trans, div-div-eq-div-mul}
+use native.Mathlib.Nat.{le_refl, div-div-eq-div-mul}
 use native.Mathlib.Omega.{arith}
 use lib.Dec.{lit<, eqb}
 use lib.IntN.{ℤ, pos, ◌-ℤ◌}
 use lib.ListN.{length, set}
-use lib.Pow.{pow_mono}
 use Rattle.boolean.specs.Bits.{dot}
 use Rattle.boolean.specs.Sums.{count_below}
 use Rattle.boolean.specs.Functions.{at, value_at, approximation}
@@ -101,7 +100,7 @@ module _ (table : List ℕ) (bits : (k : ℕ) → at table k < 2) where
       (lit< tt)) (lit< tt)) (lit< tt)) (lit< tt)) (lit< tt)) (lit< tt)) (lit< tt)) (lit< tt))) refl
 
 -- what the fixed table has for a function that has the number t
-entry_is : (fixed : List ℤ) (f : ℕ → ℕ) (t w : ℕ) → Spectra fixed → t < 256 → ((x : ℕ) → x < 8 → function_numbered t x ≡ f x) → w < 8
+pub entry_is : (fixed : List ℤ) (f : ℕ → ℕ) (t w : ℕ) → Spectra fixed → t < 256 → ((x : ℕ) → x < 8 → function_numbered t x ≡ f x) → w < 8
     → value_at fixed (t * 8 + w) ≡ approximation 3 f w
 entry_is fixed f t w s small e h =
     let row : (t * 8 + w) / 8 ≡ t = omega arith in

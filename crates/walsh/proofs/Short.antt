@@ -1,19 +1,16 @@
 -- An integer that is small enough is what a 16-bit word holds of it, and a 32-bit word holds what a 16-bit word does. Assumes nothing.
 use mathlib.Core.Path.{◌≡◌, sym, ◌∙◌, subst}
-use Prim.Native.Nat.{◌+◌, ◌^◌, ◌≤◌, ◌<◌}
+use Prim.Native.Nat.{◌^◌, ◌≤◌, ◌<◌}
 use native.Mathlib.Omega.{arith}
 use lib.IntN.{ℤ, pos, negsuc, nat_abs}
 use lib.Signed.{mag}
 use mir.Syntax.{w16, w32}
 use mir.Val.{SFits, to_z, of_z}
 use mir.Facts.{to_z-of_z}
-use Rattle.boolean.proofs.Words.{word, mag_abs}
+use Rattle.boolean.proofs.Words.{word}
 
 abbrev pub narrow : ℤ → ℤ
 narrow z = to_z w16 (of_z w16 z)
-
-pub fits_narrow : (z : ℤ) → nat_abs z ≤ 2 ^ 13 + 2 ^ 13 → SFits w16 z
-fits_narrow z h = record { sfits = omega (arith, mag_abs z) }
 
 pub narrow_told : (z : ℤ) → mag z < 2 ^ 15 → narrow z ≡ z
 narrow_told z h = to_z-of_z {w = w16} {z = z} (record { sfits = h })

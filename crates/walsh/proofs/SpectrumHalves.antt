@@ -8,17 +8,22 @@ use native.Mathlib.Omega.{arith}
 use lib.ListN.{length, take, drop, length-drop}
 use lib.Seq.{length-take-le}
 use lib.Pow.{pow_mono}
-use lib.IntN.{ℤ, ◌+ℤ◌, ◌-ℤ◌, nat_abs}
+use lib.IntN.{ℤ, pos, ◌+ℤ◌, ◌-ℤ◌, nat_abs}
 use borrow.Rule.Slice.PartMut.{put_mid}
 use Rattle.boolean.specs.Sums.{list_below}
 use Rattle.boolean.specs.Functions.{at, approximation, spectrum}
-use Rattle.boolean.proofs.Lists.{upper_part, length_list_below}
+use Rattle.boolean.proofs.Lists.{list_is, upper_part, length_list_below}
 use Rattle.boolean.proofs.Approximations.{approximation_cong, approximation_le, approximation_low, approximation_high}
 use Rattle.boolean.proofs.Halves as halves
-use Rattle.walsh.specs.Work.{Ready, Halves, Crossed, largest_sum}
+use Rattle.walsh.specs.Work.{Ready, SpectrumOf, Halves, Crossed, largest_sum}
 use Rattle.walsh.specs.Magnitudes.{largest_magnitude}
 use Rattle.walsh.proofs.Crossing.{to_cross, crossed_is, crosses}
 use Rattle.walsh.proofs.Magnitudes.{crossed_largest}
+
+-- integers that are the values of a spectrum are the spectrum
+pub spectrum_is : (n : ℕ) (f : ℕ → ℕ) (values : List ℤ) → SpectrumOf (λ v. v) (pos 0) n f values → values ≡ spectrum n f
+unfolding spectrum
+spectrum_is n f values s = list_is (pos 0) (2 ^ n) (λ w. approximation n f w) values s.long s.entries
 
 -- a table of width n and its array, each to be cut in two halves of width m, at h
 pub record Cut (n m h : ℕ) (table : List ℕ) (out : List ℤ) : Type 0 where
@@ -28,8 +33,11 @@ pub record Cut (n m h : ℕ) (table : List ℕ) (out : List ℤ) : Type 0 where
   pub half : h ≡ 2 ^ m
 
 -- cut in the middle
-pub in_the_middle : (n m : ℕ) (table : List ℕ) → length table ≡ 2 ^ n → n ≡ suc m → length table / 2 ≡ 2 ^ m
+in_the_middle : (n m : ℕ) (table : List ℕ) → length table ≡ 2 ^ n → n ≡ suc m → length table / 2 ≡ 2 ^ m
 in_the_middle n m table size e = halves.half_is m table (size ∙ ap (λ (k : ℕ). 2 ^ k) e)
+
+pub cut_in_the_middle : {n m : ℕ} {table : List ℕ} {out : List ℤ} → Ready n table out → n ≡ suc m → 1 ≤ m → Cut n m (length table / 2) table out
+cut_in_the_middle {n} {m} {table} r e low = record { ready = r; one_less = e; low = low; half = in_the_middle n m table r.read.size e }
 
 module _ {n m h : ℕ} {table : List ℕ} {out : List ℤ} (c : Cut n m h table out) where
   half : h ≡ 2 ^ m

@@ -22,29 +22,24 @@ use Rattle.walsh.specs.Work.{Halves, Crossed, Summable}
 use Rattle.walsh.proofs.Crossing.{to_cross, crossed_is}
 
 -- half of the length
-pub middle : (n : ℕ) (values : List ℤ) → Summable n values → (n ≡ 0 → ⊥) → length values / 2 ≡ 2 ^ (n - 1)
-middle n values s nz =
-    let is_suc : n ≡ suc (n - 1) = omega arith in
-    halves.half_is (n - 1) values (s.size ∙ ap (λ (k : ℕ). 2 ^ k) is_suc)
+pub middle : (n m : ℕ) (values : List ℤ) → Summable n values → n ≡ suc m → length values / 2 ≡ 2 ^ m
+middle n m values s one_less = halves.half_is m values (s.size ∙ ap (λ (k : ℕ). 2 ^ k) one_less)
 
-module _ (n h : ℕ) (values : List ℤ) (s : Summable n values) (nz : n ≡ 0 → ⊥) (half : h ≡ 2 ^ (n - 1)) where
-  is_suc : n ≡ suc (n - 1)
-  is_suc = omega arith
-
+module _ (n m h : ℕ) (values : List ℤ) (s : Summable n values) (one_less : n ≡ suc m) (half : h ≡ 2 ^ m) where
   room : length values ≡ h + h
-  room = s.size ∙ ap (λ (k : ℕ). 2 ^ k) is_suc ∙ omega (arith, half, two-pow-succ (n - 1))
+  room = s.size ∙ ap (λ (k : ℕ). 2 ^ k) one_less ∙ omega (arith, half, two-pow-succ m)
 
-  half_total : 2 ^ (n - 1) * s.bound ≤ 2 ^ 29
+  half_total : 2 ^ m * s.bound ≤ 2 ^ 29
   half_total =
-      le_trans (mul-le-mul_right s.bound (let le : 2 ^ (n - 1) ≤ 2 ^ n = pow_mono {i = n - 1} {j = n} (omega arith) in le)) s.total
+      le_trans (mul-le-mul_right s.bound (let le : 2 ^ m ≤ 2 ^ n = pow_mono {i = m} {j = n} (omega arith) in le)) s.total
 
   abbrev pub lower : ℕ → ℤ
-  lower w = transform (n - 1) (value_at (take h values)) w
+  lower w = transform m (value_at (take h values)) w
 
   abbrev upper : ℕ → ℤ
-  upper w = transform (n - 1) (value_at (drop h values)) w
+  upper w = transform m (value_at (drop h values)) w
 
-  half_summable : (l : List ℤ) → length l ≡ h → ((k : ℕ) → nat_abs (value_at l k) ≤ s.bound) → Summable (n - 1) l
+  half_summable : (l : List ℤ) → length l ≡ h → ((k : ℕ) → nat_abs (value_at l k) ≤ s.bound) → Summable m l
   half_summable l e small = record { few = omega (arith, s.few); size = e ∙ half; bound = s.bound; small = small; total = half_total }
 
   lower_small : (k : ℕ) → nat_abs (value_at (take h values) k) ≤ s.bound
@@ -56,10 +51,10 @@ module _ (n h : ℕ) (values : List ℤ) (s : Summable n values) (nz : n ≡ 0 �
   pub lower_length : h ≡ length (take h values)
   lower_length = sym (length-take-le h values (omega (arith, room)))
 
-  pub lower_summable : Summable (n - 1) (take h values)
+  pub lower_summable : Summable m (take h values)
   lower_summable = half_summable (take h values) (sym lower_length) lower_small
 
-  module _ (l₁ : List ℤ) (e₁ : l₁ ≡ list_below (2 ^ (n - 1)) lower) where
+  module _ (l₁ : List ℤ) (e₁ : l₁ ≡ list_below (2 ^ m) lower) where
     as_lower : l₁ ≡ list_below h lower
     as_lower = e₁ ∙ ap (λ (k : ℕ). list_below k lower) (sym half)
 
@@ -69,20 +64,20 @@ module _ (n h : ℕ) (values : List ℤ) (s : Summable n values) (nz : n ≡ 0 �
     upper_is_kept : take (length after_lower - h) (drop h after_lower) ≡ drop h values
     upper_is_kept = halves.upper_kept h values room lower l₁ as_lower
 
-    pub upper_summable : Summable (n - 1) (take (length after_lower - h) (drop h after_lower))
+    pub upper_summable : Summable m (take (length after_lower - h) (drop h after_lower))
     upper_summable =
-        subst (Summable (n - 1)) (sym upper_is_kept) (half_summable (drop h values) (omega (arith, length-drop h values, room)) upper_small)
+        subst (Summable m) (sym upper_is_kept) (half_summable (drop h values) (omega (arith, length-drop h values, room)) upper_small)
 
-    module _ (l₂ : List ℤ) (e₂ : l₂ ≡ list_below (2 ^ (n - 1)) (λ w. transform (n - 1) (value_at (take (length after_lower - h) (drop h after_lower))) w)) where
+    module _ (l₂ : List ℤ) (e₂ : l₂ ≡ list_below (2 ^ m) (λ w. transform m (value_at (take (length after_lower - h) (drop h after_lower))) w)) where
       as_upper : l₂ ≡ list_below h upper
       as_upper =
-          e₂ ∙ ap₂ (λ (k : ℕ) (l : List ℤ). list_below k (λ w. transform (n - 1) (value_at l) w)) (sym half) upper_is_kept
+          e₂ ∙ ap₂ (λ (k : ℕ) (l : List ℤ). list_below k (λ w. transform m (value_at l) w)) (sym half) upper_is_kept
 
       abbrev pub after_upper : List ℤ
       after_upper = put_mid h (length after_lower - h) after_lower l₂
 
-      small : (F : ℕ → ℤ) → ((k : ℕ) → nat_abs (F k) ≤ s.bound) → (w : ℕ) → nat_abs (transform (n - 1) F w) ≤ 2 ^ 29
-      small F b w = le_trans (transform_bound (n - 1) s.bound F w (λ x l. b x)) half_total
+      small : (F : ℕ → ℤ) → ((k : ℕ) → nat_abs (F k) ≤ s.bound) → (w : ℕ) → nat_abs (transform m F w) ≤ 2 ^ 29
+      small F b w = le_trans (transform_bound m s.bound F w (λ x l. b x)) half_total
 
       pub crossing : Halves (2 ^ 29) h after_upper
       crossing =
@@ -92,20 +87,20 @@ module _ (n h : ℕ) (values : List ℤ) (s : Summable n values) (nz : n ≡ 0 �
       pub same_long : length after_upper ≡ length values
       same_long = halves.length_after_upper h values room lower l₁ as_lower upper l₂ as_upper ∙ sym room
 
-      lower_is : (w : ℕ) → transform (n - 1) (value_at values) w ≡ lower w
-      lower_is w = transform_cong (n - 1) _ _ w (λ x lt. halves.lower_entry (pos 0) h values x (omega (arith, half)))
+      lower_is : (w : ℕ) → transform m (value_at values) w ≡ lower w
+      lower_is w = transform_cong m _ _ w (λ x lt. halves.lower_entry (pos 0) h values x (omega (arith, half)))
 
-      upper_is : (w : ℕ) → transform (n - 1) (λ x. value_at values (2 ^ (n - 1) + x)) w ≡ upper w
-      upper_is w = transform_cong (n - 1) _ _ w (λ x lt. halves.upper_entry (pos 0) h values x (2 ^ (n - 1)) half)
+      upper_is : (w : ℕ) → transform m (λ x. value_at values (2 ^ m + x)) w ≡ upper w
+      upper_is w = transform_cong m _ _ w (λ x lt. halves.upper_entry (pos 0) h values x (2 ^ m) half)
 
       pub right : (new : List ℤ) → length new ≡ length after_upper → Crossed h after_upper new
           → new ≡ list_below (2 ^ n) (λ w. transform n (value_at values) w)
       right new kept crossed =
-          crossed_is h values room lower l₁ as_lower upper l₂ as_upper new kept crossed (λ w. transform (suc (n - 1)) (value_at values) w)
-          (λ k lt. transform_low (n - 1) (value_at values) k (omega (arith, half)) ∙ ap₂ (λ (a b : ℤ). a +ℤ b) (lower_is k) (upper_is k))
-          (λ k lt. ap (λ (j : ℕ). transform (suc (n - 1)) (value_at values) (j + k)) half
-          ∙ transform_high (n - 1) (value_at values) k (omega (arith, half)) ∙ ap₂ (λ (a b : ℤ). a -ℤ b) (lower_is k) (upper_is k))
-          ∙ ap₂ (λ (j k : ℕ). list_below j (λ w. transform k (value_at values) w)) (sym room ∙ s.size) (sym is_suc)
+          crossed_is h values room lower l₁ as_lower upper l₂ as_upper new kept crossed (λ w. transform (suc m) (value_at values) w)
+          (λ k lt. transform_low m (value_at values) k (omega (arith, half)) ∙ ap₂ (λ (a b : ℤ). a +ℤ b) (lower_is k) (upper_is k))
+          (λ k lt. ap (λ (j : ℕ). transform (suc m) (value_at values) (j + k)) half
+          ∙ transform_high m (value_at values) k (omega (arith, half)) ∙ ap₂ (λ (a b : ℤ). a -ℤ b) (lower_is k) (upper_is k))
+          ∙ ap₂ (λ (j k : ℕ). list_below j (λ w. transform k (value_at values) w)) (sym room ∙ s.size) (sym one_less)
 
 -- at width 0 there is one value, and it stays
 pub one_value : (n : ℕ) (values : List ℤ) → Summable n values → n ≡ 0 → values ≡ list_below (2 ^ n) (λ w. transform n (value_at values) w)

@@ -1,6 +1,6 @@
 -- What the functions behind the spectrum calls ask and leave. The sweeps of the crates above ask them too, and meet the same conditions.
-use Rattle.std.specs.Prelude.{ℕ, ◌+◌, ◌-◌, ◌*◌, ◌^◌, ◌≤◌, ◌<◌, ◌≡◌, List, length, set, ℤ, ◌+ℤ◌, ◌-ℤ◌, nat_abs}
-use Rattle.boolean.specs.Functions.{at, value_at}
+use Rattle.std.specs.Prelude.{ℕ, ◌+◌, ◌-◌, ◌*◌, ◌^◌, ◌≤◌, ◌<◌, ◌≡◌, List, length, set, get_or, ℤ, pos, ◌+ℤ◌, ◌-ℤ◌, nat_abs}
+use Rattle.boolean.specs.Functions.{at, value_at, approximation}
 use Rattle.boolean.specs.Sums.{largest_below}
 use Rattle.refusals.specs.Table.{Table}
 
@@ -15,19 +15,32 @@ with_four out to fixed from =
     (to + 3) (value_at fixed (from + 3))
 
 -- an accepted truth table, and an array that is as long
-pub record Ready (n : ℕ) (table : List ℕ) (out : List ℤ) : Type 0 where
+pub record Ready {A : Type 0} (n : ℕ) (table : List ℕ) (out : List A) : Type 0 where
   pub read : Table n table
   pub room : length out ≡ 2 ^ n
 
--- two halves of h numbers, none above a limit: twice the limit fits a word, and so do the sum and the difference of two
-pub record Halves (limit h : ℕ) (values : List ℤ) : Type 0 where
+-- numbers that stand for the spectrum of a function: past the end of a list there is the number zero
+pub record SpectrumOf {A : Type 0} (whole : A → ℤ) (zero : A) (n : ℕ) (f : ℕ → ℕ) (values : List A) : Type 0 where
+  pub long : length values ≡ 2 ^ n
+  pub entries : (w : ℕ) → w < 2 ^ n → whole (get_or values w zero) ≡ approximation n f w
+
+-- two halves of h numbers, none above a limit: twice the limit fits a word, and so do the sum and the difference of two. What a number
+-- stands for is an integer, and past the end there is the number zero.
+pub record HalvesOf {A : Type 0} (whole : A → ℤ) (zero : A) (limit h : ℕ) (values : List A) : Type 0 where
   pub size : length values ≡ h + h
-  pub small : (k : ℕ) → nat_abs (value_at values k) ≤ limit
+  pub small : (k : ℕ) → nat_abs (whole (get_or values k zero)) ≤ limit
 
 -- the sums of the two halves in the lower half, and their differences in the upper half
-pub record Crossed (h : ℕ) (old new : List ℤ) : Type 0 where
-  pub sums : (k : ℕ) → k < h → value_at new k ≡ value_at old k +ℤ value_at old (h + k)
-  pub differences : (k : ℕ) → k < h → value_at new (h + k) ≡ value_at old k -ℤ value_at old (h + k)
+pub record CrossedOf {A : Type 0} (whole : A → ℤ) (zero : A) (h : ℕ) (old new : List A) : Type 0 where
+  pub sums : (k : ℕ) → k < h → whole (get_or new k zero) ≡ whole (get_or old k zero) +ℤ whole (get_or old (h + k) zero)
+  pub differences : (k : ℕ) → k < h → whole (get_or new (h + k) zero) ≡ whole (get_or old k zero) -ℤ whole (get_or old (h + k) zero)
+
+-- both, of integers
+abbrev pub Halves : (limit h : ℕ) (values : List ℤ) → Type 0
+Halves = HalvesOf (λ v. v) (pos 0)
+
+abbrev pub Crossed : (h : ℕ) (old new : List ℤ) → Type 0
+Crossed = CrossedOf (λ v. v) (pos 0)
 
 -- the largest sum of the magnitudes of two numbers at the same place of the two halves
 abbrev pub largest_sum : (h : ℕ) (values : List ℤ) → ℕ

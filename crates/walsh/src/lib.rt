@@ -2,8 +2,10 @@
 // Walsh value.
 #![tactic(auto)]
 
+mod blocks;
 mod fixed;
 mod narrow;
+mod values;
 
 ghost use Rattle.std.specs.Prelude.{◌≡◌, [], ℕ, ◌+◌, ◌*◌, ◌/◌, ◌^◌, ◌≤◌, ◌<◌, leb, eqb, pos, ◌-ℤ◌, nat_abs, length};
 ghost use Rattle.boolean.specs.Bits.{dot};
@@ -13,10 +15,12 @@ ghost use Rattle.boolean.specs.Functions as functions;
 ghost use Rattle.refusals.specs.Table.{first, Wrote, said_written, Table};
 ghost use Rattle.walsh.specs.Calls.{inverse_lengths, function_check, SpectrumCalled, InverseCalled};
 ghost use Rattle.walsh.specs.FixedTable.{function_numbered, Spectra};
-ghost use Rattle.walsh.specs.Work.{four_values, with_four, Ready, Halves, Crossed, Summable, Invertible};
+ghost use Rattle.walsh.specs.Work.{four_values, with_four, Ready, Summable, Invertible};
 ghost use Rattle.walsh.specs.Magnitudes.{largest_magnitude, FirstOfMagnitude};
 
+use blocks::{Summed, Twice, Two};
 use refusals::Refusal;
+use values::{butterfly, by_definition};
 
 // Four truth values from one place on, each in a byte of its own. The compiler reads them at once.
 fn four_bytes(table: &[u8], at: usize) -> u64
@@ -42,6 +46,8 @@ fn number(table: &[u8]) -> usize
 
 // Four entries of the fixed table go to four places of the array. All are read before any is written, so that the machine can move them at
 // once: the sums that follow read them together, and would wait for four single writes.
+// kept: one generic function of this and `narrow::copy_eight` misses the bar of speed: a loop of eight turns took 2.7 times as long in
+// `linear::nonlinearity` of eight inputs (it writes each value before it reads the next), and `copy_from_slice` before the loop 1.6 times.
 fn copy_four(fixed: &[i16; 2048], from: usize, out: &mut [i32], to: usize)
     requires { (from + 4 ≤ 2048) × (to + 4 ≤ length out.old) }
     ensures { out.new ≡ with_four out.old to fixed.now from }
@@ -67,49 +73,18 @@ fn by_table(fixed: &[i16; 2048], table: &[u8], out: &mut [i32])
 }
 
 // One spectrum value by its definition: the number of inputs where the table equals w·x, less half of all inputs.
-fn value(table: &[u8], w: u32) -> i32
+fn value(table: &[u8], w: u32) -> i16
     requires { length table.now ≤ 256 }
     ensures { result ≡ pos (count_below (length table.now) (λ x. eqb (at table.now x) (dot w x)))
         -ℤ pos (length table.now / 2) }
 {
-    let size = table.len() as u32;
-    let mut count: u32 = 0;
-    let mut x: u32 = 0;
-    while x < size {
-        if table[x as usize] as u32 == boolean::dot(w, x) {
+    let mut count: usize = 0;
+    for (x, bit) in table.iter().enumerate() {
+        if *bit as u32 == boolean::dot(w, x as u32) {
             count += 1;
         }
-        x += 1;
     }
-    count as i32 - (size / 2) as i32
-}
-
-// Widths 1 and 2: the definition.
-fn by_definition(n: u32, table: &[u8], out: &mut [i32])
-    requires { Ready n table.now out.old }
-    ensures { out.new ≡ functions.spectrum n (at table.now) }
-{
-    let size = table.len() as u32;
-    let mut w: u32 = 0;
-    while w < size {
-        out[w as usize] = value(table, w);
-        w += 1;
-    }
-}
-
-// Sums go to the lower half and differences to the upper.
-fn butterfly(values: &mut [i32], h: usize)
-    requires { Halves (2 ^ 29) h values.old }
-    ensures { Crossed h values.old values.new }
-{
-    let mut k: usize = 0;
-    while k < h {
-        let a = values[k];
-        let b = values[h + k];
-        values[k] = a + b;
-        values[h + k] = a - b;
-        k += 1;
-    }
+    count as i16 - (table.len() / 2) as i16
 }
 
 // The spectrum of an accepted table, with the fixed table lent. Above width 3 the table and the array are cut in halves, and the transform
@@ -152,58 +127,17 @@ pub fn spectra() -> [i16; 2048]
     fixed::spectra()
 }
 
-// The transform of two values: their sum and their difference.
-fn transform_of_two(values: &mut [i32])
-    requires { Summable 1 values.old }
-    ensures { values.new ≡ list_below (2 ^ 1) (λ w. functions.transform 1 (value_at values.old) w) }
-{
-    butterfly(values, 1);
-}
-
-// The transform of four values: that of each half, and then the halves crossed.
-fn transform_of_four(values: &mut [i32])
-    requires { Summable 2 values.old }
-    ensures { values.new ≡ list_below (2 ^ 2) (λ w. functions.transform 2 (value_at values.old) w) }
-{
-    transform_of_two(&mut values[..2]);
-    transform_of_two(&mut values[2..]);
-    butterfly(values, 2);
-}
-
-// The transform of eight values: that of each half, and then the halves crossed.
-fn transform_of_eight(values: &mut [i32])
-    requires { Summable 3 values.old }
-    ensures { values.new ≡ list_below (2 ^ 3) (λ w. functions.transform 3 (value_at values.old) w) }
-{
-    transform_of_four(&mut values[..4]);
-    transform_of_four(&mut values[4..]);
-    butterfly(values, 4);
-}
-
-// The transform of sixteen values, in place. The lengths are written out, so that all of it compiles to sums and differences, with neither
-// a loop nor a call.
-fn transform_of_sixteen(values: &mut [i32])
-    requires { Summable 4 values.old }
-    ensures { values.new ≡ list_below (2 ^ 4) (λ w. functions.transform 4 (value_at values.old) w) }
-{
-    transform_of_eight(&mut values[..8]);
-    transform_of_eight(&mut values[8..]);
-    butterfly(values, 8);
-}
-
 // The transform of sixteen values or fewer, by the one that is written out for that number; one value is its own transform.
 fn transform_at_once(n: u32, values: &mut [i32])
     requires { (n < 5) × Summable n values.old }
     ensures { values.new ≡ list_below (2 ^ n) (λ w. functions.transform n (value_at values.old) w) }
 {
-    if n == 4 {
-        transform_of_sixteen(values);
-    } else if n == 3 {
-        transform_of_eight(values);
-    } else if n == 2 {
-        transform_of_four(values);
-    } else if n == 1 {
-        transform_of_two(values);
+    match n {
+        4 => Twice::<Twice<Twice<Two>>>::transform(values),
+        3 => Twice::<Twice<Two>>::transform(values),
+        2 => Twice::<Two>::transform(values),
+        1 => Two::transform(values),
+        _ => (),
     }
 }
 
@@ -290,14 +224,12 @@ pub fn largest_magnitude(values: &[i32]) -> u32
 pub fn first_place(values: &[i32], size: u32) -> usize
     ensures { FirstOfMagnitude values.now size result }
 {
-    let mut w = 0;
-    while w < values.len() {
-        if boolean::magnitude(values[w]) == size {
+    for (w, v) in values.iter().enumerate() {
+        if boolean::magnitude(*v) == size {
             return w;
         }
-        w += 1;
     }
-    w
+    values.len()
 }
 
 // The values, copied.

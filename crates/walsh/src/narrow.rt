@@ -1,17 +1,28 @@
 // The spectrum in 16-bit values, which hold every one of them, and its largest magnitude: the sweeps take it of each component, and the
 // machine adds eight such values at once.
-ghost use Rattle.std.specs.Prelude.{◌≡◌, ◌+◌, ◌^◌, ◌≤◌, length, nat_abs};
+ghost use Rattle.std.specs.Prelude.{◌≡◌, suc, ◌+◌, ◌^◌, ◌≤◌, length, nat_abs};
 ghost use Rattle.boolean.specs.Sums.{AnyContent};
 ghost use Rattle.boolean.specs.Functions.{at};
 ghost use Rattle.boolean.specs.Functions as functions;
 ghost use Rattle.walsh.specs.FixedTable.{Spectra};
 ghost use Rattle.walsh.specs.Magnitudes.{largest_magnitude};
-ghost use Rattle.walsh.specs.Work.{with_four, Ready, Halves, Crossed, largest_sum};
+ghost use Rattle.walsh.specs.Work.{with_four, Ready, Halves, largest_sum};
 
-use crate::{number, value};
+use crate::blocks::{Block, Eight, Spectral, Twice};
+use crate::number;
+use crate::values::by_definition;
+
+type Sixteen = Twice<Eight>;
+
+type ThirtyTwo = Twice<Sixteen>;
+
+type SixtyFour = Twice<ThirtyTwo>;
+
+type OneTwentyEight = Twice<SixtyFour>;
 
 // Eight entries of the fixed table go to an array of eight. All are read before any is written, so that the machine can move them at
 // once.
+// kept: the reason stands at `copy_four`.
 fn copy_eight(fixed: &[i16; 2048], from: usize, out: &mut [i16])
     requires { (from + 8 ≤ 2048) × (length out.old ≡ 8) }
     ensures { out.new
@@ -37,115 +48,26 @@ fn copy_eight(fixed: &[i16; 2048], from: usize, out: &mut [i16])
 }
 
 // Three inputs: the fixed table is read.
-fn eight(fixed: &[i16; 2048], table: &[u8], out: &mut [i16])
+pub fn eight(fixed: &[i16; 2048], table: &[u8], out: &mut [i16])
     requires { Ready 3 table.now out.old × Spectra fixed.now }
     ensures { out.new ≡ functions.spectrum 3 (at table.now) }
 {
     copy_eight(fixed, number(table) * 8, out);
 }
 
-// Widths 1 and 2: the definition.
-fn by_definition(n: u32, table: &[u8], out: &mut [i16])
-    requires { Ready n table.now out.old }
-    ensures { out.new ≡ functions.spectrum n (at table.now) }
-{
-    let size = table.len() as u32;
-    let mut w: u32 = 0;
-    while w < size {
-        out[w as usize] = value(table, w) as i16;
-        w += 1;
-    }
-}
-
-// Sums go to the lower half and differences to the upper.
-fn butterfly(values: &mut [i16], h: usize)
-    requires { Halves (2 ^ 13) h values.old }
-    ensures { Crossed h values.old values.new }
-{
-    let mut k: usize = 0;
-    while k < h {
-        let a = values[k];
-        let b = values[h + k];
-        values[k] = a + b;
-        values[h + k] = a - b;
-        k += 1;
-    }
-}
-
-// Four inputs: the spectrum of each half, and then the halves crossed. The lengths are written out, here and in the next three, so that all
-// of it compiles to sums and differences of the machine's registers, with neither a loop nor a call.
-fn sixteen(fixed: &[i16; 2048], table: &[u8], out: &mut [i16])
-    requires { Ready 4 table.now out.old × Spectra fixed.now }
-    ensures { out.new ≡ functions.spectrum 4 (at table.now) }
-{
-    eight(fixed, &table[..8], &mut out[..8]);
-    eight(fixed, &table[8..], &mut out[8..]);
-    butterfly(out, 8);
-}
-
-// Five inputs.
-fn thirty_two(fixed: &[i16; 2048], table: &[u8], out: &mut [i16])
-    requires { Ready 5 table.now out.old × Spectra fixed.now }
-    ensures { out.new ≡ functions.spectrum 5 (at table.now) }
-{
-    sixteen(fixed, &table[..16], &mut out[..16]);
-    sixteen(fixed, &table[16..], &mut out[16..]);
-    butterfly(out, 16);
-}
-
-// Six inputs.
-fn sixty_four(fixed: &[i16; 2048], table: &[u8], out: &mut [i16])
-    requires { Ready 6 table.now out.old × Spectra fixed.now }
-    ensures { out.new ≡ functions.spectrum 6 (at table.now) }
-{
-    thirty_two(fixed, &table[..32], &mut out[..32]);
-    thirty_two(fixed, &table[32..], &mut out[32..]);
-    butterfly(out, 32);
-}
-
-// Seven inputs.
-fn one_twenty_eight(fixed: &[i16; 2048], table: &[u8], out: &mut [i16])
-    requires { Ready 7 table.now out.old × Spectra fixed.now }
-    ensures { out.new ≡ functions.spectrum 7 (at table.now) }
-{
-    sixty_four(fixed, &table[..64], &mut out[..64]);
-    sixty_four(fixed, &table[64..], &mut out[64..]);
-    butterfly(out, 64);
-}
-
-// Up to seven inputs, by the one that is written out for their number.
-fn at_once(fixed: &[i16; 2048], n: u32, table: &[u8], out: &mut [i16])
-    requires { (n ≤ 7) × Ready n table.now out.old × Spectra fixed.now }
-    ensures { out.new ≡ functions.spectrum n (at table.now) }
-{
-    if n == 7 {
-        one_twenty_eight(fixed, table, out);
-    } else if n == 6 {
-        sixty_four(fixed, table, out);
-    } else if n == 5 {
-        thirty_two(fixed, table, out);
-    } else if n == 4 {
-        sixteen(fixed, table, out);
-    } else if n == 3 {
-        eight(fixed, table, out);
-    } else {
-        by_definition(n, table, out);
-    }
-}
-
-// The spectrum of an accepted table. Above width 7 the table and the array are cut in halves, and the transform calls itself on each; the
-// width falls by one at each cut.
+// The spectrum of an accepted table, by the block of its width.
 pub fn descend(fixed: &[i16; 2048], n: u32, table: &[u8], out: &mut [i16])
     requires { Ready n table.now out.old × Spectra fixed.now }
     ensures { out.new ≡ functions.spectrum n (at table.now) }
 {
-    if n <= 7 {
-        at_once(fixed, n, table, out);
-    } else {
-        let h = table.len() / 2;
-        descend(fixed, n - 1, &table[..h], &mut out[..h]);
-        descend(fixed, n - 1, &table[h..], &mut out[h..]);
-        butterfly(out, h);
+    match n {
+        8 => Twice::<OneTwentyEight>::spectrum(fixed, table, out),
+        7 => OneTwentyEight::spectrum(fixed, table, out),
+        6 => SixtyFour::spectrum(fixed, table, out),
+        5 => ThirtyTwo::spectrum(fixed, table, out),
+        4 => Sixteen::spectrum(fixed, table, out),
+        3 => Eight::spectrum(fixed, table, out),
+        _ => by_definition(n, table, out),
     }
 }
 
@@ -189,38 +111,17 @@ fn largest_sum(values: &[i16], h: usize) -> u16
     largest
 }
 
-// Six inputs: the spectra of the two halves, A and B, and the largest |A| + |B|. It is the largest magnitude of the whole spectrum, which
-// is A + B and A − B, and is not made.
-fn peak_of_sixty_four(fixed: &[i16; 2048], table: &[u8], work: &mut [i16]) -> u16
-    requires { Ready 6 table.now work.old × Spectra fixed.now }
-    ensures { (result ≡ largest_magnitude (functions.spectrum 6 (at table.now)))
+// One input more than those of B: the spectra of the two halves, A and B, and the largest |A| + |B|. It is the largest magnitude of the
+// whole spectrum, which is A + B and A − B, and is not made.
+fn peak_of_halves<B: Spectral>(fixed: &[i16; 2048], table: &[u8], work: &mut [i16]) -> u16
+    requires { Ready (suc B.inputs) table.now work.old × Spectra fixed.now }
+    ensures { (result ≡ largest_magnitude (functions.spectrum (suc B.inputs) (at table.now)))
         × AnyContent work.old work.new }
 {
-    thirty_two(fixed, &table[..32], &mut work[..32]);
-    thirty_two(fixed, &table[32..], &mut work[32..]);
-    largest_sum(work, 32)
-}
-
-// Seven inputs.
-fn peak_of_one_twenty_eight(fixed: &[i16; 2048], table: &[u8], work: &mut [i16]) -> u16
-    requires { Ready 7 table.now work.old × Spectra fixed.now }
-    ensures { (result ≡ largest_magnitude (functions.spectrum 7 (at table.now)))
-        × AnyContent work.old work.new }
-{
-    sixty_four(fixed, &table[..64], &mut work[..64]);
-    sixty_four(fixed, &table[64..], &mut work[64..]);
-    largest_sum(work, 64)
-}
-
-// Eight inputs.
-fn peak_of_two_fifty_six(fixed: &[i16; 2048], table: &[u8], work: &mut [i16]) -> u16
-    requires { Ready 8 table.now work.old × Spectra fixed.now }
-    ensures { (result ≡ largest_magnitude (functions.spectrum 8 (at table.now)))
-        × AnyContent work.old work.new }
-{
-    one_twenty_eight(fixed, &table[..128], &mut work[..128]);
-    one_twenty_eight(fixed, &table[128..], &mut work[128..]);
-    largest_sum(work, 128)
+    let h = B::length();
+    B::spectrum(fixed, &table[..h], &mut work[..h]);
+    B::spectrum(fixed, &table[h..], &mut work[h..]);
+    largest_sum(work, h)
 }
 
 // The largest magnitude in the spectrum of an accepted table. Up to five inputs, where little time goes, the whole spectrum is made.
@@ -229,14 +130,15 @@ pub fn peak(fixed: &[i16; 2048], n: u32, table: &[u8], work: &mut [i16]) -> u16
     ensures { (result ≡ largest_magnitude (functions.spectrum n (at table.now)))
         × AnyContent work.old work.new }
 {
-    if n == 8 {
-        peak_of_two_fifty_six(fixed, table, work)
-    } else if n == 7 {
-        peak_of_one_twenty_eight(fixed, table, work)
-    } else if n == 6 {
-        peak_of_sixty_four(fixed, table, work)
-    } else {
-        at_once(fixed, n, table, work);
-        largest_magnitude(work)
+    match n {
+        8 => peak_of_halves::<OneTwentyEight>(fixed, table, work),
+        7 => peak_of_halves::<SixtyFour>(fixed, table, work),
+        6 => peak_of_halves::<ThirtyTwo>(fixed, table, work),
+        5 => peak_of_halves::<Sixteen>(fixed, table, work),
+        4 => peak_of_halves::<Eight>(fixed, table, work),
+        _ => {
+            descend(fixed, n, table, work);
+            largest_magnitude(work)
+        }
     }
 }
