@@ -1,7 +1,7 @@
 -- The call's arguments and its answer.
 use Rattle.std.specs.Prelude.{ℕ, ◌≡◌, List, [], ◌∷◌, ◌++◌, take, drop}
 use Rattle.refusals.specs.Table.{Reply, figures, refusal, number}
-use Rattle.rounds.specs.Round.{Summand, summand_of, first_given}
+use Rattle.rounds.specs.Round.{Summand, summand_of}
 use Rattle.rounds.specs.declared.Widths.{Widths}
 use Rattle.rounds.specs.declared.LeastSum.{LeastSum}
 use Rattle.rounds.specs.declared.LeastSum.TheVariants.{Reached, Declined}
@@ -11,10 +11,6 @@ abbrev pub summands_of : (w : Widths) (rows1 rows2 rows3 rows4 : List ℕ) → L
 summands_of w rows1 rows2 rows3 rows4 =
     summand_of w.n1 w.m1 rows1 ∷ summand_of w.n2 w.m2 rows2 ∷ summand_of w.n3 w.m3 rows3 ∷ summand_of w.n4 w.m4 rows4 ∷
     []
-
--- those of them that are read. What was handed over for a box past the number given is in no reply: `past_not_read` (proofs/Answers).
-abbrev pub boxes_read : (count : ℕ) (w : Widths) (rows1 rows2 rows3 rows4 : List ℕ) → List Summand
-boxes_read count w rows1 rows2 rows3 rows4 = first_given count (summands_of w rows1 rows2 rows3 rows4)
 
 -- what the answer says, for this count of boxes: the figure, c, a mask for each box and b, or the number of the refusal
 abbrev pub said_least_sum : (count : ℕ) (answer : LeastSum) → Reply
