@@ -39,12 +39,14 @@ pub record Stepped (s : Lent) (c : ℕ) (steps bits : List ℕ) : Type 0 where
   pub steps_are : take (s.m * length s.rows.now) steps ≡ step_tables s.m s.rows.now
   pub table_is : take (length s.rows.now) bits ≡ list_below (length s.rows.now) (λ x. component s.rows.now c x)
 
+-- its arrays as the code has them
 abbrev pub WorkStepped : (s : Lent) (c : ℕ) (w : Work) → Type 0
 WorkStepped s c w = Stepped s c w.steps w.bits
 
 -- the arrays of each box. What would stand past the ends is named, and nothing is said of it.
 abbrev pub AllStepped : (boxes : List Lent) (c : ℕ) (work : List Work) → Type 0
-AllStepped boxes c work = (k : ℕ) (s : Lent) (w : Work) → k < length boxes → WorkStepped (slice_index_or boxes k s) c (slice_index_or work k w)
+AllStepped boxes c work =
+    (k : ℕ) (s : Lent) (w : Work) → k < length boxes → WorkStepped (slice_index_or boxes k s) c (slice_index_or work k w)
 
 -- the best component so far, with its product, as a candidate
 abbrev pub found_candidate : Found → Candidate
