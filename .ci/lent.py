@@ -20,8 +20,7 @@ import sources
 # by nobody after the sweep (DECISIONS 108). No other array may be left out, and none of these may stay here once a contract names it.
 WORKED_IN = {
     ("walsh::peak", "work"), ("linear::next_peak", "work"), ("rounds::product_at", "out"),
-    *(("rounds::sweep", name) for name in ("bits1", "bits2", "bits3", "bits4", "out")),
-    *(("rounds::start_and_sweep", f"{name}{k}") for name in ("steps", "bits") for k in range(1, 5)),
+    ("rounds::size_in", "out"), ("rounds::sweep", "work"), ("rounds::sweep", "out"),
 }
 
 

@@ -1,3 +1,5 @@
+pub mod Slices
+pub mod Cut
 pub mod Parts
 pub mod Firsts
 pub mod Masks

@@ -3,8 +3,8 @@
 use Rattle.std.specs.Prelude.{Ok}
 use mathlib.Core.Path.{◌≡◌, refl, sym, ap, ◌∙◌}
 use mathlib.Core.Logic.{◌↔◌}
-use mathlib.Core.List.{List, [], ◌∷◌, Memᴰ}
-use Prim.Native.Nat.{ℕ, ◌<◌, ◌≤◌}
+use mathlib.Core.List.{List, [], Memᴰ}
+use Prim.Native.Nat.{ℕ, ◌≤◌}
 use native.Mathlib.Omega.{arith}
 use Rattle.boolean.specs.Sums.{each}
 use Rattle.boolean.specs.Functions.{mask_rank}
@@ -15,7 +15,7 @@ use Rattle.masks.specs.Parts.{components_between, shown_best, best_between}
 use Rattle.masks.specs.Statements.{MaskBetween}
 use Rattle.masks.proofs.Gathering.{part_lies}
 use Rattle.masks.proofs.Parts.{in_between, mem_between, ascending_between, none_between}
-use Rattle.rounds.specs.Round.{Summand, inputs_of, first_given, outputs_of, sum_pairs_of, sum_pairs, sum_nonlinearity, sum_checks, sum_between, sum_part_checks, sum_between_reply}
+use Rattle.rounds.specs.Round.{Summand, inputs_of, first_given, outputs_of, sum_pairs_of, sum_pairs, sum_checks, sum_between, sum_part_checks, sum_between_reply}
 use Rattle.rounds.specs.Statements.{Lex, SumBetweenReported}
 use Rattle.rounds.proofs.Decided.{by_rank, decided_of}
 use Rattle.rounds.proofs.Entry.{some_inputs}

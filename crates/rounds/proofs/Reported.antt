@@ -21,7 +21,7 @@ use Rattle.rounds.specs.Work.{IsBox}
 use Rattle.rounds.specs.Statements.{MasksFit, Lex, SumReported}
 use Rattle.rounds.proofs.Decided.{by_rank, decided_of}
 use Rattle.rounds.proofs.Boxes.{as_box}
-use Rattle.rounds.proofs.Entry.{boxes, accepted_round, limit_low, limit_high, some_outputs, some_inputs}
+use Rattle.rounds.proofs.Entry.{accepted_round, number_high, limit_low, limit_high, some_outputs, some_inputs}
 
 -- "The desk must be able to rely on it as the least count of differing inputs over all 2^N inputs, though nobody can run that count." "The witness is c,
 -- one mask for each box from box 1 on, and b, the first in that order." "It is 2^(N−1) less half the largest, over combinations within the limit i, of
@@ -100,7 +100,7 @@ fits_length (s ∷ ss) [] h = absurd h
 fits_length (s ∷ ss) (w ∷ ws) h = ap suc (fits_length ss ws h.1)
 
 pub figures_number : (count : ℕ) (s1 s2 s3 s4 : Summand) (i : ℕ) → first (sum_checks count (s1 ∷ s2 ∷ s3 ∷ s4 ∷ []) i) ≡ (Ok tt)
-    → let ss = boxes count s1 s2 s3 s4 in length (shown (sum_nonlinearity ss (components (outputs_of ss) i))) ≡ 3 + count
+    → let ss = first_given count (s1 ∷ s2 ∷ s3 ∷ s4 ∷ []) in length (shown (sum_nonlinearity ss (components (outputs_of ss) i))) ≡ 3 + count
 figures_number count s1 s2 s3 s4 i accepted =
     let handed : List Summand = s1 ∷ s2 ∷ s3 ∷ s4 ∷ [] in
     let ss : List Summand = first_given count handed in
@@ -114,7 +114,7 @@ figures_number count s1 s2 s3 s4 i accepted =
       length-append r.ws (r.b ∷ []),
       fits_length ss r.ws r.member.fits,
       length-take count handed,
-      (accepted_round count handed i accepted).count_high,
+      number_high count handed i accepted,
     )
   where
     given_figures : Reply → ℕ

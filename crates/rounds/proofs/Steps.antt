@@ -12,6 +12,7 @@ use Rattle.masks.specs.Masks.{PowerAdded}
 use Rattle.masks.specs.Steps.{step_tables, Steps, Stepping}
 use Rattle.masks.proofs.Boxes.{box_some}
 use Rattle.rounds.specs.Work.{Stepped}
+use Rattle.rounds.specs.declared.Summand.{Summand as Lent}
 
 -- what was written at the beginning of an array
 begins : (k : ℕ) (written rest whole : List ℕ) → written ≡ whole → length whole ≡ k → take k (written ++ rest) ≡ whole
@@ -29,11 +30,11 @@ module _ (m : ℕ) (rows : List ℕ) where
   table_begins c written rest e = begins (length rows) written rest _ e (length_list_below (length rows) (component rows c))
 
 -- what the step to the component of the next mask asks
-pub stepping : {n m : ℕ} {rows : List ℕ} → Box n m rows → {last c : ℕ} {steps table : List ℕ} → Stepped m rows last steps table → PowerAdded last c → c < 2 ^ m
-    → Stepping m rows (take (m * length rows) steps) last c (take (length rows) table)
-stepping b s raised high = record {
-  tables = record { m_high = b.m_high; few = b.small; some = box_some b; steps_are = s.steps_are };
+pub stepping : (s : Lent) → Box s.n s.m s.rows.now → {last c : ℕ} {steps bits : List ℕ} → Stepped s last steps bits → PowerAdded last c → c < 2 ^ s.m
+    → Stepping s.m s.rows.now (take (s.m * length s.rows.now) steps) last c (take (length s.rows.now) bits)
+stepping s b p raised high = record {
+  tables = record { m_high = b.m_high; few = b.small; some = box_some b; steps_are = p.steps_are };
   raised = raised;
   c_high = high;
-  table_is = s.table_is;
+  table_is = p.table_is;
 }

@@ -1,18 +1,15 @@
--- The product and the witness of up to four boxes, the loop over the components, and the answer that they make. Assumes nothing.
+-- The loop over the components, and the answer that the component it finds makes. Assumes nothing.
 use mathlib.Core.Path.{◌≡◌, refl, sym, ap, ap₂, ◌∙◌, subst}
 use mathlib.Core.Bool.{true, false}
 use mathlib.Core.Logic.{inr}
 use mathlib.Core.List.Memᴰ
 use mathlib.Core.List.{List, [], ◌∷◌, ◌++◌, Memᴰ}
-use Prim.Native.Nat.{ℕ, zero, suc, ◌+◌, ◌*◌, ◌-◌, ◌/◌, ◌<◌, ◌≤◌, ◌^◌}
-use native.Mathlib.Nat.{mul-le-mul, mul-one}
+use Prim.Native.Nat.{ℕ, ◌+◌, ◌-◌, ◌/◌, ◌<◌, ◌≤◌, ◌^◌}
 use native.Mathlib.Omega.{arith}
 use borrow.Author.Tests.{lt-ltb}
-use lib.Bits.{bit_xor, xor_zero_r}
-use lib.Dec.{ltb}
-use lib.ListN.{take, drop}
+use lib.ListN.{length, take}
 use Rattle.boolean.specs.Sums.{each}
-use Rattle.boolean.specs.Functions.{at, component, walsh, sign_bit}
+use Rattle.boolean.specs.Functions.{at}
 use Rattle.boolean.specs.Selection.{Candidate, best, higher, first_largest, ranked}
 use Rattle.boolean.proofs.FirstLargest.{best_changed}
 use Rattle.boolean.proofs.Selection.{best_takes, best_keeps, largest, by_largest}
@@ -24,95 +21,13 @@ use Rattle.masks.proofs.Parts.{visit_part}
 use Rattle.masks.proofs.Sweeps.{ChoosingFrom, choosing_next, choosing_ends}
 use Rattle.linear.specs.Lent.{PartSwept}
 use Rattle.rounds.specs.Round.{Summand, inputs_of, sum_nonlinearity}
-use Rattle.rounds.specs.Spectra.{peak, product, peak_places, sign_at, by_spectra, larger, factored, largest_product}
-use Rattle.rounds.specs.Work.{size_if, found_candidate, TopOf, TopIf, masks_of, WitnessOf}
-use Rattle.rounds.specs.declared.Top.{Top}
+use Rattle.rounds.specs.Spectra.{product, peak_places, by_spectra, larger, factored, largest_product}
+use Rattle.rounds.specs.Work.{found_candidate, WitnessOf}
 use Rattle.rounds.specs.declared.Witness.{Witness}
 use Rattle.rounds.specs.declared.Found.{Found}
 use Rattle.rounds.proofs.Peaks.{peaks_positive}
 use Rattle.rounds.proofs.Spectra.{places_peaks, product_is, spectra_half}
 use Rattle.rounds.proofs.Theorems.{by_spectra_lem, product_reached}
-use Rattle.rounds.proofs.Entry.{boxes}
-
--- ---- the product of up to four boxes
-module _ (s1 s2 s3 s4 : Summand) (c : ℕ) where
-  four_sizes : (count : ℕ) → 1 ≤ count → count ≤ 4
-      → (peak s1 c).figure * (size_if (ltb 1 count) s2 c * (size_if (ltb 2 count) s3 c * size_if (ltb 3 count) s4 c)) ≡ product (boxes count s1 s2 s3 s4) c
-  unfolding product
-  four_sizes zero l h = absurd (omega arith)
-  four_sizes (suc zero) l h = refl
-  four_sizes (suc (suc zero)) l h = refl
-  four_sizes (suc (suc (suc zero))) l h = refl
-  four_sizes (suc (suc (suc (suc zero)))) l h =
-      ap (λ (z : ℕ). (peak s1 c).figure * ((peak s2 c).figure * ((peak s3 c).figure * z))) (sym (mul-one (peak s4 c).figure))
-  four_sizes (suc (suc (suc (suc (suc k))))) l h = absurd (omega arith)
-
-  pub product_of : (count : ℕ) → 1 ≤ count → count ≤ 4 → {a1 a2 a3 a4 : ℕ}
-      → a1 ≡ (peak s1 c).figure → a2 ≡ size_if (ltb 1 count) s2 c → a3 ≡ size_if (ltb 2 count) s3 c → a4 ≡ size_if (ltb 3 count) s4 c
-      → a1 * (a2 * (a3 * a4)) ≡ product (boxes count s1 s2 s3 s4) c
-  product_of count l h p1 p2 p3 p4 =
-      ap₂ (λ (x y : ℕ). x * y) p1 (ap₂ (λ (x y : ℕ). x * y) p2 (ap₂ (λ (x y : ℕ). x * y) p3 p4)) ∙ four_sizes count l h
-
--- the factors are small
-pub small_2 : {a b : ℕ} → a ≤ 256 → b ≤ 256 → a * b ≤ 65536
-small_2 p q = mul-le-mul p q
-
-pub small_3 : {a b : ℕ} → a ≤ 256 → b ≤ 65536 → a * b ≤ 16777216
-small_3 p q = mul-le-mul p q
-
-pub small_4 : {a b : ℕ} → a ≤ 256 → b ≤ 16777216 → a * b ≤ 4294967296
-small_4 p q = mul-le-mul p q
-
--- ---- the witness of up to four boxes
-record Placed (ss : List Summand) (c : ℕ) (ws : List ℕ) (sign : ℕ) : Type 0 where
-  masks_are : ws ≡ peak_places ss c
-  sign_is : sign ≡ sign_at ss c (peak_places ss c)
-
-none : (c : ℕ) → Placed [] c [] 0
-unfolding peak_places sign_at
-none c = record { masks_are = refl; sign_is = refl }
-
-next : (s : Summand) (ss : List Summand) (c : ℕ) (t : Top) (ws : List ℕ) (sign : ℕ) → TopOf s c t → Placed ss c ws sign
-    → Placed (s ∷ ss) c (t.mask ∷ ws) (bit_xor t.sign sign)
-unfolding peak_places sign_at
-next s ss c t ws sign h p = record {
-  masks_are = ap₂ (λ (a : ℕ) (l : List ℕ). a ∷ l) h.mask_is p.masks_are;
-  sign_is =
-      ap₂ bit_xor (h.sign_is ∙ ap (λ (w : ℕ). sign_bit (walsh s.inputs (component s.rows c) w)) h.mask_is) p.sign_is;
-}
-
--- signs of 0
-zeros : {a b c : ℕ} → a ≡ 0 → b ≡ 0 → c ≡ 0 → bit_xor a (bit_xor b c) ≡ 0
-zeros p q r = rw (p, q, r)
-
-module _ (s1 s2 s3 s4 : Summand) (c : ℕ) (t1 t2 t3 t4 : Top) where
-  abbrev pub four_masks : Witness
-  four_masks = record {
-    w1 = t1.mask;
-    w2 = t2.mask;
-    w3 = t3.mask;
-    w4 = t4.mask;
-    b = bit_xor t1.sign (bit_xor t2.sign (bit_xor t3.sign t4.sign));
-  }
-
-  is_witness : (ss : List Summand) (count : ℕ) {sign : ℕ} → four_masks.b ≡ sign → Placed ss c (take count (masks_of four_masks)) sign
-      → drop count (masks_of four_masks) ≡ drop count (0 ∷ 0 ∷ 0 ∷ 0 ∷ []) → WitnessOf ss count c four_masks
-  is_witness ss count q h z = record { masks_are = h.masks_are; past = z; sign_is = q ∙ h.sign_is }
-
-  pub witness_is : (count : ℕ) → 1 ≤ count → count ≤ 4
-      → TopOf s1 c t1 → TopIf (ltb 1 count) s2 c t2 → TopIf (ltb 2 count) s3 c t3 → TopIf (ltb 3 count) s4 c t4 → WitnessOf (boxes count s1 s2 s3 s4) count c four_masks
-  witness_is zero l h p1 p2 p3 p4 = absurd (omega arith)
-  witness_is (suc zero) l h p1 p2 p3 p4 =
-      is_witness (s1 ∷ []) 1 (ap (bit_xor t1.sign) (zeros p2.1 p3.1 p4.1)) (next s1 [] c t1 [] 0 p1 (none c)) (rw (p2.0, p3.0, p4.0))
-  witness_is (suc (suc zero)) l h p1 p2 p3 p4 =
-      is_witness (s1 ∷ s2 ∷ []) 2 (rw (p3.1, p4.1)) (next s1 _ c t1 _ _ p1 (next s2 [] c t2 [] 0 p2 (none c))) (rw (p3.0, p4.0))
-  witness_is (suc (suc (suc zero))) l h p1 p2 p3 p4 =
-      is_witness (s1 ∷ s2 ∷ s3 ∷ []) 3 (rw p4.1) (next s1 _ c t1 _ _ p1 (next s2 _ c t2 _ _ p2 (next s3 [] c t3 [] 0 p3 (none c)))) (rw p4.0)
-  witness_is (suc (suc (suc (suc zero)))) l h p1 p2 p3 p4 =
-      is_witness (s1 ∷ s2 ∷ s3 ∷ s4 ∷ []) 4
-      (ap (λ (z : ℕ). bit_xor t1.sign (bit_xor t2.sign (bit_xor t3.sign z))) (sym (xor_zero_r t4.sign)))
-      (next s1 _ c t1 _ _ p1 (next s2 _ c t2 _ _ p2 (next s3 _ c t3 _ _ p3 (next s4 [] c t4 [] 0 p4 (none c))))) refl
-  witness_is (suc (suc (suc (suc (suc k))))) l h p1 p2 p3 p4 = absurd (omega arith)
 
 -- ---- the loop over the components
 -- what no component has: the product 0
@@ -180,8 +95,8 @@ module _ {ss : List Summand} {cs : List ℕ} {found : Found} (h : Chosen ss cs f
   size_within = omega (arith, h.size_is, spectra_half ss some found.c)
 
   -- what the answer shows
-  pub answer_is : {count figure : ℕ} {t : Witness} → figure ≡ 2 ^ (inputs_of ss - 1) - found.size / 2 → WitnessOf ss count found.c t
-      → record { figure = figure; witness = found.c ∷ (take count (masks_of t) ++ (t.b ∷ [])) } ≡ sum_nonlinearity ss cs
+  pub answer_is : {figure : ℕ} {t : Witness} → figure ≡ 2 ^ (inputs_of ss - 1) - found.size / 2 → WitnessOf ss found.c t
+      → record { figure = figure; witness = found.c ∷ (take (length ss) t.masks ++ (t.b ∷ [])) } ≡ sum_nonlinearity ss cs
   answer_is e w =
       ap₂ (λ (k : ℕ) (l : List ℕ). record { figure = k; witness = found.c ∷ l }) (e ∙ ap (λ (k : ℕ). 2 ^ (inputs_of ss - 1) - k / 2) h.size_is)
       (ap₂ (λ (l : List ℕ) (b : ℕ). l ++ (b ∷ [])) w.masks_are w.sign_is)

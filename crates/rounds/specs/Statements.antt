@@ -1,6 +1,6 @@
 -- What the theorems beside the contract say; no contract needs it.
 use Rattle.std.specs.Prelude.{ℕ, ◌+◌, ◌*◌, ◌^◌, ◌≤◌, ◌<◌, ◌≡◌, ◌⊎◌, List, [], ◌∷◌, ◌++◌, ℤ, pos, ◌*ℤ◌}
-use Rattle.boolean.specs.Functions.{at, component, walsh, MaskWithin, MaskBefore}
+use Rattle.boolean.specs.Functions.{component, walsh, MaskWithin, MaskBefore}
 use Rattle.refusals.specs.Table.{Reply, figures}
 use Rattle.masks.specs.Statements.{Cut, MaskBetween}
 use Rattle.linear.specs.Nonlinearity.{nonlinearity}

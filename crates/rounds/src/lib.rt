@@ -2,22 +2,22 @@
 // of its figures only the spectrum of a component and the largest magnitude there.
 #![tactic(auto)]
 
-ghost use Rattle.std.specs.Prelude.{◌≡◌, true, ◌&&◌, ltb, ◌+◌, ◌-◌, ◌/◌, ◌^◌, ◌≤◌, ◌<◌, length};
-ghost use Rattle.boolean.specs.Sums.{each, list_below, AnyContent};
+ghost use Rattle.std.specs.Prelude.{◌≡◌, eqb, ◌-◌, ◌/◌, ◌^◌, ◌≤◌, ◌<◌, length, sum_by};
+ghost use Rattle.std.specs.List.{list_all};
+ghost use Rattle.boolean.specs.Sums.{each};
 ghost use Rattle.boolean.specs.Functions.{component, spectrum};
 ghost use Rattle.refusals.specs.Table.{first, Box};
 ghost use Rattle.walsh.specs.FixedTable.{Spectra};
 ghost use Rattle.masks.specs.Parts.{components_between};
 ghost use Rattle.masks.specs.Masks.{PowerAdded};
-ghost use Rattle.masks.specs.Steps.{Stepping};
 ghost use Rattle.masks.specs.Work.{preferred};
-ghost use Rattle.linear.specs.Lent.{PairsSwept, PartSwept};
-ghost use Rattle.rounds.specs.Round.{summand_of, summand_checks, sum_checks, sum_reply, sum_part_checks, sum_between_reply};
+ghost use Rattle.linear.specs.Lent.{PartSwept};
+ghost use Rattle.rounds.specs.Round.{summand_of, outputs_of, summand_checks, sum_checks, sum_reply, sum_part_checks, sum_between_reply};
 ghost use Rattle.rounds.specs.Spectra.{peak, product, largest_product};
-ghost use Rattle.rounds.specs.Calls.{summands_of, boxes_read, SumAnswer};
+ghost use Rattle.rounds.specs.Calls.{summands_of, SumAnswer};
 ghost use Rattle.rounds.specs.Parts.{PartSumAnswer, SumsMerged};
-ghost use Rattle.rounds.specs.Work.{checks_if, same_if, inputs_if, size_if, Round, Stepped, AllStepped};
-ghost use Rattle.rounds.specs.Work.{found_candidate, Highest, TopOf, TopIf, WitnessOf, NearestOf};
+ghost use Rattle.rounds.specs.Work.{as_summand, summed, IsBox, Round, Stepped, AllStepped};
+ghost use Rattle.rounds.specs.Work.{found_candidate, Highest, TopOf, WitnessOf, NearestOf};
 
 use refusals::Refusal;
 
@@ -34,6 +34,21 @@ pub struct Widths {
     pub m4: u32,
 }
 
+// One box of the sum: its numbers of inputs and outputs, and its rows.
+#[derive(Clone, Copy)]
+struct Summand<'a> {
+    n: u32,
+    m: u32,
+    rows: &'a [u32],
+}
+
+// The arrays of one box: its step tables, and the truth table of a component, each in as much of its array as the box needs.
+#[derive(Clone, Copy)]
+struct Work {
+    steps: [u8; 8192],
+    bits: [u8; 256],
+}
+
 // The first mask of the largest magnitude of a spectrum, and the sign bit of the value there.
 #[derive(Clone, Copy)]
 struct Top {
@@ -44,10 +59,7 @@ struct Top {
 // A mask for each box, 0 for a box past the number given, and b.
 #[derive(Clone, Copy)]
 struct Witness {
-    w1: u32,
-    w2: u32,
-    w3: u32,
-    w4: u32,
+    masks: [u32; 4],
     b: u32,
 }
 
@@ -63,135 +75,74 @@ struct Found {
 pub struct NearestSum {
     pub figure: u32,
     pub c: u32,
-    pub w1: u32,
-    pub w2: u32,
-    pub w3: u32,
-    pub w4: u32,
+    pub masks: [u32; 4],
     pub b: u32,
 }
 
-// The step tables of a box that the sum has, and the truth table of its component c, each in as much of its array as the box needs.
-fn start_if(used: bool, n: u32, m: u32, rows: &[u32], c: u32, steps: &mut [u8], table: &mut [u8])
-    requires { (used ≡ true → Box n m rows.now) × (length steps.old ≡ 8192) × (length table.old ≡ 256) }
-    ensures { (used ≡ true → Stepped m rows.now c steps.new table.new)
-        × AnyContent steps.old steps.new × AnyContent table.old table.new }
+// Writes the step tables of a box, and the truth table of its component c.
+fn start_box(s: &Summand, c: u32, work: &mut Work)
+    requires { IsBox (as_summand s.now) }
+    ensures { Stepped s.now c work.new.steps work.new.bits }
 {
-    if used {
-        let size = rows.len();
-        let total = m as usize * size;
-        masks::write_steps(m, rows, &mut steps[..total]);
-        masks::write_component(rows, c, &mut table[..size]);
+    let size = s.rows.len();
+    let total = s.m as usize * size;
+    masks::write_steps(s.m, s.rows, &mut work.steps[..total]);
+    masks::write_component(s.rows, c, &mut work.bits[..size]);
+}
+
+// The same for each box.
+fn start_boxes(boxes: &[Summand], c: u32, work: &mut [Work; 4])
+    requires { Round (summed boxes.now) }
+    ensures { AllStepped boxes.now c work.new }
+{
+    for (k, s) in boxes.iter().enumerate() {
+        start_box(s, c, &mut work[k]);
     }
 }
 
 // The largest magnitude of a Walsh value of component c of a box, twice that in its spectrum, from the truth table of component `last`, the
-// mask before it, which becomes that of c. The fixed table, the step tables and an array to work in are lent.
+// mask before it, which becomes that of c. The fixed table and an array to work in are lent.
 fn size_in(
     fixed: &[i16; 2048],
-    n: u32,
-    m: u32,
-    rows: &[u32],
-    steps: &[u8],
+    s: &Summand,
+    steps: &[u8; 8192],
+    bits: &mut [u8; 256],
     last: u64,
     c: u64,
-    table: &mut [u8],
-    work: &mut [i16],
+    out: &mut [i16; 256],
 ) -> u32
-    requires { PairsSwept n m rows.now table.old work.old × Spectra fixed.now
-        × Stepping m rows.now steps.now last c table.old }
-    ensures { (result ≡ (peak (summand_of n m rows.now) c).figure) × (result ≤ 256)
-        × (table.new ≡ list_below (length rows.now) (λ x. component rows.now c x))
-        × AnyContent work.old work.new }
+    requires { IsBox (as_summand s.now) × (c < 2 ^ s.now.m) × Stepped s.now last steps.now bits.old × PowerAdded last c
+        × Spectra fixed.now }
+    ensures { (result ≡ (peak (as_summand s.now) c).figure) × (result ≤ 256) × Stepped s.now c steps.now bits.new }
 {
-    let largest = linear::next_peak(fixed, n, m, rows, steps, last, c, table, work);
+    let size = s.rows.len();
+    let total = s.m as usize * size;
+    let steps = &steps[..total];
+    let bits = &mut bits[..size];
+    let out = &mut out[..size];
+    let largest = linear::next_peak(fixed, s.n, s.m, s.rows, steps, last, c, bits, out);
     2 * largest
-}
-
-// The same for a box that the sum has, in as much of the arrays as it needs, and else a factor of 1.
-fn size_if(
-    used: bool,
-    fixed: &[i16; 2048],
-    n: u32,
-    m: u32,
-    rows: &[u32],
-    steps: &[u8],
-    last: u64,
-    c: u64,
-    table: &mut [u8],
-    work: &mut [i16],
-) -> u32
-    requires { (used ≡ true → Box n m rows.now × (c < 2 ^ m)) × (used ≡ true → Stepped m rows.now last steps.now table.old)
-        × PowerAdded last c × Spectra fixed.now
-        × (length steps.now ≡ 8192) × (length table.old ≡ 256) × (length work.old ≡ 256) }
-    ensures { (result ≡ size_if used (summand_of n m rows.now) c) × (result ≤ 256)
-        × (used ≡ true → Stepped m rows.now c steps.now table.new)
-        × AnyContent table.old table.new × AnyContent work.old work.new }
-{
-    if used {
-        let size = rows.len();
-        let total = m as usize * size;
-        size_in(
-            fixed,
-            n,
-            m,
-            rows,
-            &steps[..total],
-            last,
-            c,
-            &mut table[..size],
-            &mut work[..size],
-        )
-    } else {
-        1
-    }
 }
 
 // The product of the boxes' largest magnitudes at component c, from the truth tables of component `last`, the mask before it.
 fn product_at(
     fixed: &[i16; 2048],
-    count: u32,
-    widths: Widths,
-    rows1: &[u32],
-    rows2: &[u32],
-    rows3: &[u32],
-    rows4: &[u32],
-    steps1: &[u8; 8192],
-    steps2: &[u8; 8192],
-    steps3: &[u8; 8192],
-    steps4: &[u8; 8192],
+    boxes: &[Summand],
+    work: &mut [Work; 4],
     last: u64,
     c: u64,
-    bits1: &mut [u8; 256],
-    bits2: &mut [u8; 256],
-    bits3: &mut [u8; 256],
-    bits4: &mut [u8; 256],
     out: &mut [i16; 256],
 ) -> u64
-    requires { Round count widths.m1 (boxes_read count widths rows1.now rows2.now rows3.now rows4.now)
-        × AllStepped count widths rows1.now rows2.now rows3.now rows4.now last
-        steps1.now steps2.now steps3.now steps4.now bits1.old bits2.old bits3.old bits4.old
-        × PowerAdded last c × (c < 2 ^ widths.m1) × Spectra fixed.now }
-    ensures { (result
-        ≡ product (boxes_read count widths rows1.now rows2.now rows3.now rows4.now) c)
-        × AllStepped count widths rows1.now rows2.now rows3.now rows4.now c
-        steps1.now steps2.now steps3.now steps4.now
-        bits1.new bits2.new bits3.new bits4.new }
+    requires { Round (summed boxes.now) × AllStepped boxes.now last work.old × PowerAdded last c
+        × (c < 2 ^ outputs_of (summed boxes.now)) × Spectra fixed.now }
+    ensures { (result ≡ product (summed boxes.now) c) × AllStepped boxes.now c work.new }
 {
-    let n1 = widths.n1;
-    let n2 = widths.n2;
-    let n3 = widths.n3;
-    let n4 = widths.n4;
-    let m1 = widths.m1;
-    let m2 = widths.m2;
-    let m3 = widths.m3;
-    let m4 = widths.m4;
-    let size1 = size_if(true, fixed, n1, m1, rows1, steps1, last, c, bits1, out);
-    let size2 = size_if(1 < count, fixed, n2, m2, rows2, steps2, last, c, bits2, out);
-    let size3 = size_if(2 < count, fixed, n3, m3, rows3, steps3, last, c, bits3, out);
-    let size4 = size_if(3 < count, fixed, n4, m4, rows4, steps4, last, c, bits4, out);
-    let behind = size3 as u64 * size4 as u64;
-    let others = size2 as u64 * behind;
-    size1 as u64 * others
+    let mut size = 1u64;
+    for (k, s) in boxes.iter().enumerate() {
+        let w = &mut work[k];
+        size *= size_in(fixed, s, &w.steps, &mut w.bits, last, c, out) as u64;
+    }
+    size
 }
 
 // Whether component c, with its product, comes before the best so far: by a larger product, or by the same product and fewer outputs.
@@ -211,32 +162,17 @@ fn is_preferred(found: Found, size: u64, c: u32) -> bool
 // largest product is kept, fewest outputs first. It starts from the truth tables of the number before `first`.
 fn sweep(
     fixed: &[i16; 2048],
-    count: u32,
-    widths: Widths,
-    rows1: &[u32],
-    rows2: &[u32],
-    rows3: &[u32],
-    rows4: &[u32],
+    boxes: &[Summand],
     i: u32,
     first: u32,
     last: u32,
-    steps1: &[u8; 8192],
-    steps2: &[u8; 8192],
-    steps3: &[u8; 8192],
-    steps4: &[u8; 8192],
-    bits1: &mut [u8; 256],
-    bits2: &mut [u8; 256],
-    bits3: &mut [u8; 256],
-    bits4: &mut [u8; 256],
+    work: &mut [Work; 4],
     out: &mut [i16; 256],
 ) -> Found
-    requires { Round count widths.m1 (boxes_read count widths rows1.now rows2.now rows3.now rows4.now) × (1 ≤ i)
-        × PartSwept widths.m1 i first last × Spectra fixed.now
-        × AllStepped count widths rows1.now rows2.now rows3.now rows4.now (first - 1)
-        steps1.now steps2.now steps3.now steps4.now bits1.old bits2.old bits3.old bits4.old }
+    requires { Round (summed boxes.now) × (1 ≤ i) × PartSwept (outputs_of (summed boxes.now)) i first last
+        × Spectra fixed.now × AllStepped boxes.now (first - 1) work.old }
     ensures { found_candidate result
-        ≡ largest_product (boxes_read count widths rows1.now rows2.now rows3.now rows4.now)
-        (components_between widths.m1 i first last) }
+        ≡ largest_product (summed boxes.now) (components_between (outputs_of (summed boxes.now)) i first last) }
 {
     let end = last as u64 + 1;
     let mut found = Found { size: 0, c: 0 };
@@ -244,10 +180,7 @@ fn sweep(
     let mut before = c - 1;
     while c < end {
         let mask = c as u32;
-        let size = product_at(
-            fixed, count, widths, rows1, rows2, rows3, rows4, steps1, steps2, steps3, steps4,
-            before, c, bits1, bits2, bits3, bits4, out,
-        );
+        let size = product_at(fixed, boxes, work, before, c, out);
         if is_preferred(found, size, mask) {
             found = Found { size, c: mask };
         }
@@ -257,90 +190,20 @@ fn sweep(
     found
 }
 
-// The start and the sweep, in arrays that are lent, with the fixed table, written once for all components.
-fn start_and_sweep(
-    count: u32,
-    widths: Widths,
-    rows1: &[u32],
-    rows2: &[u32],
-    rows3: &[u32],
-    rows4: &[u32],
-    i: u32,
-    first: u32,
-    last: u32,
-    steps1: &mut [u8; 8192],
-    steps2: &mut [u8; 8192],
-    steps3: &mut [u8; 8192],
-    steps4: &mut [u8; 8192],
-    bits1: &mut [u8; 256],
-    bits2: &mut [u8; 256],
-    bits3: &mut [u8; 256],
-    bits4: &mut [u8; 256],
-) -> Found
-    requires { Round count widths.m1 (boxes_read count widths rows1.now rows2.now rows3.now rows4.now) × (1 ≤ i)
-        × PartSwept widths.m1 i first last }
+// The sweep with its arrays, started at the number before `first`, and with the fixed table, written once for all components.
+fn largest_product(boxes: &[Summand], i: u32, first: u32, last: u32) -> Found
+    requires { Round (summed boxes.now) × (1 ≤ i) × PartSwept (outputs_of (summed boxes.now)) i first last }
     ensures { found_candidate result
-        ≡ largest_product (boxes_read count widths rows1.now rows2.now rows3.now rows4.now)
-        (components_between widths.m1 i first last) }
+        ≡ largest_product (summed boxes.now) (components_between (outputs_of (summed boxes.now)) i first last) }
 {
     let fixed = walsh::spectra();
     let mut out = [0i16; 256];
-    let prior = first - 1;
-    start_if(true, widths.n1, widths.m1, rows1, prior, steps1, bits1);
-    start_if(1 < count, widths.n2, widths.m2, rows2, prior, steps2, bits2);
-    start_if(2 < count, widths.n3, widths.m3, rows3, prior, steps3, bits3);
-    start_if(3 < count, widths.n4, widths.m4, rows4, prior, steps4, bits4);
-    sweep(
-        &fixed, count, widths, rows1, rows2, rows3, rows4, i, first, last, steps1, steps2, steps3,
-        steps4, bits1, bits2, bits3, bits4, &mut out,
-    )
-}
-
-// The sweep with its arrays.
-fn largest_product(
-    count: u32,
-    widths: Widths,
-    rows1: &[u32],
-    rows2: &[u32],
-    rows3: &[u32],
-    rows4: &[u32],
-    i: u32,
-    first: u32,
-    last: u32,
-) -> Found
-    requires { Round count widths.m1 (boxes_read count widths rows1.now rows2.now rows3.now rows4.now) × (1 ≤ i)
-        × PartSwept widths.m1 i first last }
-    ensures { found_candidate result
-        ≡ largest_product (boxes_read count widths rows1.now rows2.now rows3.now rows4.now)
-        (components_between widths.m1 i first last) }
-{
-    let mut steps1 = [0u8; 8192];
-    let mut steps2 = [0u8; 8192];
-    let mut steps3 = [0u8; 8192];
-    let mut steps4 = [0u8; 8192];
-    let mut bits1 = [0u8; 256];
-    let mut bits2 = [0u8; 256];
-    let mut bits3 = [0u8; 256];
-    let mut bits4 = [0u8; 256];
-    start_and_sweep(
-        count,
-        widths,
-        rows1,
-        rows2,
-        rows3,
-        rows4,
-        i,
-        first,
-        last,
-        &mut steps1,
-        &mut steps2,
-        &mut steps3,
-        &mut steps4,
-        &mut bits1,
-        &mut bits2,
-        &mut bits3,
-        &mut bits4,
-    )
+    let mut work = [Work {
+        steps: [0; 8192],
+        bits: [0; 256],
+    }; 4];
+    start_boxes(boxes, first - 1, &mut work);
+    sweep(&fixed, boxes, i, first, last, &mut work, &mut out)
 }
 
 // The first place of the largest magnitude of some values, and the sign there.
@@ -357,113 +220,84 @@ fn highest(values: &[i32]) -> Top
     }
 }
 
-// The first mask of the largest magnitude in the spectrum of component c of a box, and the sign there; an array for the spectrum is lent.
-fn top_in(n: u32, m: u32, rows: &[u32], c: u32, array: &mut [i32]) -> Top
-    requires { Box n m rows.now × (1 ≤ c) × (c < 2 ^ m) × (length array.old ≡ 2 ^ n) }
-    ensures reply { TopOf (summand_of n m rows.now) c result }
-    ensures content { array.new ≡ spectrum n (component rows.now c) }
+// The first mask of the largest magnitude in the spectrum of component c of a box, and the sign there.
+fn top_of(s: &Summand, c: u32) -> Top
+    requires { IsBox (as_summand s.now) × (1 ≤ c) × (c < 2 ^ s.now.m) }
+    ensures { TopOf (as_summand s.now) c result }
 {
-    let _ = linear::spectrum_of_component(n, m, rows, c, array);
-    highest(array)
-}
-
-// The same for a box that the sum has, and else the mask 0, with no sign.
-fn top_if(used: bool, n: u32, m: u32, rows: &[u32], c: u32) -> Top
-    requires { (used ≡ true → Box n m rows.now × (c < 2 ^ m)) × (1 ≤ c) }
-    ensures { TopIf used (summand_of n m rows.now) c result }
-{
-    if used {
-        let mut values = [0i32; 256];
-        let size = rows.len();
-        top_in(n, m, rows, c, &mut values[..size])
-    } else {
-        Top { mask: 0, sign: 0 }
-    }
+    let mut array = [0i32; 256];
+    let values = &mut array[..s.rows.len()];
+    linear::spectrum_of_component(s.n, s.m, s.rows, c, values);
+    highest(values)
 }
 
 // The witness of component c: each box's own first mask, and the sign of the product of the values there.
-fn witness_at(
-    count: u32,
-    widths: Widths,
-    rows1: &[u32],
-    rows2: &[u32],
-    rows3: &[u32],
-    rows4: &[u32],
-    c: u32,
-) -> Witness
-    requires { Round count widths.m1 (boxes_read count widths rows1.now rows2.now rows3.now rows4.now)
-        × (1 ≤ c) × (c < 2 ^ widths.m1) }
-    ensures { WitnessOf
-        (boxes_read count widths rows1.now rows2.now rows3.now rows4.now) count c result }
+fn witness_at(boxes: &[Summand], c: u32) -> Witness
+    requires { Round (summed boxes.now) × (1 ≤ c) × (c < 2 ^ outputs_of (summed boxes.now)) }
+    ensures { WitnessOf (summed boxes.now) c result }
 {
-    let t1 = top_if(true, widths.n1, widths.m1, rows1, c);
-    let t2 = top_if(1 < count, widths.n2, widths.m2, rows2, c);
-    let t3 = top_if(2 < count, widths.n3, widths.m3, rows3, c);
-    let t4 = top_if(3 < count, widths.n4, widths.m4, rows4, c);
-    Witness {
-        w1: t1.mask,
-        w2: t2.mask,
-        w3: t3.mask,
-        w4: t4.mask,
-        b: t1.sign ^ (t2.sign ^ (t3.sign ^ t4.sign)),
+    let mut masks = [0; 4];
+    let mut b = 0;
+    for (k, s) in boxes.iter().enumerate() {
+        let top = top_of(s, c);
+        masks[k] = top.mask;
+        b ^= top.sign;
     }
-}
-
-// The checks of a box that the sum has.
-#[tactic(auto, unfolding(refusals::specs::Table::first, crate::specs::Work::checks_if))]
-fn check_if(used: bool, n: u32, m: u32, rows: &[u32]) -> Result<(), Refusal>
-    ensures { result ≡ first (checks_if used (summand_of n m rows.now)) }
-{
-    if used {
-        refusals::check_box(n, m, rows)
-    } else {
-        Ok(())
-    }
+    Witness { masks, b }
 }
 
 // Each box's own checks, in box order.
-#[tactic(auto, unfolding(refusals::specs::Table::first, boolean::specs::Sums::each))]
-fn check_boxes(
-    count: u32,
+fn check_boxes(boxes: &[Summand]) -> Result<(), Refusal>
+    ensures { result ≡ first (each (summed boxes.now) summand_checks) }
+{
+    for s in boxes {
+        refusals::check_box(s.n, s.m, s.rows)?;
+    }
+    Ok(())
+}
+
+// Whether all boxes have m outputs.
+fn same_outputs(boxes: &[Summand], m: u32) -> bool
+    ensures { result ≡ list_all (λ s. eqb s.m m) boxes.now }
+{
+    boxes.iter().all(|s| s.m == m)
+}
+
+// The four boxes that are handed over.
+fn handed<'a>(
     widths: Widths,
-    rows1: &[u32],
-    rows2: &[u32],
-    rows3: &[u32],
-    rows4: &[u32],
-) -> Result<(), Refusal>
-    requires { (1 ≤ count) × (count ≤ 4) }
-    ensures { result
-        ≡ first (each (boxes_read count widths rows1.now rows2.now rows3.now rows4.now)
-        summand_checks) }
+    rows1: &'a [u32],
+    rows2: &'a [u32],
+    rows3: &'a [u32],
+    rows4: &'a [u32],
+) -> [Summand<'a>; 4]
+    ensures { summed result ≡ summands_of widths rows1.now rows2.now rows3.now rows4.now }
 {
-    refusals::check_box(widths.n1, widths.m1, rows1)?;
-    check_if(1 < count, widths.n2, widths.m2, rows2)?;
-    check_if(2 < count, widths.n3, widths.m3, rows3)?;
-    check_if(3 < count, widths.n4, widths.m4, rows4)
-}
-
-// Whether a box that the sum has has as many outputs as box 1.
-fn same_if(used: bool, a: u32, b: u32) -> bool
-    ensures { result ≡ same_if used a b }
-{
-    if used { b == a } else { true }
-}
-
-// Whether all boxes have as many outputs as box 1.
-fn same_outputs(count: u32, m1: u32, m2: u32, m3: u32, m4: u32) -> bool
-    ensures { result ≡ (same_if (ltb 1 count) m1 m2 && (same_if (ltb 2 count) m1 m3 && same_if (ltb 3 count) m1 m4)) }
-{
-    if !same_if(1 < count, m1, m2) {
-        return false;
-    }
-    if !same_if(2 < count, m1, m3) {
-        return false;
-    }
-    same_if(3 < count, m1, m4)
+    [
+        Summand {
+            n: widths.n1,
+            m: widths.m1,
+            rows: rows1,
+        },
+        Summand {
+            n: widths.n2,
+            m: widths.m2,
+            rows: rows2,
+        },
+        Summand {
+            n: widths.n3,
+            m: widths.m3,
+            rows: rows3,
+        },
+        Summand {
+            n: widths.n4,
+            m: widths.m4,
+            rows: rows4,
+        },
+    ]
 }
 
 // The checks of the call: the number of boxes, each box's own, the output widths, the limit.
-#[tactic(auto, unfolding(refusals::specs::Table::first, crate::specs::Round::sum_checks))]
 pub fn check_sum(
     count: u32,
     widths: Widths,
@@ -479,8 +313,10 @@ pub fn check_sum(
     if !refusals::in_range(1, 4, count) {
         return Err(Refusal::BoxCount);
     }
-    check_boxes(count, widths, rows1, rows2, rows3, rows4)?;
-    if !same_outputs(count, widths.m1, widths.m2, widths.m3, widths.m4) {
+    let all = handed(widths, rows1, rows2, rows3, rows4);
+    let boxes = &all[..count as usize];
+    check_boxes(boxes)?;
+    if !same_outputs(boxes, widths.m1) {
         return Err(Refusal::OutputWidths);
     }
     if !refusals::in_range(1, widths.m1, i) {
@@ -489,12 +325,12 @@ pub fn check_sum(
     Ok(())
 }
 
-// The inputs of a box that the sum has.
-fn inputs_if(used: bool, n: u32) -> u32
-    requires { used ≡ true → n ≤ 8 }
-    ensures { (result ≡ inputs_if used n) × (result ≤ 8) }
+// The number of all boxes' inputs.
+fn all_inputs(boxes: &[Summand]) -> u32
+    requires { sum_by (λ s. s.n) boxes.now < 2 ^ 32 }
+    ensures { result ≡ sum_by (λ s. s.n) boxes.now }
 {
-    if used { n } else { 0 }
+    boxes.iter().map(|s| s.n).sum()
 }
 
 // 2^(N − 1) less half the product.
@@ -507,36 +343,17 @@ fn figure_of(inputs: u32, size: u64) -> u32
 }
 
 // The first nearest pair of the sum over the components within the limit from `first`, which is one of them, to `last`.
-fn least_between(
-    count: u32,
-    widths: Widths,
-    rows1: &[u32],
-    rows2: &[u32],
-    rows3: &[u32],
-    rows4: &[u32],
-    i: u32,
-    first: u32,
-    last: u32,
-) -> NearestSum
-    requires { Round count widths.m1 (boxes_read count widths rows1.now rows2.now rows3.now rows4.now) × (1 ≤ i)
-        × PartSwept widths.m1 i first last }
-    ensures { NearestOf
-        (boxes_read count widths rows1.now rows2.now rows3.now rows4.now)
-        (components_between widths.m1 i first last) count result }
+fn least_between(boxes: &[Summand], i: u32, first: u32, last: u32) -> NearestSum
+    requires { Round (summed boxes.now) × (1 ≤ i) × PartSwept (outputs_of (summed boxes.now)) i first last }
+    ensures { NearestOf (summed boxes.now) (components_between (outputs_of (summed boxes.now)) i first last) result }
 {
-    let found = largest_product(count, widths, rows1, rows2, rows3, rows4, i, first, last);
-    let c = found.c;
-    let witness = witness_at(count, widths, rows1, rows2, rows3, rows4, c);
-    let behind = inputs_if(2 < count, widths.n3) + inputs_if(3 < count, widths.n4);
-    let others = inputs_if(1 < count, widths.n2) + behind;
+    let found = largest_product(boxes, i, first, last);
+    let Witness { masks, b } = witness_at(boxes, found.c);
     NearestSum {
-        figure: figure_of(widths.n1 + others, found.size),
-        c,
-        w1: witness.w1,
-        w2: witness.w2,
-        w3: witness.w3,
-        w4: witness.w4,
-        b: witness.b,
+        figure: figure_of(all_inputs(boxes), found.size),
+        c: found.c,
+        masks,
+        b,
     }
 }
 
@@ -555,13 +372,14 @@ pub fn sum_nonlinearity(
         (sum_reply count (summands_of widths rows1.now rows2.now rows3.now rows4.now) i) }
 {
     check_sum(count, widths, rows1, rows2, rows3, rows4, i)?;
+    let all = handed(widths, rows1, rows2, rows3, rows4);
     let masks = (boolean::power_of_two(widths.m1) - 1) as u32;
-    let nearest = least_between(count, widths, rows1, rows2, rows3, rows4, i, 1, masks);
+    let nearest = least_between(&all[..count as usize], i, 1, masks);
+    let [w1, w2, w3, w4] = nearest.masks;
     Ok(nearest)
 }
 
 // The checks of a part: the plain call's, then that it lies from 1 to 2^m − 1.
-#[tactic(auto, unfolding(refusals::specs::Table::first, crate::specs::Round::sum_part_checks))]
 pub fn check_sum_part(
     count: u32,
     widths: Widths,
@@ -609,17 +427,9 @@ pub fn sum_nonlinearity_between(
     if (last as u64) < start {
         return Ok(None);
     }
-    let nearest = least_between(
-        count,
-        widths,
-        rows1,
-        rows2,
-        rows3,
-        rows4,
-        i,
-        start as u32,
-        last,
-    );
+    let all = handed(widths, rows1, rows2, rows3, rows4);
+    let nearest = least_between(&all[..count as usize], i, start as u32, last);
+    let [w1, w2, w3, w4] = nearest.masks;
     Ok(Some(nearest))
 }
 

@@ -1,37 +1,11 @@
--- `rounds::check_boxes` meets its contract: the boxes' checks one after the other.
-use mathlib.Core.Path.{◌≡◌, sym, ap, ◌∙◌}
-use mathlib.Core.List.{List, ◌++◌}
-use lib.Dec.{ltb}
-use Rattle.boolean.specs.Sums.{each}
-use Rattle.refusals.specs.Table.{Check, first}
-use Rattle.rounds.specs.Round.{summand_checks}
-use Rattle.rounds.specs.Work.{checks_if}
-use Rattle.rounds.proofs.Entry.{boxes, checks_are, refused_1, refused_2, refused_3, found_4, Handed, box1, box2, box3, box4}
-use Rattle.std.specs.Prelude.{Ok}
+use Rattle.rounds.proofs.Slices.{checks_refuse, checks_pass, checks_end}
 use Rattle.rounds.proofs.check_boxes.Goals as goal
 
--- the four boxes, and their lists of checks
-abbrev lent : tie.Start → Handed
-lent c = let a = c.args in record { widths = a.widths; rows1 = a.rows1.now; rows2 = a.rows2.now; rows3 = a.rows3.now; rows4 = a.rows4.now }
+pub returns-in-Refused : goal.returns-in-Refused
+returns-in-Refused c = checks_refuse c.args.boxes.now c.loop-s.s-index _ c.loop-s-test.true c.loop-s.invariant c.in-Refused.e c.in-Refused.ensures
 
-abbrev checks1 : tie.Start → List Check
-checks1 c = summand_checks (box1 (lent c))
+pub loop-s-preserved : goal.loop-s-preserved
+loop-s-preserved c = checks_pass c.args.boxes.now c.loop-s.s-index _ c.loop-s-test.true c.loop-s.invariant c.in_default.ensures
 
-abbrev checks2 : tie.Start → List Check
-checks2 c = checks_if (ltb 1 c.args.count) (box2 (lent c))
-
-abbrev checks3 : tie.Start → List Check
-checks3 c = checks_if (ltb 2 c.args.count) (box3 (lent c))
-
-abbrev checks4 : tie.Start → List Check
-checks4 c = checks_if (ltb 3 c.args.count) (box4 (lent c))
-
-pub returns-in_err-check_box : goal.returns-in_err-check_box
-returns-in_err-check_box c =
-    refused_1 (checks1 c) (checks2 c) (checks3 c) (checks4 c) (sym c.in_err-check_box.ensures) ∙ (ap first (checks_are (box1 (lent c)) (box2 (lent c)) (box3 (lent c)) (box4 (lent c)) c.args.count c.requires.0 c.requires.1))
-
-pub returns-in_err-check_if : goal.returns-in_err-check_if
-returns-in_err-check_if c = ?
-
-pub returns-in_err-check_if-2 : goal.returns-in_err-check_if-2
-returns-in_err-check_if-2 c = ?
+pub returns : goal.returns
+returns c = checks_end c.args.boxes.now c.loop-s.s-index c.loop-s-test.false c.loop-s.invariant

@@ -1,48 +1,24 @@
--- `rounds::check_sum_part` meets its contract: the lines of the plain call's checks, then the two ends of the part.
-use mathlib.Core.Path.{◌≡◌, ◌∙◌, sym, ap}
-use mathlib.Core.List.{List}
-use Prim.Native.Nat.{ℕ, ◌-◌, ◌^◌}
-use native.Mathlib.Omega.{arith}
-use lib.Pow.{pow_pos}
-use Rattle.refusals.specs.Table.{first, in_range}
-use Rattle.refusals.proofs.Checks.{fails, holds, found_before, found_after, skip, stop, end}
-use Rattle.rounds.specs.Round.{Summand, first_given, outputs_of, sum_checks, sum_part_checks}
-use Rattle.rounds.proofs.Entry.{accepted_round, first_outputs, outputs_are, Handed, all_four, box1, box2, box3, box4}
-use Rattle.std.specs.Prelude.{Ok}
+use Rattle.std.proofs.Common.{sym, ◌∙◌}
+use Rattle.rounds.proofs.Entry.{first_outputs}
+use Rattle.rounds.proofs.Cut.{sum_refused, low_fails, high_fails, part_passes}
 use Rattle.rounds.proofs.check_sum_part.Goals as goal
 
--- the four boxes, and those that are given
-abbrev lent : tie.Start → Handed
-lent c = let a = c.args in record { widths = a.widths; rows1 = a.rows1.now; rows2 = a.rows2.now; rows3 = a.rows3.now; rows4 = a.rows4.now }
-
-abbrev four : tie.Start → List Summand
-four c = all_four (lent c)
-
--- the outputs of the sum
-abbrev outputs : tie.Start → ℕ
-outputs c = outputs_of (first_given c.args.count (four c))
-
--- the lines of the plain call's checks, where they were passed
-abbrev start : tie.In_default → tie.Start
-start c = c.before.before.before.before.before.before
-
-pub returns-in_err-check_sum : goal.returns-in_err-check_sum
-returns-in_err-check_sum c = ?
+pub returns-in-Refused : goal.returns-in-Refused
+returns-in-Refused c = sum_refused c.args.count _ _ c.args.i c.args.low c.args.high c.in-Refused.e c.in-Refused.ensures
 
 pub power_of_two-requires : goal.power_of_two-requires
-power_of_two-requires c =
-    first_outputs (box1 (lent c)) (box2 (lent c)) (box3 (lent c)) (box4 (lent c)) c.args.count c.args.i (sym c.check_sum-checked.ensures ∙ c.in_default.is)
+power_of_two-requires c = first_outputs c.args.count _ _ c.args.i (sym c.in_default.ensures)
 
 pub returns-then-not-in_range : goal.returns-then-not-in_range
-unfolding sum_part_checks
-returns-then-not-in_range c = found_after _ (sym c.check_sum-checked.ensures ∙ c.in_default.is) (stop (fails ((c.in_range.ensures ∙ ap (λ (k : ℕ). in_range 1 (k - 1) c.args.low) ((c.power_of_two.ensures.0 ∙ ap (λ (m : ℕ). 2 ^ m) (sym ((outputs_are (box1 (lent c)) (box2 (lent c)) (box3 (lent c)) (box4 (lent c)) c.args.count (accepted_round c.args.count (four c) c.args.i (sym c.check_sum-checked.ensures ∙ c.in_default.is)).count_low))))))) c.if-not-in_range.true-raw))
+returns-then-not-in_range c =
+    low_fails c.args.count _ _ c.args.i c.in_default.ensures c.args.low c.args.high _ c.power_of_two.ensures.0 (sym c.if-not-in_range.true ∙ c.in_range.ensures)
 
 pub returns-then-not-in_range-2 : goal.returns-then-not-in_range-2
-unfolding sum_part_checks
 returns-then-not-in_range-2 c =
-    found_after _ (sym c.check_sum-checked.ensures ∙ c.in_default.is) (skip (holds ((c.in_range.ensures ∙ ap (λ (k : ℕ). in_range 1 (k - 1) c.args.low) ((c.power_of_two.ensures.0 ∙ ap (λ (m : ℕ). 2 ^ m) (sym ((outputs_are (box1 (lent c)) (box2 (lent c)) (box3 (lent c)) (box4 (lent c)) c.args.count (accepted_round c.args.count (four c) c.args.i (sym c.check_sum-checked.ensures ∙ c.in_default.is)).count_low))))))) c.if-not-in_range.false-raw) (stop (fails ((c.in_range-2.ensures ∙ ap (λ (k : ℕ). in_range c.args.low (k - 1) c.args.high) ((c.power_of_two.ensures.0 ∙ ap (λ (m : ℕ). 2 ^ m) (sym ((outputs_are (box1 (lent c)) (box2 (lent c)) (box3 (lent c)) (box4 (lent c)) c.args.count (accepted_round c.args.count (four c) c.args.i (sym c.check_sum-checked.ensures ∙ c.in_default.is)).count_low))))))) c.if-not-in_range-2.true-raw)))
+    high_fails c.args.count _ _ c.args.i c.in_default.ensures c.args.low c.args.high _ c.power_of_two.ensures.0 (sym c.if-not-in_range.false ∙ c.in_range.ensures)
+    (sym c.if-not-in_range-2.true ∙ c.in_range-2.ensures)
 
 pub returns : goal.returns
-unfolding sum_part_checks
 returns c =
-    found_after _ (sym c.check_sum-checked.ensures ∙ c.in_default.is) (skip (holds ((c.in_range.ensures ∙ ap (λ (k : ℕ). in_range 1 (k - 1) c.args.low) ((c.power_of_two.ensures.0 ∙ ap (λ (m : ℕ). 2 ^ m) (sym ((outputs_are (box1 (lent c)) (box2 (lent c)) (box3 (lent c)) (box4 (lent c)) c.args.count (accepted_round c.args.count (four c) c.args.i (sym c.check_sum-checked.ensures ∙ c.in_default.is)).count_low))))))) c.if-not-in_range.false-raw) (skip (holds ((c.in_range-2.ensures ∙ ap (λ (k : ℕ). in_range c.args.low (k - 1) c.args.high) ((c.power_of_two.ensures.0 ∙ ap (λ (m : ℕ). 2 ^ m) (sym ((outputs_are (box1 (lent c)) (box2 (lent c)) (box3 (lent c)) (box4 (lent c)) c.args.count (accepted_round c.args.count (four c) c.args.i (sym c.check_sum-checked.ensures ∙ c.in_default.is)).count_low))))))) c.if-not-in_range-2.false-raw) end))
+    part_passes c.args.count _ _ c.args.i c.in_default.ensures c.args.low c.args.high _ c.power_of_two.ensures.0 (sym c.if-not-in_range.false ∙ c.in_range.ensures)
+    (sym c.if-not-in_range-2.false ∙ c.in_range-2.ensures)
