@@ -375,7 +375,6 @@ pub fn sum_nonlinearity(
     let all = handed(widths, rows1, rows2, rows3, rows4);
     let masks = (boolean::power_of_two(widths.m1) - 1) as u32;
     let nearest = least_between(&all[..count as usize], i, 1, masks);
-    let [w1, w2, w3, w4] = nearest.masks;
     Ok(nearest)
 }
 
@@ -429,7 +428,6 @@ pub fn sum_nonlinearity_between(
     }
     let all = handed(widths, rows1, rows2, rows3, rows4);
     let nearest = least_between(&all[..count as usize], i, start as u32, last);
-    let [w1, w2, w3, w4] = nearest.masks;
     Ok(Some(nearest))
 }
 
