@@ -7,12 +7,8 @@ use Rattle.boolean.specs.Sums.{count_below, one_if, list_from, list_below}
 use Rattle.boolean.specs.Functions.{approximation}
 use Rattle.boolean.proofs.Lists.{get_or_list_below}
 use Rattle.walsh.specs.FixedTable.{function_numbered}
-use Rattle.walsh.proofs.fixed.spectra.Statement.{statement}
-use Rattle.walsh.proofs.fixed.spectra.Tie as tie
+use Rattle.walsh.proofs.fixed.spectra.Goals as goal
 
-returns : tie.Need-returns
+pub returns : goal.returns
 unfolding list_below list_from function_numbered approximation count_below one_if dot parity ones
 returns c = record { rule = λ k h. get_or_list_below 2048 (λ i. approximation 3 (function_numbered (i / 8)) (i % 8)) k (pos 0) h }
-
-pub spectra_spec : {M : Type 1} → statement M
-spectra_spec = tie.close (tie.spec returns)

@@ -8,14 +8,12 @@ use lib.IntN.{ℤ, pos}
 use Rattle.boolean.specs.Functions.{at, approximation, spectrum}
 use Rattle.boolean.proofs.Filled.{Filled, filled_none, filled_whole}
 use Rattle.walsh.proofs.Numbers.{four_more}
-use borrow.Author.Rules.{rules}
-use Rattle.walsh.proofs.by_table.Statement.{statement}
-use Rattle.walsh.proofs.by_table.Tie as tie
+use Rattle.walsh.proofs.by_table.Goals as goal
 
-number_requires : tie.Need-number-first-requires
-number_requires c κs = c.requires.0.read
+pub number-first-requires : goal.number-first-requires
+number-first-requires c = c.requires.0.read
 
-returns : tie.Need-returns
+pub returns : goal.returns
 unfolding spectrum
 returns c =
     let fixed = c.args.fixed.now in
@@ -27,9 +25,3 @@ returns c =
     let four_there = subst (λ (l : List ℤ). Filled (pos 0) (λ v. approximation 3 f v) 8 4 l) (sym c.copy_four.ensures) four in
     let eight = more (t * 8 + 4) 4 c.copy_four.new.out refl (omega arith) four_there in
     c.copy_four-2.ensures ∙ filled_whole (pos 0) (λ v. approximation 3 f v) 8 8 _ eight (le_refl 8)
-
-pub by_table_spec : {M : Type 1} → statement M
-by_table_spec =
-    tie.close
-    (tie.spec number_requires (λ c. search rules) (λ c κs. search rules) (λ c. search rules) (λ c κs. search rules)
-    (λ c. search rules) returns)

@@ -6,26 +6,24 @@ use lib.ListN.{length-set}
 use Rattle.boolean.specs.Functions.{value_at}
 use Rattle.walsh.specs.Work.{with_four}
 use Rattle.walsh.proofs.Short.{narrow, narrow_told}
-use borrow.Author.Rules.{rules}
-use Rattle.walsh.proofs.narrow.copy_eight.Statement.{statement}
-use Rattle.walsh.proofs.narrow.copy_eight.Tie as tie
+use Rattle.walsh.proofs.narrow.copy_eight.Goals as goal
 
-slice_set_from_e : tie.Need-bounds-out-4
-slice_set_from_e c = simp length-set (omega arith)
+pub bounds-out-4 : goal.bounds-out-4
+bounds-out-4 c = simp length-set (omega arith)
 
-slice_set_from_f : tie.Need-bounds-out-5
-slice_set_from_f c = simp length-set (omega arith)
+pub bounds-out-5 : goal.bounds-out-5
+bounds-out-5 c = simp length-set (omega arith)
 
-slice_set_from_g : tie.Need-bounds-out-6
-slice_set_from_g c = simp length-set (omega arith)
+pub bounds-out-6 : goal.bounds-out-6
+bounds-out-6 c = simp length-set (omega arith)
 
-slice_set_from_h : tie.Need-bounds-out-7
-slice_set_from_h c = simp length-set (omega arith)
+pub bounds-out-7 : goal.bounds-out-7
+bounds-out-7 c = simp length-set (omega arith)
 
-same_length : tie.Need-shape_of-out
-same_length c = simp length-set
+pub shape_of-out : goal.shape_of-out
+shape_of-out c = simp length-set
 
-returns : tie.Need-returns
+pub returns : goal.returns
 unfolding with_four
 returns c =
     let fixed = c.args.fixed.now in
@@ -40,8 +38,3 @@ returns c =
     let eg : narrow (value_at fixed (later + 2)) ≡ value_at fixed (later + 2) = narrow_told _ c.g-1.given in
     let eh : narrow (value_at fixed (later + 3)) ≡ value_at fixed (later + 3) = narrow_told _ c.h-1.given in
     rw (ea, eb, ec, ed, ee, ef, eg, eh) refl
-
-pub copy_eight_spec : {M : Type 1} → statement M
-copy_eight_spec =
-    tie.close
-    (tie.spec (λ c. search rules) (λ c. search rules) (λ c. search rules) (λ c. search rules) (λ c. search rules) (λ c. search rules) (λ c. search rules) (λ c. search rules) (λ c. search rules) (λ c. search rules) (λ c. search rules) (λ c. search rules) (λ c. search rules) (λ c. search rules) (λ c. search rules) (λ c. search rules) (λ c. search rules) (λ c. search rules) (λ c. search rules) (λ c. search rules) (λ c. search rules) (λ c. search rules) (λ c. search rules) (λ c. search rules) (λ c. search rules) (λ c. search rules) (λ c. search rules) slice_set_from_e slice_set_from_f slice_set_from_g slice_set_from_h same_length returns)

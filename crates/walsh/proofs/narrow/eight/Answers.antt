@@ -7,11 +7,9 @@ use lib.IntN.{pos}
 use Rattle.boolean.specs.Functions.{at, approximation, spectrum}
 use Rattle.boolean.proofs.Filled.{filled_none, filled_whole}
 use Rattle.walsh.proofs.Numbers.{four_more}
-use borrow.Author.Rules.{rules}
-use Rattle.walsh.proofs.narrow.eight.Statement.{statement}
-use Rattle.walsh.proofs.narrow.eight.Tie as tie
+use Rattle.walsh.proofs.narrow.eight.Goals as goal
 
-returns : tie.Need-returns
+pub returns : goal.returns
 unfolding spectrum
 returns c =
     let f = at c.args.table.now in
@@ -21,7 +19,3 @@ returns c =
     let four = more (t * 8) 0 c.args.out.now (sym (add-zero (t * 8))) (omega arith) (filled_none (pos 0) _ 8 c.args.out.now c.requires.0.room) in
     let all = more (t * 8 + 4) 4 _ refl (omega arith) four in
     c.copy_eight.ensures ∙ filled_whole (pos 0) (λ v. approximation 3 f v) 8 8 _ all (le_refl 8)
-
-pub eight_spec : {M : Type 1} → statement M
-eight_spec =
-    tie.close (tie.spec (λ c κs. search rules) (λ c. search rules) (λ c κs. search rules) (λ c. search rules) returns)
