@@ -171,7 +171,7 @@ def switches(root):
     found = []
     for function in functions(root):
         for name, kind in zip(function.takes, function.types):
-            if kind == ["bool"] or name in ("kind", "which", "mode", "step", "how", "op"):
+            if kind == ["bool"] or name in ("kind", "which", "mode", "how", "op"):
                 found.append(f"{name_of(function)}: {name}")
             elif "dyn" in kind or kind[:1] == ["fn"]:
                 found.append(f"{name_of(function)}: {name}: {' '.join(kind)}")
