@@ -50,7 +50,7 @@ class Forms(unittest.TestCase):
         self.found("01.forms.2", ROUNDS, "boolean::sign_bit(values[place])", "sign_at(values, place)", "rounds::highest")
 
     def test_a_magnitude_found_after_the_loop(self):
-        self.found("01.forms.2", WALSH, "largest.max(boolean::magnitude(*value));", "largest.max(size_of(*value));")
+        self.found("01.forms.2", WALSH, "largest.max(boolean::magnitude(*value))", "largest.max(size_of(*value))", "walsh::largest_magnitude")
 
     def test_unsigned_values(self):
         self.found("01.forms.2", WALSH, "table: &[u8], out: &mut [i32]) -> Result", "table: &[u8], out: &mut [u32]) -> Result", "walsh::spectrum")

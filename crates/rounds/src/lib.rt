@@ -80,8 +80,8 @@ struct FoundNearest {
 }
 
 // The first nearest pair of a sum, as the calls answer it: the figure, c, a mask for each box (0 past the number given) and b.
-// kept: four fields and no array, since `one_answer` and `one_part_answer` say that every answer with this reply is the same, and a list in an
-// answer of any length is not.
+// kept: four fields and no array, since `one_answer` and `one_part_answer` say that all answers with the same reply are one, which is not
+// so where a list in an answer may have any length.
 #[derive(Clone, Copy)]
 pub struct NearestSum {
     pub figure: u32,
