@@ -1,4 +1,4 @@
-// The numbered refusals, the checks that many calls share, and the answer of a call that only writes.
+// The numbered refusals, which calls answer as errors, the checks that many calls share, and the widths that some answer with.
 #![tactic(auto)]
 
 ghost use Rattle.std.specs.Prelude.{◌≡◌, ◌≤◌, length};

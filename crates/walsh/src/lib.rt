@@ -127,7 +127,7 @@ pub fn spectra() -> [i16; 2048]
     fixed::spectra()
 }
 
-// The transform of sixteen values or fewer, by the one that is written out for that number; one value is its own transform.
+// The transform of sixteen values or fewer, by the block of that length; one value is its own transform.
 fn transform_at_once(n: u32, values: &mut [i32])
     requires { (n < 5) × Summable n values.old }
     ensures { values.new ≡ list_below (2 ^ n) (λ w. functions.transform n (value_at values.old) w) }
