@@ -70,7 +70,7 @@ impl Design {
             };
             return declined(design, e);
         }
-        boolean::copy(rows, &mut held[..rows.len()]);
+        held[..rows.len()].copy_from_slice(rows);
         let design = Design {
             n,
             m,
@@ -192,7 +192,7 @@ impl Design {
         if rows.len() != size {
             return Err(Refusal::WrittenLength);
         }
-        boolean::copy(&all[..size], rows);
+        rows.copy_from_slice(&all[..size]);
         Ok(BoxWidths { n, m: self.m })
     }
 }
