@@ -123,6 +123,7 @@ fn insert_word(m: u32, word: u32, basis: &mut [u32; 32]) -> bool
     ensures { WordInserted m word basis.old basis.new result }
 {
     let mut rest = word;
+    // kept: no plainer in another form, since each word is made from the one before
     while rest != 0 {
         let place = rest.ilog2() as usize;
         let here = basis[place];

@@ -202,6 +202,7 @@ pub fn largest_magnitude(values: &[i32]) -> u32
 }
 
 // The first place of a magnitude, and the number of values where none has it.
+// kept: the length and no None, since the clause of this public function says so (`FirstOfMagnitude`).
 pub fn first_place(values: &[i32], size: u32) -> usize
     ensures { FirstOfMagnitude values.now size result }
 {
