@@ -1,15 +1,17 @@
 -- One reply has one answer, and what is handed over for boxes past the number given is in no reply. Assumes nothing.
+use Rattle.std.specs.Prelude.{Result, Ok, Err, Option, Some, None}
+use Rattle.refusals.specs.declared.Refusal.{Refusal}
 use mathlib.Core.Path.{◌≡◌, refl, sym, ap, ◌∙◌}
 use mathlib.Core.List.{List, [], ◌∷◌, ◌++◌}
 use Prim.Native.Nat.{ℕ, zero, suc, ◌≤◌}
 use native.Mathlib.Omega.{arith}
+use lib.ListN.{get_or}
 use lib.ListN.{length, take, drop}
 use Rattle.refusals.specs.Table.{Reply}
 use Rattle.refusals.proofs.Numbers.{number_one}
 use Rattle.rounds.specs.Round.{Summand, first_given, sum_checks, sum_reply}
 use Rattle.rounds.specs.Calls.{SumAnswer}
-use Rattle.rounds.specs.declared.LeastSum.{LeastSum}
-use Rattle.rounds.specs.declared.LeastSum.TheVariants.{Reached, Declined}
+use Rattle.rounds.specs.declared.NearestSum.{NearestSum}
 
 -- ---- one reply has one answer: no field of the answer is left open
 -- the masks up to the number and b, and the masks past it, are all of them
@@ -24,14 +26,27 @@ masks_one (suc k) (x ∷ xs) (y ∷ ys) a b n e f =
     let same : xs ++ (a ∷ []) ≡ ys ++ (b ∷ []) = masks_one k xs ys a b (omega arith) (cc) f in
     cc
 
-pub one_answer : (count : ℕ) (reply : Reply) (a b : LeastSum) → SumAnswer count a reply → SumAnswer count b reply → a ≡ b
-one_answer count reply (Reached f c w1 w2 w3 w4 b) (Reached g d v1 v2 v3 v4 k) p q =
+-- an answer by its fields in their order
+abbrev pub by_fields : List ℕ → NearestSum
+by_fields l = record {
+  figure = get_or l 0 0;
+  c = get_or l 1 0;
+  w1 = get_or l 2 0;
+  w2 = get_or l 3 0;
+  w3 = get_or l 4 0;
+  w4 = get_or l 5 0;
+  b = get_or l 6 0;
+}
+
+pub one_answer : (count : ℕ) (reply : Reply) (a b : Result NearestSum Refusal) → SumAnswer count a reply → SumAnswer count b reply → a ≡ b
+one_answer count reply (Ok x) (Ok y) p q =
     let same = p.says ∙ sym q.says in
-    let whole = masks_one count (w1 ∷ w2 ∷ w3 ∷ w4 ∷ []) (v1 ∷ v2 ∷ v3 ∷ v4 ∷ []) b k refl (cc) (p.past ∙ sym q.past) in
-    cc
-one_answer count reply (Reached f c w1 w2 w3 w4 b) (Declined e) p q = let z : ◌≡◌ {A = ℕ} 0 1 = cc in absurd (omega arith)
-one_answer count reply (Declined e) (Reached f c w1 w2 w3 w4 b) p q = let z : ◌≡◌ {A = ℕ} 0 1 = cc in absurd (omega arith)
-one_answer count reply (Declined e) (Declined f) p q = ap Declined (number_one e f (cc))
+    let whole = masks_one count (x.w1 ∷ x.w2 ∷ x.w3 ∷ x.w4 ∷ []) (y.w1 ∷ y.w2 ∷ y.w3 ∷ y.w4 ∷ []) x.b y.b refl (cc) (p.past ∙ sym q.past) in
+    let all : x.figure ∷ x.c ∷ x.w1 ∷ x.w2 ∷ x.w3 ∷ x.w4 ∷ x.b ∷ [] ≡ y.figure ∷ y.c ∷ y.w1 ∷ y.w2 ∷ y.w3 ∷ y.w4 ∷ y.b ∷ [] = cc in
+    ap (λ (l : List ℕ). Ok (by_fields l)) all
+one_answer count reply (Ok x) (Err e) p q = let z : ◌≡◌ {A = ℕ} 0 1 = cc in absurd (omega arith)
+one_answer count reply (Err e) (Ok x) p q = let z : ◌≡◌ {A = ℕ} 0 1 = cc in absurd (omega arith)
+one_answer count reply (Err e) (Err f) p q = ap (λ z. Err z) (number_one e f (cc))
 
 -- ---- "Boxes past the number given aren't read.": where two calls hand over the same boxes up to the number given, whatever stands behind them, they
 -- read the same boxes, and so their replies are the same
@@ -53,7 +68,7 @@ module _ (count : ℕ) (s1 s2 s3 s4 t1 t2 t3 t4 : Summand)
   past_not_read i = rw same_read
 
   -- and their answers, all fields
-  pub same_answer : (i : ℕ) (a b : LeastSum) → SumAnswer count a (sum_reply count (s1 ∷ s2 ∷ s3 ∷ s4 ∷ []) i) → SumAnswer count b (sum_reply count (t1 ∷ t2 ∷ t3 ∷ t4 ∷ []) i)
+  pub same_answer : (i : ℕ) (a b : Result NearestSum Refusal) → SumAnswer count a (sum_reply count (s1 ∷ s2 ∷ s3 ∷ s4 ∷ []) i) → SumAnswer count b (sum_reply count (t1 ∷ t2 ∷ t3 ∷ t4 ∷ []) i)
       → a ≡ b
   same_answer i a b p q =
       one_answer count (sum_reply count (t1 ∷ t2 ∷ t3 ∷ t4 ∷ []) i) a b (record { says = p.says ∙ past_not_read i; past = p.past }) q

@@ -1,5 +1,5 @@
 -- The boxes that are given, cut from the four that are handed over: their checks, and what acceptance says of them. Assumes nothing.
-use Rattle.std.specs.Prelude.{Ok, Err}
+use Rattle.std.specs.Prelude.{Ok, Err, Some, None}
 use mathlib.Core.Path.{◌≡◌, refl, sym, ap, ap₂, ◌∙◌, subst}
 use mathlib.Core.Bool.{Bool, true, false, ◌&&◌}
 use mathlib.Core.List.Memᴰ
@@ -29,12 +29,23 @@ use Rattle.rounds.specs.Calls.{SumAnswer}
 use Rattle.rounds.specs.Parts.{PartSumAnswer}
 use Rattle.rounds.specs.Work.{as_summand, summed, Round, NearestOf}
 use Rattle.rounds.specs.declared.Summand.{Summand as Lent}
+use Rattle.rounds.specs.declared.FoundNearest.{FoundNearest}
 use Rattle.rounds.specs.declared.NearestSum.{NearestSum}
-use Rattle.rounds.specs.declared.LeastSum.TheVariants.{Reached as LeastReached}
-use Rattle.rounds.specs.declared.PartSum.TheVariants.{Reached as PartReached, Nothing as PartNothing}
 use Rattle.rounds.proofs.Entry.{box_refused, boxes_passed, accepted_round, first_outputs, limit_low, number_low, number_high}
 use Rattle.rounds.proofs.Ranges.{whole_sum, part_from, part_found, part_nothing}
 use Rattle.rounds.proofs.Slices.{summed_length, outputs_summed}
+
+-- the answer that a nearest pair makes
+abbrev pub answered : FoundNearest → NearestSum
+answered near = record {
+  figure = near.figure;
+  c = near.c;
+  w1 = get_or near.masks 0 0;
+  w2 = get_or near.masks 1 0;
+  w3 = get_or near.masks 2 0;
+  w4 = get_or near.masks 3 0;
+  b = near.b;
+}
 
 -- ---- four masks, one by one
 abbrev pub masks_of : List ℕ → List ℕ
@@ -101,7 +112,7 @@ module _ (count : ℕ) (s : Summand) (others : List Summand) (i : ℕ) where
     pub part_limit : 1 ≤ i
     part_limit = limit_low count given i (lies).0
 
-    pub nothing_answer : (start : ℕ) → FirstFrom i low start → high < start → PartSumAnswer count PartNothing (sum_between_reply count given i low high)
+    pub nothing_answer : (start : ℕ) → FirstFrom i low start → high < start → PartSumAnswer count (Ok None) (sum_between_reply count given i low high)
     nothing_answer start from h = record { says = ap figures (part_nothing (first_given count given) high from h) ∙ reply_accepted (sym accepted) _; past = tt }
 
 -- ---- the cut
@@ -168,7 +179,7 @@ module _ (count : ℕ) (all : List Lent) (s : Summand) (others : List Summand) (
     cut_length n = summed_length (take count all) ∙ length-take-le count all (cut_lies n)
 
     -- what the nearest pair of the cut says, and its masks past the boxes
-    module _ (cs : List ℕ) (p : NearestSum) (h : NearestOf (summed (take count all)) cs p) (n : length others ≡ 3) where
+    module _ (cs : List ℕ) (p : FoundNearest) (h : NearestOf (summed (take count all)) cs p) (n : length others ≡ 3) where
       nearest_says : figures (p.figure ∷ p.c ∷ (take count (masks_of p.masks) ++ (p.b ∷ []))) ≡ figures (shown (sum_nonlinearity (summed (take count all)) cs))
       nearest_says =
           ap (λ (l : List ℕ). figures (p.figure ∷ p.c ∷ (l ++ (p.b ∷ [])))) (ap₂ (λ (k : ℕ) (l : List ℕ). take k l) (sym (cut_length n)) (four_masks p.masks h.four))
@@ -182,9 +193,9 @@ module _ (count : ℕ) (all : List Lent) (s : Summand) (others : List Summand) (
     pub whole_swept : (p : ℕ) → p ≡ 2 ^ s.outputs → PartSwept (outputs_of (summed (take count all))) i 1 (p - 1)
     whole_swept p q = whole_part (some_outputs_of (summed (take count all)) cut_round) cut_limit (q ∙ ap (λ (m : ℕ). 2 ^ m) (sym cut_width))
 
-    pub whole_answer : (p : ℕ) (near : NearestSum) → length others ≡ 3 → p ≡ 2 ^ s.outputs
+    pub whole_answer : (p : ℕ) (near : FoundNearest) → length others ≡ 3 → p ≡ 2 ^ s.outputs
         → NearestOf (summed (take count all)) (components_between (outputs_of (summed (take count all))) i 1 (p - 1)) near
-        → SumAnswer count (LeastReached near.figure near.c (get_or near.masks 0 0) (get_or near.masks 1 0) (get_or near.masks 2 0) (get_or near.masks 3 0) near.b) (sum_reply count handed i)
+        → SumAnswer count (Ok (answered near)) (sum_reply count handed i)
     whole_answer p near n q h = record {
       says =
           nearest_says _ near h n
@@ -205,9 +216,9 @@ module _ (count : ℕ) (all : List Lent) (s : Summand) (others : List Summand) (
     pub part_swept : PartSwept (outputs_of (summed (take count all))) i start high
     part_swept = part_from (summed (take count all)) high from above inside h
 
-    pub part_answer : (near : NearestSum) → length others ≡ 3
+    pub part_answer : (near : FoundNearest) → length others ≡ 3
         → NearestOf (summed (take count all)) (components_between (outputs_of (summed (take count all))) i start high) near
-        → PartSumAnswer count (PartReached near.figure near.c (get_or near.masks 0 0) (get_or near.masks 1 0) (get_or near.masks 2 0) (get_or near.masks 3 0) near.b)
+        → PartSumAnswer count (Ok (Some (answered near)))
         (sum_between_reply count handed i low high)
     part_answer near n p =
         let plain = plain_accepted count s others i low high accepted in

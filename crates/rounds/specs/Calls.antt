@@ -15,12 +15,12 @@ summands_of w rows1 rows2 rows3 rows4 =
 
 -- what the answer says, for this count of boxes: the figure, c, a mask for each box and b, or the number of the refusal
 abbrev pub said_least_sum : (count : ℕ) (answer : Result NearestSum Refusal) → Reply
-said_least_sum count (Ok found) = figures (found.figure ∷ found.c ∷ (take count found.masks ++ (found.b ∷ [])))
+said_least_sum count (Ok found) = figures (found.figure ∷ found.c ∷ (take count (found.w1 ∷ found.w2 ∷ found.w3 ∷ found.w4 ∷ []) ++ (found.b ∷ [])))
 said_least_sum count (Err e) = refusal (number e)
 
 -- the answer's masks past that number are 0
 abbrev pub PastZero : (count : ℕ) (answer : Result NearestSum Refusal) → Type 0
-PastZero count (Ok found) = drop count found.masks ≡ drop count (0 ∷ 0 ∷ 0 ∷ 0 ∷ [])
+PastZero count (Ok found) = drop count (found.w1 ∷ found.w2 ∷ found.w3 ∷ found.w4 ∷ []) ≡ drop count (0 ∷ 0 ∷ 0 ∷ 0 ∷ [])
 PastZero count (Err e) = Unit {0}
 
 -- The whole answer for this count of boxes: it says the reply, and its masks past the number are 0. No two answers are so: `one_answer`

@@ -13,7 +13,7 @@ use Rattle.rounds.specs.declared.Work.{Work}
 use Rattle.rounds.specs.declared.Top.{Top}
 use Rattle.rounds.specs.declared.Witness.{Witness}
 use Rattle.rounds.specs.declared.Found.{Found}
-use Rattle.rounds.specs.declared.NearestSum.{NearestSum}
+use Rattle.rounds.specs.declared.FoundNearest.{FoundNearest}
 
 -- a box as the code has it, as one of the sum
 abbrev pub as_summand : Lent → Summand
@@ -72,7 +72,7 @@ pub record WitnessOf (ss : List Summand) (c : ℕ) (t : Witness) : Type 0 where
   pub sign_is : t.b ≡ sign_at ss c (peak_places ss c)
 
 -- the first nearest pair of the boxes over the components cs: its figure and witness, and the masks past the boxes are 0
-pub record NearestOf (ss : List Summand) (cs : List ℕ) (p : NearestSum) : Type 0 where
+pub record NearestOf (ss : List Summand) (cs : List ℕ) (p : FoundNearest) : Type 0 where
   pub is : record { figure = p.figure; witness = p.c ∷ (take (length ss) p.masks ++ (p.b ∷ [])) } ≡ sum_nonlinearity ss cs
   pub four : length p.masks ≡ 4
   pub past : drop (length ss) p.masks ≡ drop (length ss) (0 ∷ 0 ∷ 0 ∷ 0 ∷ [])

@@ -70,12 +70,26 @@ struct Found {
     c: u32,
 }
 
-// The first nearest pair of a sum: the figure, c, a mask for each box (0 past the number given) and b.
+// The first nearest pair that was found: the figure, c, the boxes' masks (0 past the last box) and b.
+#[derive(Clone, Copy)]
+struct FoundNearest {
+    figure: u32,
+    c: u32,
+    masks: [u32; 4],
+    b: u32,
+}
+
+// The first nearest pair of a sum, as the calls answer it: the figure, c, a mask for each box (0 past the number given) and b.
+// kept: four fields and no array, since `one_answer` and `one_part_answer` say that every answer with this reply is the same, and a list in an
+// answer of any length is not.
 #[derive(Clone, Copy)]
 pub struct NearestSum {
     pub figure: u32,
     pub c: u32,
-    pub masks: [u32; 4],
+    pub w1: u32,
+    pub w2: u32,
+    pub w3: u32,
+    pub w4: u32,
     pub b: u32,
 }
 
@@ -227,7 +241,7 @@ fn top_of(s: &Summand, c: u32) -> Top
 {
     let mut array = [0i32; 256];
     let values = &mut array[..s.rows.len()];
-    linear::spectrum_of_component(s.n, s.m, s.rows, c, values);
+    let _ = linear::spectrum_of_component(s.n, s.m, s.rows, c, values);
     highest(values)
 }
 
@@ -343,13 +357,13 @@ fn figure_of(inputs: u32, size: u64) -> u32
 }
 
 // The first nearest pair of the sum over the components within the limit from `first`, which is one of them, to `last`.
-fn least_between(boxes: &[Summand], i: u32, first: u32, last: u32) -> NearestSum
+fn least_between(boxes: &[Summand], i: u32, first: u32, last: u32) -> FoundNearest
     requires { Round (summed boxes.now) × (1 ≤ i) × PartSwept (outputs_of (summed boxes.now)) i first last }
     ensures { NearestOf (summed boxes.now) (components_between (outputs_of (summed boxes.now)) i first last) result }
 {
     let found = largest_product(boxes, i, first, last);
     let Witness { masks, b } = witness_at(boxes, found.c);
-    NearestSum {
+    FoundNearest {
         figure: figure_of(all_inputs(boxes), found.size),
         c: found.c,
         masks,
@@ -375,7 +389,16 @@ pub fn sum_nonlinearity(
     let all = handed(widths, rows1, rows2, rows3, rows4);
     let masks = (boolean::power_of_two(widths.m1) - 1) as u32;
     let nearest = least_between(&all[..count as usize], i, 1, masks);
-    Ok(nearest)
+    let [w1, w2, w3, w4] = nearest.masks;
+    Ok(NearestSum {
+        figure: nearest.figure,
+        c: nearest.c,
+        w1,
+        w2,
+        w3,
+        w4,
+        b: nearest.b,
+    })
 }
 
 // The checks of a part: the plain call's, then that it lies from 1 to 2^m − 1.
@@ -428,7 +451,16 @@ pub fn sum_nonlinearity_between(
     }
     let all = handed(widths, rows1, rows2, rows3, rows4);
     let nearest = least_between(&all[..count as usize], i, start as u32, last);
-    Ok(Some(nearest))
+    let [w1, w2, w3, w4] = nearest.masks;
+    Ok(Some(NearestSum {
+        figure: nearest.figure,
+        c: nearest.c,
+        w1,
+        w2,
+        w3,
+        w4,
+        b: nearest.b,
+    }))
 }
 
 // Two parts' answers as one: the fewer inputs, then the fewer outputs, then the smaller mask; a refusal stays one.
