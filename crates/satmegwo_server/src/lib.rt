@@ -66,7 +66,6 @@ pub fn satmegwo_server_run(server: Server, budget: u32) -> Server
 }
 
 // The figures of an answer to asking, or the number of its refusal.
-#[tactic(auto, unfolding(border::specs::Border::status, border::specs::Border::lent, border::specs::Border::figures_after))]
 fn give_standing(answer: Result<Option<Found>, Refusal>, figures: &mut [u32]) -> u32
     ensures { FiguresOut (progress_reply (said_asked answer)) figures.old result figures.new }
 {
