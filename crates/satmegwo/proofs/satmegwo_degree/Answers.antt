@@ -1,5 +1,4 @@
 -- `satmegwo::satmegwo_degree` meets its contract: that of the call, with its figures in the lent array, whose length is looked at before the sweep.
--- Assumes nothing.
 use mathlib.Core.Path.{sym, ap, ◌∙◌}
 use Rattle.boolean.specs.Selection.{shown}
 use Rattle.refusals.specs.Table.{first, limit_checks}
@@ -8,26 +7,19 @@ use Rattle.algebraic.specs.Calls.{said_degree_found}
 use Rattle.border.specs.Border.{room_number}
 use Rattle.border.proofs.Giving.{gives_refused, gives_same, room_first}
 use Rattle.satmegwo.proofs.Sizes.{degree_size}
-use borrow.Author.Rules.{rules}
-use Rattle.satmegwo.proofs.satmegwo_degree.Statement.{statement}
-use Rattle.satmegwo.proofs.satmegwo_degree.Tie as tie
+use Rattle.satmegwo.proofs.satmegwo_degree.Goals as goal
 
-returns : tie.Need-returns-then-figures-ne2
-returns c =
+pub returns-then-figures-ne2 : goal.returns-then-figures-ne2
+returns-then-figures-ne2 c =
     let a = c.args in
     let found = first (limit_checks a.n a.m a.rows.now a.i) in
     room_first found (shown (box_degree a.n a.m a.rows.now a.i)) (c.number_for_room.ensures ∙ ap room_number c.check_limited.ensures)
     (λ ok e. c.if-figures-ne2.true (e ∙ degree_size a.n a.m a.rows.now a.i ok))
 
-returns-2 : tie.Need-returns-in-Ok
-returns-2 c =
+pub returns-in-Ok : goal.returns-in-Ok
+returns-in-Ok c =
     gives_same (sym (ap said_degree_found c.in-Ok.is) ∙ c.degree.ensures) c.give.ensures
 
-returns-3 : tie.Need-returns-in-Err
-returns-3 c =
+pub returns-in-Err : goal.returns-in-Err
+returns-in-Err c =
     gives_same (sym (ap said_degree_found c.in-Err.is) ∙ c.degree.ensures) (gives_refused c.number_of.ensures)
-
-pub satmegwo_degree_spec : {M : Type 1} → statement M
-satmegwo_degree_spec =
-    tie.close
-    (tie.spec (λ c κs. search rules) (λ c κs. search rules) returns (λ c κs. search rules) (λ c. search rules) (λ c. search rules) (λ c κs. search rules) (λ c. search rules) (λ c κs. search rules) (λ c. search rules) returns-2 returns-3)
