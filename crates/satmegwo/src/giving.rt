@@ -47,9 +47,15 @@ pub fn give_sum(count: u32, answer: Result<NearestSum, Refusal>, figures: &mut [
     ensures { FiguresOut (said_least_sum count answer) figures.old result figures.new }
 {
     match answer {
-        Ok(NearestSum { figure, c, w1, w2, w3, w4, b }) => {
-            let masks = [w1, w2, w3, w4];
-            give_masks(figure, c, &masks[..count.min(4) as usize], b, figures)
+        Ok(sum) => {
+            let masks = [sum.w1, sum.w2, sum.w3, sum.w4];
+            give_masks(
+                sum.figure,
+                sum.c,
+                &masks[..count.min(4) as usize],
+                sum.b,
+                figures,
+            )
         }
         Err(e) => refusals::number_of(e),
     }

@@ -27,7 +27,7 @@ unfolding add_record_checks add_checks
 returns-in-Ok c =
     let a = c.args in
     let as_called : first (add_record_checks a.catalogue.now a.file.now (length a.figures.now))
-        ≡ first (add_checks a.catalogue.now a.file.now) =
+    ≡ first (add_checks a.catalogue.now a.file.now) =
     room_passed (offered_checks a.catalogue.now a.file.now) _ (eq-eqb _ 1 c.if-figures-ne1.false) in
     let b = a.catalogue.now in
     let file = a.file.now in
@@ -43,7 +43,7 @@ unfolding add_record_checks add_checks
 returns-in-Err c =
     let a = c.args in
     let as_called : first (add_record_checks a.catalogue.now a.file.now (length a.figures.now))
-        ≡ first (add_checks a.catalogue.now a.file.now) =
+    ≡ first (add_checks a.catalogue.now a.file.now) =
     room_passed (offered_checks a.catalogue.now a.file.now) _ (eq-eqb _ 1 c.if-figures-ne1.false) in
     let b = a.catalogue.now in
     let file = a.file.now in

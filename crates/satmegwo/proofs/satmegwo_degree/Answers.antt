@@ -1,4 +1,5 @@
--- `satmegwo::satmegwo_degree` meets its contract: that of the call, with its figures in the lent array, whose length is looked at before the sweep.
+-- `satmegwo::satmegwo_degree` meets its contract: that of the call, with its figures in the lent array,
+-- whose length is looked at before the sweep.
 use mathlib.Core.Path.{sym, ap, ◌∙◌}
 use Rattle.boolean.specs.Selection.{shown}
 use Rattle.refusals.specs.Table.{first, limit_checks}
@@ -13,7 +14,8 @@ pub returns-then-figures-ne2 : goal.returns-then-figures-ne2
 returns-then-figures-ne2 c =
     let a = c.args in
     let found = first (limit_checks a.n a.m a.rows.now a.i) in
-    room_first found (shown (box_degree a.n a.m a.rows.now a.i)) (c.number_for_room.ensures ∙ ap room_number c.check_limited.ensures)
+    room_first found (shown (box_degree a.n a.m a.rows.now a.i))
+    (c.number_for_room.ensures ∙ ap room_number c.check_limited.ensures)
     (λ ok e. c.if-figures-ne2.true (e ∙ degree_size a.n a.m a.rows.now a.i ok))
 
 pub returns-in-Ok : goal.returns-in-Ok

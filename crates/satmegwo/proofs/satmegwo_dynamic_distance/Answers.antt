@@ -1,4 +1,5 @@
--- `satmegwo::satmegwo_dynamic_distance` meets its contract: that of the call, with its figures in the lent array, whose length is looked at before the sweep.
+-- `satmegwo::satmegwo_dynamic_distance` meets its contract: that of the call, with its figures in the lent array,
+-- whose length is looked at before the sweep.
 use mathlib.Core.Path.{ap, ◌∙◌}
 use Rattle.boolean.specs.Selection.{shown}
 use Rattle.refusals.specs.Table.{first}
@@ -13,7 +14,8 @@ pub returns-then-figures-ne3 : goal.returns-then-figures-ne3
 returns-then-figures-ne3 c =
     let a = c.args in
     let found = first (distance_checks a.n a.m a.rows.now a.i a.j) in
-    room_first found (shown (dynamic_distance a.n a.m a.rows.now a.i a.j)) (c.number_for_room.ensures ∙ ap room_number c.check_distance.ensures)
+    room_first found (shown (dynamic_distance a.n a.m a.rows.now a.i a.j))
+    (c.number_for_room.ensures ∙ ap room_number c.check_distance.ensures)
     (λ ok e. c.if-figures-ne3.true (e ∙ distance_size a.n a.m a.rows.now a.i a.j ok))
 
 pub returns : goal.returns

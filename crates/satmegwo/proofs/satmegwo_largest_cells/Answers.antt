@@ -25,7 +25,7 @@ unfolding cells_checks list_checks
 returns-in-Ok c =
     let a = c.args in
     let as_called : first (cells_checks a.n a.m a.rows.now (length a.figures.now) (length a.list.now))
-        ≡ first (list_checks a.n a.m a.rows.now (length a.list.now)) =
+    ≡ first (list_checks a.n a.m a.rows.now (length a.list.now)) =
     room_passed (box_checks a.n a.m a.rows.now) _ (eq-eqb _ 1 c.if-figures-ne1.false) in
     let cells = largest_cells a.n a.m a.rows.now in
     let wrote = wrote_by (sym as_called) c.largest_cells.ensures in
@@ -37,7 +37,7 @@ unfolding cells_checks list_checks
 returns-in-Err c =
     let a = c.args in
     let as_called : first (cells_checks a.n a.m a.rows.now (length a.figures.now) (length a.list.now))
-        ≡ first (list_checks a.n a.m a.rows.now (length a.list.now)) =
+    ≡ first (list_checks a.n a.m a.rows.now (length a.list.now)) =
     room_passed (box_checks a.n a.m a.rows.now) _ (eq-eqb _ 1 c.if-figures-ne1.false) in
     let cells = largest_cells a.n a.m a.rows.now in
     let wrote = wrote_by (sym as_called) c.largest_cells.ensures in

@@ -36,7 +36,7 @@ unfolding nearest_checks pairs_checks
 returns-in-Ok c =
     let a = c.args in
     let as_called : first (nearest_checks a.n a.m a.rows.now a.i (length a.figures.now) (length a.list.now))
-        ≡ first (pairs_checks a.n a.m a.rows.now a.i (length a.list.now)) =
+    ≡ first (pairs_checks a.n a.m a.rows.now a.i (length a.list.now)) =
     room_passed (limit_checks a.n a.m a.rows.now a.i) _ (eq-eqb _ 1 c.if-counts-ne1.false) in
     let pairs = nearest_pairs a.n a.m a.rows.now a.i in
     let wrote = wrote_by (sym as_called) c.nearest_pairs.ensures in
@@ -49,7 +49,7 @@ unfolding nearest_checks pairs_checks
 returns-in-Err c =
     let a = c.args in
     let as_called : first (nearest_checks a.n a.m a.rows.now a.i (length a.figures.now) (length a.list.now))
-        ≡ first (pairs_checks a.n a.m a.rows.now a.i (length a.list.now)) =
+    ≡ first (pairs_checks a.n a.m a.rows.now a.i (length a.list.now)) =
     room_passed (limit_checks a.n a.m a.rows.now a.i) _ (eq-eqb _ 1 c.if-counts-ne1.false) in
     let pairs = nearest_pairs a.n a.m a.rows.now a.i in
     let wrote = wrote_by (sym as_called) c.nearest_pairs.ensures in

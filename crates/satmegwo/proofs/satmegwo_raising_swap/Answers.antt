@@ -1,4 +1,5 @@
--- `satmegwo::satmegwo_raising_swap` meets its contract: that of the call, with its figures in the lent array, whose length is looked at before the search.
+-- `satmegwo::satmegwo_raising_swap` meets its contract: that of the call, with its figures in the lent array,
+-- whose length is looked at before the search.
 use Rattle.std.specs.Prelude.{Ok}
 use mathlib.Core.Path.{sym, ap, ◌∙◌}
 use Rattle.refusals.specs.Table.{first, box_checks_up_to}
@@ -22,7 +23,8 @@ returns-in-Ok-Some c =
 
 pub returns-in-Ok-None : goal.returns-in-Ok-None
 returns-in-Ok-None c =
-    gives_same (sym (ap said_raising_swap (c.in-Ok-None.is ∙ ap Ok c.in-Ok-None.field-0-is)) ∙ c.raising_swap.ensures) c.give-in-Ok-None.ensures
+    gives_same (sym (ap said_raising_swap (c.in-Ok-None.is ∙ ap Ok c.in-Ok-None.field-0-is)) ∙ c.raising_swap.ensures)
+    c.give-in-Ok-None.ensures
 
 pub returns-in-Err : goal.returns-in-Err
 returns-in-Err c =

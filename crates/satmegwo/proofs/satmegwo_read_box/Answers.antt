@@ -27,7 +27,7 @@ unfolding read_box_checks
 returns-in-Ok c =
     let a = c.args in
     let as_called : first (read_box_checks a.file.now (length a.rows.now) (length a.figures.now))
-        ≡ first (file_checks a.file.now (length a.rows.now)) =
+    ≡ first (file_checks a.file.now (length a.rows.now)) =
     room_passed (file_checks a.file.now (length a.rows.now)) [] (eq-eqb _ 2 c.if-figures-ne2.false) ∙ ap first (append-nil _) in
     let file = a.file.now in
     let widths = at file 0 ∷ at file 1 ∷ [] in
@@ -42,7 +42,7 @@ unfolding read_box_checks
 returns-in-Err c =
     let a = c.args in
     let as_called : first (read_box_checks a.file.now (length a.rows.now) (length a.figures.now))
-        ≡ first (file_checks a.file.now (length a.rows.now)) =
+    ≡ first (file_checks a.file.now (length a.rows.now)) =
     room_passed (file_checks a.file.now (length a.rows.now)) [] (eq-eqb _ 2 c.if-figures-ne2.false) ∙ ap first (append-nil _) in
     let file = a.file.now in
     let widths = at file 0 ∷ at file 1 ∷ [] in

@@ -19,6 +19,7 @@ use Rattle.satmegwo.proofs.satmegwo_sheet.Goals as goal
 module _ {file old : List ℕ} {size : ℕ} {made : List ℕ} (w : SheetWritten file old size made) (long : length old ≡ 332) where
   made_inside : size ≤ length made
   made_inside = omega (arith, w.inside, ap length w.text, length-sets old 0 (sheet_text file))
+
   made_is : take size made ≡ sheet_text file
   made_is =
       let short : 0 + length (sheet_text file) ≤ length old = omega (arith, w.size, w.inside) in
@@ -49,6 +50,7 @@ returns c =
     let h : first (sheet_checks (length a.text.now) (length a.figures.now)) ≡ (Ok tt) =
     sym (found (skip (eq-eqb _ 332 c.if-text-ne332.false) (skip (eq-eqb _ 1 c.if-room-ne1.false) end))) in
     let size = length (sheet_text a.file.now) ∷ [] in
-    let figured = out_figures size c.if-room-ne1.false (ap (λ (k : ℕ). figures (k ∷ [])) written.size ∙ reply_accepted h size) c.give.ensures in
+    let figured = out_figures size c.if-room-ne1.false (ap (λ (k : ℕ). figures (k ∷ [])) written.size ∙ reply_accepted h size)
+    c.give.ensures in
     let text = c.put_bytes.ensures.1 ∙ ap (sets a.text.now 0) (made_is written refl) ∙ after_accepted h _ _ in
     record { size = figured; text = record { number = figured.number; content = text } }

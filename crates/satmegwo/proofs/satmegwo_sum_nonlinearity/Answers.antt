@@ -1,5 +1,5 @@
--- `satmegwo::satmegwo_sum_nonlinearity` meets its contract: that of the call, with its figures in the lent array, whose length is looked at before the
--- sweep.
+-- `satmegwo::satmegwo_sum_nonlinearity` meets its contract: that of the call, with its figures in the lent array,
+-- whose length is looked at before the sweep.
 use mathlib.Core.Path.{ap, ◌∙◌}
 use mathlib.Core.List.{[], ◌∷◌}
 use Rattle.boolean.specs.Functions.{components}
