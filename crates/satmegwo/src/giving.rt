@@ -1,5 +1,5 @@
 // The figures of answers that more than one export gives, and of a sum, whose masks are as many as its boxes; or the number of a refusal.
-ghost use Rattle.std.specs.Prelude.{[], ◌∷◌, ◌++◌, take};
+ghost use Rattle.std.specs.Prelude.{[], ◌∷◌, ◌++◌, ◌≤◌, length};
 ghost use Rattle.refusals.specs.Table.{said_verdict, figures as given};
 ghost use Rattle.avalanche.specs.Calls.{said_largest_change};
 ghost use Rattle.rounds.specs.Calls.{said_least_sum};
@@ -30,34 +30,16 @@ pub fn give_verdict(answer: Result<bool, Refusal>, figures: &mut [u32]) -> u32
     }
 }
 
-// The figures of a sum of `count` boxes: a mask for each of them, and b last.
-fn give_masks(
-    count: u32,
-    figure: u32,
-    c: u32,
-    w1: u32,
-    w2: u32,
-    w3: u32,
-    w4: u32,
-    b: u32,
-    figures: &mut [u32],
-) -> u32
-    ensures { FiguresOut (given (figure ∷ c ∷ (take count (w1 ∷ w2 ∷ w3 ∷ w4 ∷ []) ++ (b ∷ []))))
-        figures.old result figures.new }
+// The figures of a sum: a mask for each of its boxes, and b last.
+fn give_masks(figure: u32, c: u32, masks: &[u32], b: u32, figures: &mut [u32]) -> u32
+    requires { length masks.now ≤ 4 }
+    ensures { FiguresOut (given (figure ∷ c ∷ (masks.now ++ (b ∷ [])))) figures.old result figures.new }
 {
-    if count == 0 {
-        return border::give(&[figure, c, b], figures);
-    }
-    if count == 1 {
-        return border::give(&[figure, c, w1, b], figures);
-    }
-    if count == 2 {
-        return border::give(&[figure, c, w1, w2, b], figures);
-    }
-    if count == 3 {
-        return border::give(&[figure, c, w1, w2, w3, b], figures);
-    }
-    border::give(&[figure, c, w1, w2, w3, w4, b], figures)
+    let last = 2 + masks.len();
+    let mut all = [figure, c, 0, 0, 0, 0, 0];
+    all[2..last].copy_from_slice(masks);
+    all[last] = b;
+    border::give(&all[..last + 1], figures)
 }
 
 // The nearest pair of a sum of so many boxes.
@@ -65,15 +47,16 @@ pub fn give_sum(count: u32, answer: Result<NearestSum, Refusal>, figures: &mut [
     ensures { FiguresOut (said_least_sum count answer) figures.old result figures.new }
 {
     match answer {
-        Ok(NearestSum {
-            figure,
-            c,
-            w1,
-            w2,
-            w3,
-            w4,
-            b,
-        }) => { give_masks(count, figure, c, w1, w2, w3, w4, b, figures) }
+        Ok(sum) => {
+            let masks = [sum.w1, sum.w2, sum.w3, sum.w4];
+            give_masks(
+                sum.figure,
+                sum.c,
+                &masks[..count.min(4) as usize],
+                sum.b,
+                figures,
+            )
+        }
         Err(e) => refusals::number_of(e),
     }
 }
