@@ -149,7 +149,7 @@ def signed(code):
     negation = "if v < 0 { let above = -(v + 1); (above as u32) + 1 } else { v as u32 }"
     found += differs("boolean::magnitude", code.body("boolean::magnitude"), negation)
     found += differs("boolean::sign_bit", code.body("boolean::sign_bit"), "u8::from(v < 0)")
-    found += lacks("the loop of walsh::largest_magnitude", shown_loop(code, "walsh::largest_magnitude"), "boolean::magnitude(*value)")
+    found += lacks("the loop of walsh::largest_magnitude", shown_loop(code, "walsh::largest_magnitude"), "largest.max(boolean::magnitude(*value))")
     wanted = ("let w = walsh::first_place(values, largest);", "let b = boolean::sign_bit(values[w]);", "b: b as u32")
     found += lacks("linear::with_spectrum", code.body("linear::with_spectrum"), *wanted)
     wanted = ("let place = walsh::first_place(values, most);", "let sign = boolean::sign_bit(values[place]);", "sign: sign as u32")

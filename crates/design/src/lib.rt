@@ -16,6 +16,7 @@ use refusals::{BoxWidths, Refusal};
 #[repr(C)]
 #[derive(Clone, Copy)]
 pub struct Snapshot {
+    // kept: a number, since C hands the struct in (the C interface)
     pub taken: u32,
     pub rows: [u32; 256],
 }

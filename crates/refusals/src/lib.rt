@@ -1,4 +1,4 @@
-// The numbered refusals, the checks that many calls share, and the answer of a call that only writes.
+// The numbered refusals, which calls answer as errors, the checks that many calls share, and the widths that some answer with.
 #![tactic(auto)]
 
 ghost use Rattle.std.specs.Prelude.{◌≡◌, ◌≤◌, length};
@@ -38,6 +38,7 @@ pub struct BoxWidths {
 }
 
 // The number of a refusal, as documents 01 and 02 give it.
+// kept: the numbers are the documents', and C is given them (the C interface): a cast would give the places of the cases.
 pub fn number_of(e: Refusal) -> u32
     ensures { result ≡ number e }
 {

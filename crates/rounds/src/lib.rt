@@ -192,6 +192,7 @@ fn sweep(
     let mut found = Found { size: 0, c: 0 };
     let mut c = first as u64;
     let mut before = c - 1;
+    // kept: the next mask within the limit is not the next number, so that no range has the masks in turn
     while c < end {
         let mask = c as u32;
         let size = product_at(fixed, boxes, work, before, c, out);

@@ -127,7 +127,7 @@ pub fn spectra() -> [i16; 2048]
     fixed::spectra()
 }
 
-// The transform of sixteen values or fewer, by the one that is written out for that number; one value is its own transform.
+// The transform of sixteen values or fewer, by the block of that length; one value is its own transform.
 fn transform_at_once(n: u32, values: &mut [i32])
     requires { (n < 5) × Summable n values.old }
     ensures { values.new ≡ list_below (2 ^ n) (λ w. functions.transform n (value_at values.old) w) }
@@ -202,6 +202,7 @@ pub fn largest_magnitude(values: &[i32]) -> u32
 }
 
 // The first place of a magnitude, and the number of values where none has it.
+// kept: the length and no None, since the clause of this public function says so (`FirstOfMagnitude`).
 pub fn first_place(values: &[i32], size: u32) -> usize
     ensures { FirstOfMagnitude values.now size result }
 {

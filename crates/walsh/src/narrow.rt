@@ -114,7 +114,7 @@ fn peak_of_halves<B: Spectral>(fixed: &[i16; 2048], table: &[u8], work: &mut [i1
     largest_sum(work, h)
 }
 
-// The largest magnitude in the spectrum of an accepted table. Up to five inputs, where little time goes, the whole spectrum is made.
+// The largest magnitude in the spectrum of an accepted table. Up to three inputs, where little time goes, the whole spectrum is made.
 pub fn peak(fixed: &[i16; 2048], n: u32, table: &[u8], work: &mut [i16]) -> u16
     requires { Ready n table.now work.old × Spectra fixed.now }
     ensures { (result ≡ largest_magnitude (functions.spectrum n (at table.now)))
