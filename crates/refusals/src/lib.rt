@@ -80,13 +80,8 @@ fn largest_row(rows: &[u32]) -> u32
     ensures { result ≡ largest_below (length rows.now) (at rows.now) }
 {
     let mut most = 0;
-    let mut i = 0;
-    while i < rows.len() {
-        let row = rows[i];
-        if most < row {
-            most = row;
-        }
-        i += 1;
+    for row in rows {
+        most = most.max(*row);
     }
     most
 }
@@ -107,14 +102,7 @@ pub fn rows_below(rows: &[u32], limit: usize) -> bool
 pub fn values_below(table: &[u8], limit: usize) -> bool
     ensures { result ≡ all_below limit table.now }
 {
-    let mut i = 0;
-    while i < table.len() {
-        if limit <= table[i] as usize {
-            return false;
-        }
-        i += 1;
-    }
-    true
+    table.iter().all(|value| (*value as usize) < limit)
 }
 
 // The checks 1 to 4 of a box where at most `most` outputs are taken.
