@@ -52,6 +52,10 @@ gives_same {old = old} h g = record {
   content = g.content ∙ ap (λ (k : Reply). figures_after (lent k (length old)) old) h;
 }
 
+-- and a refusal, in other words
+pub gives_number : {reply : Reply} {k r : ℕ} {old : List ℕ} → reply ≡ refusal k → r ≡ k → FiguresOut reply old r old
+gives_number h n = gives_same (sym h) (gives_refused n)
+
 -- A call that only writes: what it replied, in a number.
 status_alone : (k : Result ⊤ Refusal) (given : List ℕ) → status (reply_after k given) ≡ status (reply_after k [])
 unfolding status

@@ -76,6 +76,7 @@ pub fn in_range(lo: u32, hi: u32, a: u32) -> bool
 }
 
 // The largest row, and 0 where there is none.
+#[tactic(auto, unfolding(boolean::specs::Sums::largest_below))]
 fn largest_row(rows: &[u32]) -> u32
     ensures { result ≡ largest_below (length rows.now) (at rows.now) }
 {

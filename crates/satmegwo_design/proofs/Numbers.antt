@@ -5,10 +5,9 @@ use mathlib.Core.Path.{◌≡◌, refl}
 use mathlib.Core.Bool.{Bool, true, false}
 use mathlib.Core.List.{[], ◌∷◌}
 use lib.Dec.{eqb}
-use Rattle.refusals.specs.Table.{◌unless◌, first, Reply, refusal, number, in_range, said_written}
+use Rattle.refusals.specs.Table.{◌unless◌, first, refusal, number, in_range, said_written}
 use Rattle.refusals.specs.declared.Refusal.{Refusal}
 use Rattle.refusals.specs.declared.Refusal.TheVariants.{InputWidth, OutputWidth, ReadLength, Value, Permutation, Parameter, WrittenLength, NoFunction, ListTooShort, FileLength, BoxCount, OutputWidths, Catalogue, NoRoom, NoRecord, UnusedBit, UnsetMark, NoPlace, PlaceState}
-use Rattle.design.specs.declared.Design.{Design}
 use Rattle.design.specs.Model.{DesignState, design_read_checks}
 use Rattle.border.specs.Border.{status, room_number}
 use Rattle.satmegwo_design.specs.Exports.{number_says}
@@ -39,10 +38,6 @@ pub says_answer : (answer : Result ⊤ Refusal) → number_says (status (said_wr
 unfolding status
 says_answer (Ok tt) = refl
 says_answer (Err e) = says_refusal e
-
--- what a call's contract says, of the number and the design that are handed out
-pub handed_out : (Contract : Reply → Design → Type 0) {said told : Reply} {made out : Design} → (out ≡ made) × (told ≡ said) → Contract said made → Contract told out
-handed_out Contract h c = rw (h.0, h.1) c
 
 by_seven : (a b : Bool) → number WrittenLength ≡ room_number (first ((WrittenLength unless a) ∷ (WrittenLength unless b) ∷ []))
 unfolding first

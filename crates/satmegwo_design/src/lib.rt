@@ -8,8 +8,8 @@ ghost use Rattle.refusals.specs.Table.{said_written};
 ghost use Rattle.design.specs.Calls.{DesignBegun, DesignSwapped, DesignAdded, DesignMarked, DesignReturned};
 ghost use Rattle.satmegwo_design.specs.Exports.{number_says, ReadOut};
 
-use design::{BoxHeld, Design, Tuned};
-use refusals::Refusal;
+use design::{Design, Tuned};
+use refusals::{BoxWidths, Refusal};
 
 // The design after an operation, with 0 or the number of the refusal.
 #[repr(C)]
@@ -20,6 +20,7 @@ pub struct Outcome {
 }
 
 // An operation's answer as a number.
+#[tactic(auto, using(crate::proofs::Numbers::says_answer))]
 fn numbered(tuned: Tuned) -> Outcome
     ensures { (result.design ≡ tuned.design) × (number_says result.status ≡ said_written tuned.answer) }
 {
@@ -72,7 +73,7 @@ pub fn satmegwo_design_read(design: Design, rows: &mut [u32], figures: &mut [u32
         return refusals::number_of(Refusal::WrittenLength);
     }
     match design.read_box(rows) {
-        BoxHeld::Given { n, m } => border::give(&[n, m], figures),
-        BoxHeld::Declined(e) => refusals::number_of(e),
+        Ok(BoxWidths { n, m }) => border::give(&[n, m], figures),
+        Err(e) => refusals::number_of(e),
     }
 }

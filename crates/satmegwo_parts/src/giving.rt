@@ -14,6 +14,7 @@ use refusals::Refusal;
 use rounds::NearestSum;
 
 // The nearest pair of a part: the count, c, w and b.
+#[tactic(auto, unfolding(crate::specs::Exports::flagged, crate::specs::Exports::part_figures))]
 pub fn give_pair(answer: Result<Option<Found>, Refusal>, part: &mut [u32]) -> u32
     ensures { FiguresOut (flagged 5 (said_part answer)) part.old result part.new }
 {
@@ -25,6 +26,7 @@ pub fn give_pair(answer: Result<Option<Found>, Refusal>, part: &mut [u32]) -> u3
 }
 
 // The largest change of a part: the figure, c and the input change.
+#[tactic(auto, unfolding(crate::specs::Exports::flagged, crate::specs::Exports::part_figures))]
 pub fn give_change(answer: Result<Option<FoundChange>, Refusal>, part: &mut [u32]) -> u32
     ensures { FiguresOut (flagged 4 (said_part_change answer)) part.old result part.new }
 {
@@ -41,46 +43,40 @@ fn give_masks(
     flag: u32,
     figure: u32,
     c: u32,
-    w1: u32,
-    w2: u32,
-    w3: u32,
-    w4: u32,
+    masks: [u32; 4],
     b: u32,
     part: &mut [u32],
 ) -> u32
-    ensures { FiguresOut (given (flag ∷ figure ∷ c ∷ (take count (w1 ∷ w2 ∷ w3 ∷ w4 ∷ []) ++ (b ∷ []))))
+    ensures { FiguresOut (given (flag ∷ figure ∷ c ∷ (take count masks ++ (b ∷ []))))
         part.old result part.new }
 {
-    if count == 0 {
-        return border::give(&[flag, figure, c, b], part);
-    }
-    if count == 1 {
-        return border::give(&[flag, figure, c, w1, b], part);
-    }
-    if count == 2 {
-        return border::give(&[flag, figure, c, w1, w2, b], part);
-    }
-    if count == 3 {
-        return border::give(&[flag, figure, c, w1, w2, w3, b], part);
-    }
-    border::give(&[flag, figure, c, w1, w2, w3, w4, b], part)
+    let boxes = count.min(4) as usize;
+    let mut told = [flag, figure, c, 0, 0, 0, 0, 0];
+    told[3..3 + boxes].copy_from_slice(&masks[..boxes]);
+    told[3 + boxes] = b;
+    border::give(&told[..4 + boxes], part)
 }
 
 // The nearest pair of a part of a sum of so many boxes.
+#[tactic(auto, unfolding(crate::specs::Exports::flagged, crate::specs::Exports::part_figures))]
 pub fn give_sum(count: u32, answer: Result<Option<NearestSum>, Refusal>, part: &mut [u32]) -> u32
     ensures { FiguresOut (flagged (sum_size count) (said_part_sum count answer)) part.old result part.new }
 {
     match answer {
-        Ok(Some(NearestSum {
-            figure,
-            c,
-            w1,
-            w2,
-            w3,
-            w4,
-            b,
-        })) => { give_masks(count, 1, figure, c, w1, w2, w3, w4, b, part) }
-        Ok(None) => give_masks(count, 0, 0, 0, 0, 0, 0, 0, 0, part),
+        Ok(
+            Some(
+                NearestSum {
+                    figure,
+                    c,
+                    w1,
+                    w2,
+                    w3,
+                    w4,
+                    b,
+                },
+            ),
+        ) => { give_masks(count, 1, figure, c, [w1, w2, w3, w4], b, part) }
+        Ok(None) => give_masks(count, 0, 0, 0, [0; 4], 0, part),
         Err(e) => refusals::number_of(e),
     }
 }

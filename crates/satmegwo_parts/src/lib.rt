@@ -115,6 +115,7 @@ pub fn satmegwo_sum_nonlinearity_between(
 }
 
 // The checks of a merging.
+#[tactic(auto, unfolding(refusals::specs::Table::first, crate::specs::Exports::merge_checks))]
 fn check_merging(x: &[u32], y: &[u32], room: usize) -> Result<(), Refusal>
     ensures { result ≡ firstMet (merge_checks x.now y.now room) }
 {
@@ -137,6 +138,7 @@ fn check_merging(x: &[u32], y: &[u32], room: usize) -> Result<(), Refusal>
 }
 
 // Whether the second of two parts is taken, the smaller figure being the better one.
+#[tactic(auto, unfolding(crate::specs::Exports::second_taken))]
 fn is_second_less(x: &[u32], y: &[u32]) -> bool
     requires { (3 ≤ length x.now) × (3 ≤ length y.now) }
     ensures { result ≡ second_taken ltb x.now y.now }
@@ -151,6 +153,7 @@ fn is_second_less(x: &[u32], y: &[u32]) -> bool
 }
 
 // And the larger figure being the better one.
+#[tactic(auto, unfolding(crate::specs::Exports::second_taken))]
 fn is_second_larger(x: &[u32], y: &[u32]) -> bool
     requires { (3 ≤ length x.now) × (3 ≤ length y.now) }
     ensures { result ≡ second_taken above x.now y.now }
@@ -169,12 +172,14 @@ pub fn satmegwo_merge_least(x: &[u32], y: &[u32], merged: &mut [u32]) -> u32
     ensures { WroteOut (merge_checks x.now y.now (length merged.old))
         (merged_part ltb x.now y.now) merged.old result merged.new }
 {
-    check_merging(x, y, merged.len())?;
+    if let Err(e) = check_merging(x, y, merged.len()) {
+        return refusals::number_of(e);
+    }
     if is_second_less(x, y) {
-        boolean::copy(y, merged);
+        merged.copy_from_slice(y);
         return 0;
     }
-    boolean::copy(x, merged);
+    merged.copy_from_slice(x);
     0
 }
 
@@ -183,11 +188,13 @@ pub fn satmegwo_merge_largest(x: &[u32], y: &[u32], merged: &mut [u32]) -> u32
     ensures { WroteOut (merge_checks x.now y.now (length merged.old))
         (merged_part above x.now y.now) merged.old result merged.new }
 {
-    check_merging(x, y, merged.len())?;
+    if let Err(e) = check_merging(x, y, merged.len()) {
+        return refusals::number_of(e);
+    }
     if is_second_larger(x, y) {
-        boolean::copy(y, merged);
+        merged.copy_from_slice(y);
         return 0;
     }
-    boolean::copy(x, merged);
+    merged.copy_from_slice(x);
     0
 }

@@ -1,0 +1,38 @@
+-- What the checks found, and which of the two parts is taken.
+use mathlib.Core.Path.{refl, sym, ◌∙◌}
+use mathlib.Core.List.{[]}
+use native.Mathlib.Omega.{arith}
+use Rattle.masks.specs.Parts.{above}
+use Rattle.refusals.proofs.Outcomes.{wrote_accepted}
+use Rattle.border.specs.Border.{status}
+use Rattle.border.proofs.Giving.{out_refused, wrote_out}
+use Rattle.satmegwo_parts.proofs.Merging.{merges, takes_second, takes_first}
+use Rattle.satmegwo_parts.proofs.satmegwo_merge_largest.Goals as goal
+
+pub returns-in-Err : goal.returns-in-Err
+returns-in-Err c = out_refused (sym c.check_merging.ensures ∙ c.in-Err.is) c.number_of.ensures
+
+pub is_second_larger-requires : goal.is_second_larger-requires
+is_second_larger-requires c =
+    let size = merges c.args.x.now c.args.y.now _ (sym c.check_merging.ensures ∙ c.in_default.is) in
+    (size.enough, omega (arith, size.enough, size.same))
+
+pub copy_from_slice-requires : goal.copy_from_slice-requires
+copy_from_slice-requires c =
+    let size = merges c.args.x.now c.args.y.now _ (sym c.check_merging.ensures ∙ c.in_default.is) in
+    size.fits ∙ sym size.same
+
+pub returns-then-is_second_larger : goal.returns-then-is_second_larger
+unfolding status
+returns-then-is_second_larger c =
+    let second = takes_second above c.args.x.now c.args.y.now c.is_second_larger.ensures c.if-is_second_larger.true in
+    wrote_out {given = []} (wrote_accepted (sym c.check_merging.ensures ∙ c.in_default.is) (c.copy_from_slice.ensures.after ∙ second)) refl
+
+pub copy_from_slice-requires-2 : goal.copy_from_slice-requires-2
+copy_from_slice-requires-2 c = (merges c.args.x.now c.args.y.now _ (sym c.check_merging.ensures ∙ c.in_default.is)).fits
+
+pub returns : goal.returns
+unfolding status
+returns c =
+    let first = takes_first above c.args.x.now c.args.y.now c.is_second_larger.ensures c.if-is_second_larger.false in
+    wrote_out {given = []} (wrote_accepted (sym c.check_merging.ensures ∙ c.in_default.is) (c.copy_from_slice-2.ensures.after ∙ first)) refl
