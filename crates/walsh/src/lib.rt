@@ -27,11 +27,8 @@ fn four_bytes(table: &[u8], at: usize) -> u64
     requires { Table 3 table.now × (at + 3 < 8) }
     ensures { result ≡ four_values table.now at }
 {
-    let a = boolean::wide(table[at]) as u64;
-    let b = boolean::wide(table[at + 1]) as u64;
-    let c = boolean::wide(table[at + 2]) as u64;
-    let d = boolean::wide(table[at + 3]) as u64;
-    a + 256 * b + 65536 * c + 16777216 * d
+    let values = [table[at], table[at + 1], table[at + 2], table[at + 3]];
+    u64::from(u32::from_le_bytes(values))
 }
 
 // The number of a truth table of three inputs: its entry at x is bit x. The product has the eight entries side by side from bit 24 on:
