@@ -68,7 +68,8 @@ def is_outcome(function):
     if not function.gives or "{" not in promises or re.match(r"[a-z]\w*::", function.name):
         return False
     first = next(word for word in promises[promises.index("{") + 1:] if word != "(")
-    answer = function.gives[-1][0].isupper() and function.gives[-1] != "Checked"  # which says what checks found, and is no answer
+    reply = function.gives[0] == "Result" and function.gives[-2:] == ["Refusal", ">"]  # (a check gives this too: its contract names no outcome)
+    answer = reply or function.gives[-1][0].isupper()
     part, length = function.gives[0] == "&", function.gives == ["usize"] and (".", "new") in zip(promises, promises[1:])
     return (answer or part or length) and (first.startswith("said") or first[0].isupper())
 

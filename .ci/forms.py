@@ -16,7 +16,11 @@ import calls
 import sources
 
 LINES = ("nonlinearity", "xor", "autocorrelation", "sac", "bic", "degree", "complete", "bijective")
-ENUM = re.compile(r"^pub enum (\w+) \{\n(.*?)^\}", re.M | re.S)
+DECIDED = ("complete", "bijective")
+ENUM = re.compile(r"^(?:pub )?enum (\w+)[^{\n]*\{\n(.*?)^\}", re.M | re.S)
+STRUCT = re.compile(r"^pub struct (\w+)", re.M)
+ANSWER = re.compile(r"Result < (?:(Option) < )?(?:\w+ :: )*(\( \)|\w+)(?: >)? , (?:refusals :: )?Refusal >")
+SPELLED = {"( )": "⊤", "bool": "Bool"} | dict.fromkeys(("u8", "u16", "u32", "u64", "usize"), "ℕ")
 NOT_CALLED = ("if", "while", "match", "return", "in")
 
 
@@ -145,7 +149,7 @@ def signed(code):
     negation = "if v < 0 { let above = -(v + 1); (above as u32) + 1 } else { v as u32 }"
     found += differs("boolean::magnitude", code.body("boolean::magnitude"), negation)
     found += differs("boolean::sign_bit", code.body("boolean::sign_bit"), "u8::from(v < 0)")
-    found += lacks("the loop of walsh::largest_magnitude", shown_loop(code, "walsh::largest_magnitude"), "boolean::magnitude(values[w])")
+    found += lacks("the loop of walsh::largest_magnitude", shown_loop(code, "walsh::largest_magnitude"), "largest.max(boolean::magnitude(*value))")
     wanted = ("let w = walsh::first_place(values, largest);", "let b = boolean::sign_bit(values[w]);", "b: b as u32")
     found += lacks("linear::with_spectrum", code.body("linear::with_spectrum"), *wanted)
     wanted = ("let place = walsh::first_place(values, most);", "let sign = boolean::sign_bit(values[place]);", "sign: sign as u32")
@@ -211,12 +215,16 @@ def let_else(code):
         if place(body, "let i = limit_of(m);") == 0:
             body = body[body.index(";") + 1:]
         taken = place(body, "= answer else {")
-        written = next((at for at, word in enumerate(body) if word == "texts"), 0)
-        if body[:3] != ["let", "answer", "="] or taken is None or body.index(";") + 1 != body.index("let", 1):
+        if body[:3] != ["let", "answer", "="] or taken is None or place(body, "let Ok(", 1) != body.index(";") + 1:
             found.append(f"{name} does not take its answer apart by `let .. else`")
-        elif place(body, "return None;", taken) is None:
+            continue
+        stop = sources.closing(body, body.index("{", taken))
+        before, after = body[:stop], body[stop + 2:]
+        line_of = f'Some(texts::put_bytes(text, at, b"{line} %s\\n"))'
+        decided = f"if yes {{ {line_of % 'yes'} }} else {{ {line_of % 'no'} }}"
+        if place(body, "else { return None; };", taken) != taken + 2:
             found.append(f"{name} does not stop where its figure is refused")
-        elif written < taken or {"match", "if"} & set(body):
+        elif {"match", "if", "texts"} & set(before) or {"match", "if"} & set(after) and (line not in DECIDED or after != sources.tokens(decided)):
             found.append(f"{name} writes before its answer is taken apart, or takes it apart otherwise")
     figures = [f"*end = write_{line}(n, m, rows, text, *end)?;" for line in LINES] + ["Some(())"]
     first = ['let mut end = texts::put_line(text, 0, b"box", &[n, m]);', "let _ = write_figures(n, m, rows, text, &mut end);", "end"]
@@ -224,7 +232,6 @@ def let_else(code):
         body = code.body(name)
         found += lacks(name, body, *expected) or differs(name, body, " ".join(expected))
     return found
-
 
 
 def upper_crate(code):
@@ -264,22 +271,44 @@ def by_value(code):
     return found
 
 
+def spelled(words):
+    """The type of an answer that may be a refusal, as specs spell it, and the cases that it has; or None for another type."""
+    answer = ANSWER.fullmatch(shown(words))
+    if not answer:
+        return None
+    inner = SPELLED.get(answer[2], answer[2])
+    return (f"Result (Option {inner}) Refusal", ("Ok (Some", "Ok None", "Err")) if answer[1] else (f"Result {inner} Refusal", ("Ok", "Err"))
+
+
+def said_by(code, crate, stated):
+    """The definitions of a crate's specs that say what answers of a type say: the name of each, and what its lines are of."""
+    specs = "\n".join(text for _, text in code.below(f"crates/{crate}/specs/"))
+    names = re.findall(rf"^abbrev pub (\w+) : (?:{re.escape(stated)} →|.*\(answer : {re.escape(stated)}\) →) (?:Reply|Progress)$", specs, re.M)
+    return [(name, re.findall(rf"^{name} ([^=]*)=", specs, re.M)) for name in names]
+
+
 def answers(code):
-    """Each answer, an enum that may hold a refusal, has a definition in specs with a line for each of its cases. (`Checked` is no answer of a call.)"""
-    found = []
-    for crate, name, text in [(file.split("/")[1], *enum) for file, source in code.files.items() if file.endswith(".rt") for enum in ENUM.findall(source)]:
-        words = sources.tokens(text)
-        cases = [part for part in sources.parts(words) if part]
-        if name == "Checked" or "Refusal" not in words:
+    """Each type of answer of a public function, a `Result` with a refusal, has a definition in specs, with a line for each of its cases: in those of the
+    crate, or, if it has none, in those of the crate that has its figures (of `refusals` for yes or no and for no figure). No enum but `Refusal` has one."""
+    found, given = [], {}
+    rows = [(file.split("/")[1], source) for file, source in code.files.items() if file.endswith(".rt")]
+    for crate, name, text in [(crate, *enum) for crate, source in rows for enum in ENUM.findall(source)]:
+        found += [f"{name} of {crate} is an enum with a refusal, and no `Result`"] if "Refusal" in sources.tokens(text) else []
+    homes = {name: crate for crate, source in rows for name in STRUCT.findall(source)}
+    for function in code.functions.values():
+        if function.public and "Refusal" in function.gives:
+            given.setdefault((function.crate, shown(function.gives)), function.gives)
+    for (crate, shape), words in given.items():
+        stated, cases = spelled(words) or (None, ())
+        if stated is None:
+            found.append(f"{crate} answers {shape}, which is no `Result` of a figure and a refusal")
             continue
-        specs = "\n".join(text for _, text in code.below(f"crates/{crate}/specs/"))
-        said = re.search(rf"^abbrev pub (\w+) : (?:{name} →|.*\(answer : {name}\) →) (?:Reply|Progress)$", specs, re.M)
-        if not said:
-            found.append(f"no definition says what {name} of {crate} says")
-            continue
-        stated = re.findall(rf"^{said[1]} [^=]*?\(?(?:\w+\.)?([A-Z]\w*)\b", specs, re.M)
-        found += [f"{said[1]} has no line for {case[0]}" for case in cases if case[0] not in stated]
-    return found
+        figures = re.sub(r"[()]|Result|Option|Refusal", "", stated).strip()
+        said = said_by(code, crate, stated) or said_by(code, homes.get(figures, "refusals" if figures in ("⊤", "Bool") else crate), stated)
+        found += [] if said else [f"no definition says what {stated} of {crate} says"]
+        for name, lines in said:
+            found += [f"{name} has no line for {case}" for case in cases if not any(re.search(rf"\({re.escape(case)}\b", line) for line in lines)]
+    return list(dict.fromkeys(found))
 
 
 def running_value(code):

@@ -1,7 +1,7 @@
 #!/usr/bin/env python3
 """Holds the documents to the tree: what a page names exists, where it says that it stands.
 
-Every name in backquotes on a page (README, docs/ without the notes of the landings and PORT, the other read-me files) is a definition, theorem, function, type,
+Every name in backquotes on a page (README, docs/ without the notes of the landings, PORT and DESIGN-PASS, the other read-me files) is a definition, theorem, function, type,
 field, file, crate or option that is there; `name` (`crate/specs/File`) is declared in that file; a link leads to a file, and "DECISIONS 58"
 to an entry. A header's comments name calls, macros and files that are there.
 
@@ -293,9 +293,9 @@ def certificate_faults(tree):
 
 
 def pages(tree):
-    """The pages that are true of the tree. Notes of landings keep the names of their day, and so does the page of the move to today's Rattle; the table of the
-    notes, their README, has today's in backquotes."""
-    return sorted(file for file in tree.files if file.endswith(".md") and not re.match(r"docs/(landings/(?!README)|PORT\.md)", file))
+    """The pages that are true of the tree. Notes of landings keep the names of their day, and so do the pages of the move to today's Rattle and of the change to its
+    forms, which have old and new side by side; the table of the notes, their README, has today's in backquotes."""
+    return sorted(file for file in tree.files if file.endswith(".md") and not re.match(r"docs/(landings/(?!README)|(?:PORT|DESIGN-PASS)\.md)", file))
 
 
 def faults(tree):

@@ -38,7 +38,7 @@ They ask nothing.
 - `linear`: `spectra`, `check`
 """
 LINEAR = """// pub fn old(n: u32) { is a comment }
-pub fn nonlinearity<'a>(n: u32, rows: &'a [u32]) -> LeastPair
+pub fn nonlinearity<'a>(n: u32, rows: &'a [u32]) -> Result<Found, Refusal>
     ensures reply { said_least_pair { A = ℕ } result ≡ n }
     ensures same { result ≡ n }
 {
@@ -59,7 +59,7 @@ pub fn spectra() -> [i32; 8]
     ensures { Spectra result }
 { [0i32; 8] }
 
-pub fn check(n: u32) -> Checked ensures { result ≡ first (checks n) } { n }
+pub fn check(n: u32) -> Result<(), Refusal> ensures { result ≡ first (checks n) } { n }
 
 pub fn largest(n: u32) -> u32 ensures { result ≡ n } { n }
 
@@ -67,7 +67,7 @@ pub fn count(n: u32) -> u32 requires { n ≤ 8 } ensures { result ≡ n } { n }
 
 fn private(n: u32) {}
 """
-LISTING = "pub fn measure(n: u32) -> CellList requires { n ≤ 8 } ensures { ListCalled n result } { n }\n"
+LISTING = "pub fn measure(n: u32) -> Result<u32, Refusal> requires { n ≤ 8 } ensures { ListCalled n result } { n }\n"
 SERVER = "struct Server { n: u32 }\nimpl Server {\n    pub fn step(self) -> Self ensures { ServerStepped self result } { self }\n}\nfn after() {}\n"
 CATALOGUE = "pub fn fetch<'a>(catalogue: &'a [u8]) -> &'a [u8] ensures { Handed catalogue.now result } { catalogue }\n"
 LIBRARY = "pub fn satmegwo_nonlinearity(n: u32, rows: &[u32]) -> u32 ensures { result ≡ n } { n }\n"
@@ -185,7 +185,7 @@ class Listed(unittest.TestCase):
     def test_a_function_in_another_section(self):
         self.differs("'Functions between crates that ask nothing'", linear=LINEAR.replace("    requires { n ≤ 8 }\n", ""))
         self.differs("makes it one of 'Calls'", text=PAGE.replace("`nonlinearity`, ", "").replace("`spectra`", "`spectra`, `nonlinearity`"))
-        self.differs("makes it one of 'Calls'", linear=LINEAR.replace("result ≡ first (checks n)", "said_verdict result ≡ n").replace("-> Checked", "-> Verdict"))
+        self.differs("makes it one of 'Calls'", linear=LINEAR.replace("result ≡ first (checks n)", "said_written result ≡ n"))
 
     def test_a_contract_that_names_no_outcome_is_no_call(self):
         self.differs("'Functions between crates that ask nothing'", catalogue=CATALOGUE.replace("Handed catalogue.now result", "result ≡ catalogue.now"))

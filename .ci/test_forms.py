@@ -16,7 +16,7 @@ HALF = """        let h = table.len() / 2;
         descend(fixed, n - 1, &table[h..], &mut out[h..]);
         butterfly(out, h);
 """
-STOPPED = """    let LargestCell::Reached { count, a, beta } = answer else {
+STOPPED = """    let Ok(FoundCell { count, a, beta }) = answer else {
         return None;
     };
     Some(texts::put_line(text, at, b"xor", &[count, a, beta]))
@@ -50,10 +50,10 @@ class Forms(unittest.TestCase):
         self.found("01.forms.2", ROUNDS, "boolean::sign_bit(values[place])", "sign_at(values, place)", "rounds::highest")
 
     def test_a_magnitude_found_after_the_loop(self):
-        self.found("01.forms.2", WALSH, "let size = boolean::magnitude(values[w]);\n        if largest < size {", "let size = size_of(values[w]);\n        if largest < size {")
+        self.found("01.forms.2", WALSH, "largest.max(boolean::magnitude(*value))", "largest.max(size_of(*value))", "walsh::largest_magnitude")
 
     def test_unsigned_values(self):
-        self.found("01.forms.2", WALSH, "table: &[u8], out: &mut [i32]) -> Written", "table: &[u8], out: &mut [u32]) -> Written", "walsh::spectrum")
+        self.found("01.forms.2", WALSH, "table: &[u8], out: &mut [i32]) -> Result", "table: &[u8], out: &mut [u32]) -> Result", "walsh::spectrum")
 
     def test_the_transform_by_the_definition(self):
         start, end = "    if n < 3 {\n        by_definition(n, table, out);\n    } else if n == 3 {", "    by_definition(n, table, out);\n    if n == 3 {"
@@ -91,8 +91,9 @@ class Forms(unittest.TestCase):
         self.found("01.forms.5", WALSH, "copy_four(fixed, first, out, 0);", "by_definition(3, table, out);", "walsh::by_table")
 
     def test_an_answer_taken_apart_otherwise(self):
-        matched = STOPPED.replace("let LargestCell::Reached { count, a, beta } = answer else {", "if let LargestCell::Declined(_) = answer {")
-        self.found("01.forms.7", SHEET, STOPPED, matched, "write_xor")
+        opened = "let Ok(FoundCell { count, a, beta }) = answer else {"
+        self.found("01.forms.7", SHEET, STOPPED, STOPPED.replace(opened, "if let Err(_) = answer {"), "write_xor")
+        self.found("01.forms.7", SHEET, STOPPED, STOPPED.replace(opened, "let Some(FoundCell { count, a, beta }) = answer else {"), "write_xor")
 
     def test_a_line_before_the_answer_is_taken_apart(self):
         call = "    let answer = differential::largest_cell(n, m, rows);\n"
@@ -102,6 +103,13 @@ class Forms(unittest.TestCase):
 
     def test_a_refused_figure_that_goes_on(self):
         self.found("01.forms.7", SHEET, STOPPED, STOPPED.replace("None", "Some(at)"), "does not stop")
+        self.found("01.forms.7", SHEET, STOPPED, STOPPED.replace("return None", "at += 1; return None"), "does not stop")
+
+    def test_a_test_that_is_answered_otherwise(self):
+        yes = "    if yes {\n        Some(texts::put_bytes(text, at, b\"complete yes\\n\"))"
+        self.found("01.forms.7", SHEET, yes, yes.replace("if yes", "if !yes"), "write_complete")
+        self.found("01.forms.7", SHEET, yes, yes.replace("complete yes", "complete no"), "write_complete")
+        self.found("01.forms.7", SHEET, yes, "    texts::put_bytes(text, at, b\"complete\");\n" + yes, "write_complete")
 
     def test_a_line_that_is_not_in_the_list(self):
         old = "    *end = write_sac(n, m, rows, text, *end)?;\n"
@@ -125,12 +133,29 @@ class Forms(unittest.TestCase):
 
     def test_a_method_that_borrows(self):
         self.found("01.forms.9", DESIGN, "pub fn swap(self, ", "pub fn swap(&mut self, ", "by value")
-        self.found("01.forms.9", DESIGN, "pub fn mark(self, k: u32) -> Tuned", "pub fn mark(self, k: u32) -> Written", "gives")
+        self.found("01.forms.9", DESIGN, "pub fn mark(self, k: u32) -> Tuned", "pub fn mark(self, k: u32) -> Result<(), Refusal>", "gives")
         self.found("01.forms.9", DESIGN, "pub struct Tuned {\n    pub design: Design,", "pub struct Tuned {\n    pub rows: [u32; 256],")
 
     def test_a_case_without_a_line(self):
-        self.found("01.forms.10", "crates/linear/specs/Calls.antt", "said_least_pair (Declined e)", "-- (Declined e)", "no line for Declined")
-        self.found("01.forms.10", "crates/swaps/specs/Calls.antt", "said_raising_swap : RaisingSwap → Reply", "said_raising_swap : ℕ → Reply", "RaisingSwap")
+        for file, case in (("linear/specs/Calls", "least_pair (Err e)"), ("linear/specs/Calls", "least_pair (Ok found)"), ("linear/specs/Parts", "part (Ok None)"),
+                           ("server/specs/Calls", "asked (Ok (Some found))"), ("refusals/specs/Table", "verdict (Err e)")):
+            name, _, pattern = case.partition(" ")
+            self.found("01.forms.10", f"crates/{file}.antt", f"said_{case} =", f"-- {pattern} =", f"said_{name} has no line for {pattern[1:].split()[0]}")
+
+    def test_a_type_of_answer_that_nothing_states(self):
+        said = "said_raising_swap : Result (Option Raise) Refusal → Reply"
+        self.found("01.forms.10", "crates/swaps/specs/Calls.antt", said, said.replace("(Option Raise)", "Raise"), "what Result (Option Raise) Refusal of swaps says")
+        said = "said_cell_list : Result ℕ Refusal → Reply"
+        self.found("01.forms.10", "crates/differential/specs/Calls.antt", said, said.replace("Result ℕ Refusal", "ℕ"), "what Result ℕ Refusal of differential says")
+        said = "said_written : Result ⊤ Refusal → Reply"
+        self.found("01.forms.10", "crates/refusals/specs/Table.antt", said, said.replace("Result ⊤ Refusal", "ℕ"), "what Result ⊤ Refusal of walsh says")
+
+    def test_an_answer_of_another_shape(self):
+        self.found("01.forms.10", XOR, "-> Result<FoundCell, Refusal>", "-> Option<(FoundCell, Refusal)>", "no `Result`")
+
+    def test_an_enum_that_holds_a_refusal(self):
+        for enum in ("pub enum Cell {\n    Reached(u32),\n    Declined(Refusal),\n}\n", "enum Cell<T> {\n    Reached(T),\n    Declined(refusals::Refusal),\n}\n"):
+            self.found("01.forms.10", XOR, "mod listing;\n", "mod listing;\n" + enum, "Cell of differential")
 
     def test_a_sweep_at_the_end(self):
         risen = "        running = rise_alone(differences, y, buckets, running);\n    }\n    running\n"

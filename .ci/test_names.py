@@ -155,6 +155,8 @@ class Names(unittest.TestCase):
         self.one_fault("no option --row", page=PAGE + "`--row PART`\n")
 
     def test_the_landings_are_records(self):
+        records = {"docs/PORT.md": "`gone-long-ago`\n", "docs/DESIGN-PASS.md": "`gone-long-ago`\n"}
+        self.assertEqual(names.pages(names.Tree({**FILES, **records})), names.pages(names.Tree(FILES)))
         self.assertNotIn("docs/landings/01-old.md", names.pages(names.Tree(FILES)))
 
     def test_the_table_of_their_names_is_true(self):

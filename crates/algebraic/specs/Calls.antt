@@ -1,10 +1,8 @@
 -- The calls on the normal form, the degree and bijectivity: answers and outcomes. (The normal form's checks are those of any call that
 -- reads a truth table and writes 2^n values: `table_call_checks`.)
-use Rattle.std.specs.Prelude.{Ok, Err}
+use Rattle.std.specs.Prelude.{Ok, Err, Result, ⊤, ℕ, List, [], ◌∷◌, length}
 use Rattle.algebraic.specs.declared.FoundDegree.{FoundDegree}
-use Rattle.std.specs.Prelude.{Result, ⊤}
 use Rattle.refusals.specs.declared.Refusal.{Refusal}
-use Rattle.std.specs.Prelude.{ℕ, List, [], ◌∷◌, length}
 use Rattle.boolean.specs.Functions.{at, normal_form}
 use Rattle.boolean.specs.Selection.{shown}
 use Rattle.refusals.specs.Table.{first, box_checks, limit_checks, table_call_checks, Reply, figures}

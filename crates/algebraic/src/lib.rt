@@ -10,8 +10,7 @@ ghost use Rattle.boolean.specs.Sums.{AnyContent};
 ghost use Rattle.boolean.specs.Functions.{at, normal_form};
 ghost use Rattle.boolean.specs.Selection.{best, lower, first_least, ranked};
 ghost use Rattle.refusals.specs.Table.{said_verdict, Box, Table};
-ghost use Rattle.masks.specs.Masks.{outputs};
-ghost use Rattle.masks.specs.Masks.{Next};
+ghost use Rattle.masks.specs.Masks.{outputs, Next};
 ghost use Rattle.algebraic.specs.Algebraic.{box_degree};
 ghost use Rattle.algebraic.specs.Calls.{FormCalled, said_degree_found, box_degree_reply, bijective_reply};
 ghost use Rattle.algebraic.specs.Work.{degree_at, degree_candidate, degree_of_words, degrees_of, HalvesAdded, Echelon};
@@ -124,6 +123,7 @@ fn insert_word(m: u32, word: u32, basis: &mut [u32; 32]) -> bool
     ensures { WordInserted m word basis.old basis.new result }
 {
     let mut rest = word;
+    // kept: no plainer in another form, since each word is made from the one before
     while rest != 0 {
         let place = rest.ilog2() as usize;
         let here = basis[place];

@@ -1,8 +1,7 @@
 -- The calls on input changes: checks and answers.
 use Rattle.refusals.specs.declared.Refusal.{Refusal}
-use Rattle.std.specs.Prelude.{Result, Ok, Err}
+use Rattle.std.specs.Prelude.{Result, Ok, Err, ℕ, List, [], ◌∷◌, ◌++◌}
 use Rattle.avalanche.specs.declared.FoundChange.{FoundChange}
-use Rattle.std.specs.Prelude.{ℕ, List, [], ◌∷◌, ◌++◌}
 use Rattle.boolean.specs.Selection.{shown}
 use Rattle.refusals.specs.Table.{Check, ◌unless◌, first, in_range, box_checks, limit_checks, Reply, figures, refusal, number, reply_after}
 use Rattle.refusals.specs.Table.{as_figure}

@@ -1,8 +1,7 @@
 -- The autocorrelation and the dynamic distance over a part of the combinations: checks and answers.
 use Rattle.refusals.specs.declared.Refusal.{Refusal}
-use Rattle.std.specs.Prelude.{Result, Ok, Err, Option, Some, None}
+use Rattle.std.specs.Prelude.{Result, Ok, Err, Option, Some, None, ℕ, List, [], ◌∷◌, ◌++◌}
 use Rattle.avalanche.specs.declared.FoundChange.{FoundChange}
-use Rattle.std.specs.Prelude.{ℕ, List, [], ◌∷◌, ◌++◌}
 use Rattle.refusals.specs.Table.{Check, Reply, figures, refusal, number, reply_after, first}
 use Rattle.masks.specs.Parts.{part_lines}
 use Rattle.linear.specs.Nonlinearity.{part_checks}

@@ -494,6 +494,6 @@ pub fn dynamic_distance(
 pub fn is_complete(n: u32, m: u32, rows: &[u32]) -> Result<bool, Refusal>
     ensures { said_verdict result ≡ complete_reply n m rows.now }
 {
-    refusals::check_box(n, m, rows)?;
+    refusals::check_box(n, m, rows)?; // a refused box has no verdict
     Ok(all_complete(n, m, rows))
 }

@@ -1,7 +1,6 @@
 -- What C is given in place of an answer: a number, and an array that is lent for the figures.
-use Rattle.std.specs.Prelude.{Result, Ok, Err, ⊤}
+use Rattle.std.specs.Prelude.{Result, Ok, Err, ⊤, ℕ, true, false, List, [], eqb, length, ◌≡◌}
 use Rattle.refusals.specs.declared.Refusal.{Refusal}
-use Rattle.std.specs.Prelude.{ℕ, true, false, List, [], eqb, length, ◌≡◌}
 use Rattle.refusals.specs.Table.{Check, Reply, figures, refusal, number, first, reply_after, after}
 use Rattle.refusals.specs.declared.Refusal.TheVariants.{WrittenLength}
 

@@ -1,9 +1,7 @@
 -- A box file: n, m in a byte each, then the rows, four bytes each, low byte first.
-use Rattle.std.specs.Prelude.{Ok, Err}
+use Rattle.std.specs.Prelude.{Ok, Err, Result, ⊤, ℕ, ◌+◌, ◌*◌, ◌/◌, ◌%◌, ◌^◌, cond, List, [], ◌∷◌, ◌++◌, leb, eqb, length}
 use Rattle.refusals.specs.declared.BoxWidths.{BoxWidths}
-use Rattle.std.specs.Prelude.{Result, ⊤}
 use Rattle.refusals.specs.declared.Refusal.{Refusal}
-use Rattle.std.specs.Prelude.{ℕ, ◌+◌, ◌*◌, ◌/◌, ◌%◌, ◌^◌, cond, List, [], ◌∷◌, ◌++◌, leb, eqb, length}
 use Rattle.boolean.specs.Sums.{list_below, each}
 use Rattle.boolean.specs.Functions.{at}
 use Rattle.refusals.specs.Table.{Check, ◌unless◌, first, in_range, all_below, box_checks}

@@ -110,6 +110,7 @@ pub fn read_box(file: &[u8], rows: &mut [u32]) -> Result<BoxWidths, Refusal>
 }
 
 // How many rows the file's n asks for; 0 where there is no n, or none that a box has, and the room then does not matter.
+// kept: 0 and no None, since the clause of this public function says so (`room_of`).
 pub fn room_of(file: &[u8]) -> usize
     ensures { (result ≡ room_of file.now) × (result ≤ 256) }
 {

@@ -1,6 +1,5 @@
 -- Document 02 §7, the rules of a catalogue one by one. `valid` is the test that computes; it holds exactly of the buffers that keep these.
-use Rattle.std.specs.Prelude.{Ok}
-use Rattle.std.specs.Prelude.{ℕ, ◌+◌, ◌*◌, ◌≤◌, ◌<◌, ◌≡◌, List, length}
+use Rattle.std.specs.Prelude.{Ok, ℕ, ◌+◌, ◌*◌, ◌≤◌, ◌<◌, ◌≡◌, List, length}
 use Rattle.boolean.specs.Functions.{at}
 use Rattle.boxfile.specs.File.{file_found}
 use Rattle.catalogue.specs.Format.{part, count, place_at}

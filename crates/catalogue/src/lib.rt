@@ -113,13 +113,15 @@ fn is_valid(b: &[u8]) -> bool
 }
 
 // Checks a catalogue: the number of its records.
+#[tactic(auto, unfolding(refusals::specs::Table::first, crate::specs::Calls::catalogue_checks, crate::specs::Format::count))]
 pub fn check(catalogue: &[u8]) -> Result<u32, Refusal>
     ensures { said_told result ≡ check_reply catalogue.now }
 {
-    if !is_valid(catalogue) {
-        return Err(Refusal::Catalogue);
+    if is_valid(catalogue) {
+        Ok(word_at(catalogue, 0) as u32)
+    } else {
+        Err(Refusal::Catalogue)
     }
-    Ok(word_at(catalogue, 0) as u32)
 }
 
 // The checks of a call that names a record.
@@ -139,7 +141,7 @@ fn check_index(b: &[u8], index: u32) -> Result<(), Refusal>
 pub fn fetch_status(catalogue: &[u8], index: u32) -> Result<Extent, Refusal>
     ensures { said_fetched result ≡ fetch_reply catalogue.now index }
 {
-    check_index(catalogue, index)?;
+    check_index(catalogue, index)?; // a record that is not there has no place
     let k = index as usize;
     let offset = word_at(catalogue, 4 * k + 2);
     let size = word_at(catalogue, 4 * k + 4);

@@ -1,7 +1,6 @@
 -- Column addition: an affine function is added to one column of a box; a call's checks and outcome, and lists of additions.
-use Rattle.std.specs.Prelude.{Result, ⊤}
+use Rattle.std.specs.Prelude.{Result, ⊤, ℕ, ◌-◌, ◌*◌, ◌^◌, List, [], ◌∷◌, ◌++◌, ltb, eqb, length}
 use Rattle.refusals.specs.declared.Refusal.{Refusal}
-use Rattle.std.specs.Prelude.{ℕ, ◌-◌, ◌*◌, ◌^◌, List, [], ◌∷◌, ◌++◌, ltb, eqb, length}
 use Rattle.std.specs.Int.Bits.{bit_xor}
 use Rattle.boolean.specs.Bits.{affine}
 use Rattle.boolean.specs.Sums.{list_below}

@@ -1,6 +1,5 @@
 -- Calls of `columns::add_to_column` one after the other, of which theorems speak.
-use Rattle.std.specs.Prelude.{Ok, Err}
-use Rattle.std.specs.Prelude.{ℕ, List, [], ◌∷◌}
+use Rattle.std.specs.Prelude.{Ok, Err, ℕ, List, [], ◌∷◌}
 use Rattle.refusals.specs.declared.Refusal.{Refusal}
 use Rattle.columns.specs.Addition.{Addition, AdditionCalled}
 

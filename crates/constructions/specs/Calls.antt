@@ -1,7 +1,6 @@
 -- The three constructions: their checks, in the order of document 01's table, all lengths before any value; and their outcomes.
-use Rattle.std.specs.Prelude.{Result, ⊤}
+use Rattle.std.specs.Prelude.{Result, ⊤, ℕ, suc, ◌/◌, ◌%◌, ◌^◌, ◌&&◌, List, [], ◌∷◌, ltb, eqb, length}
 use Rattle.refusals.specs.declared.Refusal.{Refusal}
-use Rattle.std.specs.Prelude.{ℕ, suc, ◌/◌, ◌%◌, ◌^◌, ◌&&◌, List, [], ◌∷◌, ltb, eqb, length}
 use Rattle.refusals.specs.Table.{Check, ◌unless◌, in_range, all_below, Wrote, said_written}
 use Rattle.refusals.specs.declared.Refusal.TheVariants.{InputWidth, ReadLength, Value, Permutation, Parameter, WrittenLength}
 use Rattle.constructions.specs.Enlargement.{enlarged_table, enlarged_rows}

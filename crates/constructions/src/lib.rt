@@ -108,6 +108,7 @@ fn box_row(n: u32, rows: &[u32], table: &[u8], k: u32, x: usize) -> u32
 }
 
 // The rows of the enlarged box, written to an array that is as long.
+// kept: beside `write_column`. One function of both would take the value at x as a closure, and is no plainer than two loops of one line.
 fn write_box(n: u32, rows: &[u32], table: &[u8], k: u32, out: &mut [u32])
     requires { EnlargesBox n rows.now table.now k × (length out.old ≡ 2 ^ suc n) }
     ensures { out.new ≡ enlarged_rows n rows.now table.now k }
@@ -147,7 +148,14 @@ fn check_enlarge(n: u32, rows: &[u32], table: &[u8], k: u32, room: usize) -> Res
 }
 
 // A box of n + 1 inputs and outputs from a box of n and a truth table, which makes the new top bit.
-pub fn enlarge_box(n: u32, rows: &[u32], table: &[u8], k: u32, out: &mut [u32]) -> Result<(), Refusal>
+// kept: beside `enlarge_column`, since each calls its own checks and loop: one function would share no more than the order of its lines.
+pub fn enlarge_box(
+    n: u32,
+    rows: &[u32],
+    table: &[u8],
+    k: u32,
+    out: &mut [u32],
+) -> Result<(), Refusal>
     ensures { BoxCalled n rows.now table.now k out.old result out.new }
 {
     check_enlarge(n, rows, table, k, out.len())?;
@@ -220,7 +228,12 @@ fn check_bent(n: u32, permutation: &[u8], table: &[u8], room: usize) -> Result<(
 }
 
 // The bent function of n = 2h inputs that a permutation of 0 to 2^h - 1 and a table of 2^h truth values make.
-pub fn bent_function(n: u32, permutation: &[u8], table: &[u8], out: &mut [u8]) -> Result<(), Refusal>
+pub fn bent_function(
+    n: u32,
+    permutation: &[u8],
+    table: &[u8],
+    out: &mut [u8],
+) -> Result<(), Refusal>
     ensures { BentCalled n permutation.now table.now out.old result out.new }
 {
     check_bent(n, permutation, table, out.len())?;

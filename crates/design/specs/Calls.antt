@@ -1,9 +1,8 @@
 -- What the code's design stands for, what a design holds that its own calls made, and what each call does, which is its contract and what a
 -- theorem on it assumes.
 use Rattle.refusals.specs.declared.Refusal.{Refusal}
-use Rattle.std.specs.Prelude.{Result, Ok, Err}
+use Rattle.std.specs.Prelude.{Result, Ok, Err, ℕ, ◌^◌, ◌≡◌, Bool, true, false, List, [], ◌∷◌, eqb, length, take, replicate}
 use Rattle.refusals.specs.declared.BoxWidths.{BoxWidths}
-use Rattle.std.specs.Prelude.{ℕ, ◌^◌, ◌≡◌, Bool, true, false, List, [], ◌∷◌, eqb, length, take, replicate}
 use Rattle.design.specs.declared.Snapshot.{Snapshot}
 use Rattle.design.specs.declared.Design.{Design}
 use Rattle.refusals.specs.Table.{Check, first, box_checks, Reply, figures, refusal, number, reply_after, Wrote, filled}

@@ -16,6 +16,7 @@ use refusals::{BoxWidths, Refusal};
 #[repr(C)]
 #[derive(Clone, Copy)]
 pub struct Snapshot {
+    // kept: a number, since C hands the struct in (the C interface)
     pub taken: u32,
     pub rows: [u32; 256],
 }
@@ -70,7 +71,7 @@ impl Design {
             };
             return declined(design, e);
         }
-        boolean::copy(rows, &mut held[..rows.len()]);
+        held[..rows.len()].copy_from_slice(rows);
         let design = Design {
             n,
             m,
@@ -192,7 +193,7 @@ impl Design {
         if rows.len() != size {
             return Err(Refusal::WrittenLength);
         }
-        boolean::copy(&all[..size], rows);
+        rows.copy_from_slice(&all[..size]);
         Ok(BoxWidths { n, m: self.m })
     }
 }

@@ -1,9 +1,7 @@
 -- The calls on the XOR table: checks, answers and outcomes.
-use Rattle.std.specs.Prelude.{Ok, Err}
+use Rattle.std.specs.Prelude.{Ok, Err, Result, ⊤, ℕ, ◌-◌, ◌^◌, List, [], ◌∷◌, ◌++◌, eqb, leb, length, drop}
 use Rattle.differential.specs.declared.FoundCell.{FoundCell}
-use Rattle.std.specs.Prelude.{Result, ⊤}
 use Rattle.refusals.specs.declared.Refusal.{Refusal}
-use Rattle.std.specs.Prelude.{ℕ, ◌-◌, ◌^◌, List, [], ◌∷◌, ◌++◌, eqb, leb, length, drop}
 use Rattle.boolean.specs.Selection.{shown}
 use Rattle.refusals.specs.Table.{Check, ◌unless◌, first, in_range, box_checks_up_to, box_checks, Reply}
 use Rattle.refusals.specs.Table.{figures, refusal, number, reply_after, Wrote, said_written}

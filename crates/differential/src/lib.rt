@@ -253,7 +253,7 @@ pub fn largest_cell(n: u32, m: u32, rows: &[u32]) -> Result<FoundCell, Refusal>
 pub fn largest_cells(n: u32, m: u32, rows: &[u32], list: &mut [u64]) -> Result<u32, Refusal>
     ensures { ListCalled n m rows.now list.old result list.new }
 {
-    refusals::check_box(n, m, rows)?;
+    refusals::check_box(n, m, rows)?; // the room for the list is looked at once the cells are counted
     let mut measured = [RowLargest {
         standing: 0,
         cells: 0,

@@ -1,8 +1,6 @@
 -- The calls on components: checks, answers and outcomes.
-use Rattle.std.specs.Prelude.{Ok, Err}
-use Rattle.std.specs.Prelude.{Result, ⊤}
+use Rattle.std.specs.Prelude.{Ok, Err, Result, ⊤, ℕ, ◌-◌, ◌^◌, List, [], ◌∷◌, ◌++◌, eqb, ℤ, length}
 use Rattle.refusals.specs.declared.Refusal.{Refusal}
-use Rattle.std.specs.Prelude.{ℕ, ◌-◌, ◌^◌, List, [], ◌∷◌, ◌++◌, eqb, ℤ, length}
 use Rattle.boolean.specs.Functions.{component, spectrum}
 use Rattle.refusals.specs.Table.{Check, ◌unless◌, in_range, box_checks, Reply, figures, refusal, number, Wrote, said_written}
 use Rattle.refusals.specs.declared.Refusal.TheVariants.{Parameter, WrittenLength}

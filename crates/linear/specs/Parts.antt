@@ -1,8 +1,7 @@
 -- The calls on a part of the combinations: their answers.
 use Rattle.refusals.specs.declared.Refusal.{Refusal}
-use Rattle.std.specs.Prelude.{Result, Ok, Err, Option, Some, None}
+use Rattle.std.specs.Prelude.{Result, Ok, Err, Option, Some, None, [], ◌∷◌}
 use Rattle.linear.specs.declared.Found.{Found}
-use Rattle.std.specs.Prelude.{[], ◌∷◌}
 use Rattle.refusals.specs.Table.{Reply, figures, refusal, number}
 
 -- what the answer over a part says: the figure, c, w and b, or no figure, or the number of the refusal

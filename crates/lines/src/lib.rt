@@ -52,6 +52,7 @@ pub fn read_full<R: Read>(input: &mut R, buffer: &mut [u8]) -> usize
     ensures bytes { Consumes (R.remaining input.old) (R.remaining input.new) (take result buffer.new) }
 {
     let mut count = 0;
+    // kept: no plainer in another form, since only the read says how many bytes come
     while count < buffer.len() {
         match input.read(&mut buffer[count..]) {
             Ok(0) | Err(_) => break,

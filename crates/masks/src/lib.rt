@@ -33,6 +33,7 @@ pub fn first_mask(limit: u32, c: u64) -> u64
     ensures { FirstFrom limit c result }
 {
     let mut r = c;
+    // kept: no plainer in another form, since each mask is made from the one before
     while limit < u64::count_ones(r) {
         r = next_mask(u64::count_ones(r), r);
     }

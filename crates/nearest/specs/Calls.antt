@@ -1,7 +1,6 @@
 -- The call for all nearest pairs: checks, answer and outcome.
 use Rattle.refusals.specs.declared.Refusal.{Refusal}
-use Rattle.std.specs.Prelude.{Result, Ok, Err}
-use Rattle.std.specs.Prelude.{ℕ, List, [], ◌∷◌, ◌++◌, leb, length}
+use Rattle.std.specs.Prelude.{Result, Ok, Err, ℕ, List, [], ◌∷◌, ◌++◌, leb, length}
 use Rattle.refusals.specs.Table.{Check, ◌unless◌, limit_checks, Reply, figures, refusal, number, Wrote}
 use Rattle.refusals.specs.declared.Refusal.TheVariants.{ListTooShort}
 use Rattle.differential.specs.Calls.{list_after}

@@ -1,7 +1,6 @@
 -- Document 02 §8: a box as packed columns, the rows that packed columns stand for, and the checks and outcomes of both calls.
-use Rattle.std.specs.Prelude.{Result, ⊤}
+use Rattle.std.specs.Prelude.{Result, ⊤, ℕ, ◌+◌, ◌-◌, ◌*◌, ◌/◌, ◌%◌, ◌^◌, min, max, List, [], ◌∷◌, ◌++◌, eqb, length}
 use Rattle.refusals.specs.declared.Refusal.{Refusal}
-use Rattle.std.specs.Prelude.{ℕ, ◌+◌, ◌-◌, ◌*◌, ◌/◌, ◌%◌, ◌^◌, min, max, List, [], ◌∷◌, ◌++◌, eqb, length}
 use Rattle.boolean.specs.Bits.{bit}
 use Rattle.boolean.specs.Sums.{total_below, list_below}
 use Rattle.boolean.specs.Functions.{at, column}

@@ -220,6 +220,7 @@ fn check_unpack(n: u32, m: u32, bytes: &[u8], room: usize) -> Result<(), Refusal
 }
 
 // The rows of packed columns.
+// kept: beside `pack`, since checks, arrays and contract are others: one function of both would share no more than the order of its lines.
 pub fn unpack(n: u32, m: u32, packed: &[u8], out: &mut [u32]) -> Result<(), Refusal>
     ensures { UnpackCalled n m packed.now out.old result out.new }
 {

@@ -1,6 +1,7 @@
 -- What is shown of an addition and of a file is what is shown of the calls' answers and of the rows that they left.
 use Rattle.std.specs.Prelude.{Result, ⊤}
 use Rattle.refusals.specs.declared.Refusal.{Refusal}
+use Rattle.refusals.specs.declared.BoxWidths.{BoxWidths}
 use lib.Seq.{drop-drop}
 use borrow.Author.Tests.{le-leb, lt-leb}
 use Rattle.std.proofs.Common.{◌≡◌, ℕ, zero, suc, ◌+◌, ◌-◌, ◌*◌, ◌<◌, ◌≤◌, min, cond, List, [], ◌∷◌, ◌++◌, length, take, drop, length-drop, refl, sym, ap, ◌∙◌, arith}
@@ -9,7 +10,6 @@ use Rattle.refusals.specs.Table.{first, reply_after, said_written}
 use Rattle.lines.specs.Lines.{refused_text, shown_reply}
 use Rattle.lines.proofs.Texts.{shown_wrote}
 use Rattle.columns.specs.Addition.{addition_checks, added_rows, AdditionCalled}
-use Rattle.boxfile.specs.declared.BoxFile.{BoxFile}
 use Rattle.boxfile.specs.File.{room_of, file_checks, file_rows, said_box_file, ReadCalled}
 use Rattle.published.specs.Printed.{addition_shown, box_shown, box_file_shown, file_end, boxes_shown}
 
@@ -20,7 +20,7 @@ addition_is of_rows of_refusal n m rows j w b lent left answer e called =
     shown_wrote (λ _ rows. of_rows rows) of_refusal called
     ∙ ap (λ (room : ℕ). shown_reply (λ _ rows. of_rows rows) of_refusal (reply_after (first (addition_checks n m rows j w b room)) []) (added_rows j w b rows)) e
 
-pub file_is : (file : List ℕ) (room : ℕ) (lent left : List ℕ) (answer : BoxFile) → length lent ≡ room → ReadCalled file lent answer left
+pub file_is : (file : List ℕ) (room : ℕ) (lent left : List ℕ) (answer : Result BoxWidths Refusal) → length lent ≡ room → ReadCalled file lent answer left
     → shown_reply (λ widths rows. box_shown (at widths 0) (at widths 1) rows) refused_text (said_box_file answer) left ≡ box_file_shown file room
 unfolding box_file_shown
 file_is file room lent left answer e called =

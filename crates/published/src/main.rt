@@ -176,6 +176,7 @@ fn show_boxes<W: Write>(out: &mut W, bytes: &[u8]) -> io::Result<()>
     ensures { OnOk result (Appends (W.contents out.old) (W.contents out.new) (boxes_shown (length bytes.now) bytes.now)) }
 {
     let mut from = 0;
+    // kept: no plainer in another form, since where a box ends stands in its own first byte
     while from + 2 <= bytes.len() {
         let size = boxfile::room_of(&bytes[from..]);
         let start = from + 2;
@@ -187,6 +188,7 @@ fn show_boxes<W: Write>(out: &mut W, bytes: &[u8]) -> io::Result<()>
 }
 
 // Of a longer input no more than the first 65,536 bytes are read.
+// kept: as in `boxsheet`, since each program has a `main` of its own.
 fn main(rt: HostRuntime) -> io::Result<()> {
     let mut buffer = [0u8; 65536];
     let count = lines::read_full(&mut rt.stdin(), &mut buffer);

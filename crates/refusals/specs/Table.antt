@@ -1,5 +1,6 @@
 -- Documents 01, "Where a call stops", and 02: the numbers, the checks in their order, and what a call replies and leaves.
-use Rattle.std.specs.Prelude.{Result, Ok, Err, ⊤, ℕ, ◌^◌, ◌≤◌, ◌<◌, ◌≡◌, List, [], ◌∷◌, ◌++◌, Bool, true, false, ◌&&◌, length, drop, replicate, ltb, leb, eqb}
+use Rattle.std.specs.Prelude.{Result, Ok, Err, ⊤}
+use Rattle.std.specs.Prelude.{ℕ, ◌^◌, ◌≤◌, ◌<◌, ◌≡◌, List, [], ◌∷◌, ◌++◌, Bool, true, false, ◌&&◌, length, drop, replicate, ltb, leb, eqb}
 use Rattle.boolean.specs.Sums.{every}
 use Rattle.boolean.specs.Functions.{at}
 use Rattle.refusals.specs.declared.Refusal.{Refusal}

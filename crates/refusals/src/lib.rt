@@ -1,4 +1,4 @@
-// The numbered refusals, the checks that many calls share, and the answer of a call that only writes.
+// The numbered refusals, which calls answer as errors, the checks that many calls share, and the widths that some answer with.
 #![tactic(auto)]
 
 ghost use Rattle.std.specs.Prelude.{◌≡◌, ◌≤◌, length};
@@ -38,6 +38,7 @@ pub struct BoxWidths {
 }
 
 // The number of a refusal, as documents 01 and 02 give it.
+// kept: the numbers are the documents', and C is given them (the C interface): a cast would give the places of the cases.
 pub fn number_of(e: Refusal) -> u32
     ensures { result ≡ number e }
 {
@@ -75,17 +76,13 @@ pub fn in_range(lo: u32, hi: u32, a: u32) -> bool
 }
 
 // The largest row, and 0 where there is none.
+#[tactic(auto, unfolding(boolean::specs::Sums::largest_below))]
 fn largest_row(rows: &[u32]) -> u32
     ensures { result ≡ largest_below (length rows.now) (at rows.now) }
 {
     let mut most = 0;
-    let mut i = 0;
-    while i < rows.len() {
-        let row = rows[i];
-        if most < row {
-            most = row;
-        }
-        i += 1;
+    for row in rows {
+        most = most.max(*row);
     }
     most
 }
@@ -106,14 +103,7 @@ pub fn rows_below(rows: &[u32], limit: usize) -> bool
 pub fn values_below(table: &[u8], limit: usize) -> bool
     ensures { result ≡ all_below limit table.now }
 {
-    let mut i = 0;
-    while i < table.len() {
-        if limit <= table[i] as usize {
-            return false;
-        }
-        i += 1;
-    }
-    true
+    table.iter().all(|value| (*value as usize) < limit)
 }
 
 // The checks 1 to 4 of a box where at most `most` outputs are taken.

@@ -15,7 +15,8 @@ summands_of w rows1 rows2 rows3 rows4 =
 
 -- what the answer says, for this count of boxes: the figure, c, a mask for each box and b, or the number of the refusal
 abbrev pub said_least_sum : (count : ℕ) (answer : Result NearestSum Refusal) → Reply
-said_least_sum count (Ok found) = figures (found.figure ∷ found.c ∷ (take count (found.w1 ∷ found.w2 ∷ found.w3 ∷ found.w4 ∷ []) ++ (found.b ∷ [])))
+said_least_sum count (Ok found) =
+    figures (found.figure ∷ found.c ∷ (take count (found.w1 ∷ found.w2 ∷ found.w3 ∷ found.w4 ∷ []) ++ (found.b ∷ [])))
 said_least_sum count (Err e) = refusal (number e)
 
 -- the answer's masks past that number are 0

@@ -9,7 +9,8 @@ use Rattle.masks.specs.Parts.{merged_reply}
 -- what the answer over a part says, for this count of boxes: the figure, c, a mask for each box and b, or no figure, or the number of the
 -- refusal
 abbrev pub said_part_sum : (count : ℕ) (answer : Result (Option NearestSum) Refusal) → Reply
-said_part_sum count (Ok (Some found)) = figures (found.figure ∷ found.c ∷ (take count (found.w1 ∷ found.w2 ∷ found.w3 ∷ found.w4 ∷ []) ++ (found.b ∷ [])))
+said_part_sum count (Ok (Some found)) =
+    figures (found.figure ∷ found.c ∷ (take count (found.w1 ∷ found.w2 ∷ found.w3 ∷ found.w4 ∷ []) ++ (found.b ∷ [])))
 said_part_sum count (Ok None) = figures []
 said_part_sum count (Err e) = refusal (number e)
 

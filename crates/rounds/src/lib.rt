@@ -80,8 +80,8 @@ struct FoundNearest {
 }
 
 // The first nearest pair of a sum, as the calls answer it: the figure, c, a mask for each box (0 past the number given) and b.
-// kept: four fields and no array, since `one_answer` and `one_part_answer` say that every answer with this reply is the same, and a list in an
-// answer of any length is not.
+// kept: four fields and no array, since `one_answer` and `one_part_answer` say that all answers with the same reply are one, which is not
+// so where a list in an answer may have any length.
 #[derive(Clone, Copy)]
 pub struct NearestSum {
     pub figure: u32,
@@ -192,6 +192,7 @@ fn sweep(
     let mut found = Found { size: 0, c: 0 };
     let mut c = first as u64;
     let mut before = c - 1;
+    // kept: the next mask within the limit is not the next number, so that no range has the masks in turn
     while c < end {
         let mask = c as u32;
         let size = product_at(fixed, boxes, work, before, c, out);

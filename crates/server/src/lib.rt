@@ -23,6 +23,7 @@ use refusals::Refusal;
 #[repr(C)]
 #[derive(Clone, Copy)]
 pub struct Place {
+    // kept: a number, since C hands the struct in (the C interface)
     pub taken: u32,
     pub n: u32,
     pub m: u32,

@@ -1,6 +1,5 @@
 pub mod Printing
 pub mod Outcomes
-pub mod Verdicts
 pub mod Sheets
 pub mod Theorems
 pub mod Example

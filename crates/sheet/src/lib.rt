@@ -125,6 +125,7 @@ fn write_complete(n: u32, m: u32, rows: &[u32], text: &mut [u8], at: usize) -> O
     }
 }
 
+// kept: beside `write_complete`, since call, words and room differ: one function of both would take all three, and is no plainer.
 fn write_bijective(n: u32, m: u32, rows: &[u32], text: &mut [u8], at: usize) -> Option<usize>
     requires { at + 14 ≤ length text.old }
     ensures { LineWritten (decided "bijective" (bijective_reply n m rows.now))

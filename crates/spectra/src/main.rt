@@ -27,6 +27,7 @@ fn line_end(text: &[u8], from: usize) -> usize
 }
 
 // The largest width whose tables are no longer than this; 0 where there is none, and 8 at most.
+// kept: 0 and no None, since `width_of` of the clause says so.
 fn width_of(length: usize) -> u32
     ensures { result ≡ width_of length }
 {
@@ -128,6 +129,7 @@ fn show_lines<W: Write>(out: &mut W, text: &[u8]) -> io::Result<()>
     ensures { OnOk result (Appends (W.contents out.old) (W.contents out.new) (lines_shown text.now)) }
 {
     let mut from = 0;
+    // kept: the clause cuts the text line by line, by the end that `line_end` finds (`lines_shown`)
     while from < text.len() {
         let end = line_end(text, from);
         show_line(out, &text[from..end])?;

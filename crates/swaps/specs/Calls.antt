@@ -1,8 +1,7 @@
 -- The answer of the call.
 use Rattle.refusals.specs.declared.Refusal.{Refusal}
-use Rattle.std.specs.Prelude.{Result, Ok, Err, Option, Some, None}
+use Rattle.std.specs.Prelude.{Result, Ok, Err, Option, Some, None, [], ◌∷◌}
 use Rattle.swaps.specs.declared.Raise.{Raise}
-use Rattle.std.specs.Prelude.{[], ◌∷◌}
 use Rattle.refusals.specs.Table.{Reply, figures, refusal, number}
 
 -- what the answer says: 1, both inputs and the new figure; four zeros for "none"; or the number of the refusal

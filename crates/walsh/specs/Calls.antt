@@ -1,7 +1,6 @@
 -- The two spectrum calls: their checks, in the order of document 01's table, and their outcomes.
-use Rattle.std.specs.Prelude.{Result, ⊤}
+use Rattle.std.specs.Prelude.{Result, ⊤, ℕ, ◌^◌, List, [], ◌∷◌, ◌++◌, eqb, ℤ, length}
 use Rattle.refusals.specs.declared.Refusal.{Refusal}
-use Rattle.std.specs.Prelude.{ℕ, ◌^◌, List, [], ◌∷◌, ◌++◌, eqb, ℤ, length}
 use Rattle.boolean.specs.Sums.{list_below}
 use Rattle.boolean.specs.Functions.{at, value_at, spectrum, inverse, is_spectrum}
 use Rattle.refusals.specs.Table.{Check, ◌unless◌, in_range, table_call_checks, Wrote, said_written}

@@ -127,7 +127,7 @@ pub fn spectra() -> [i16; 2048]
     fixed::spectra()
 }
 
-// The transform of sixteen values or fewer, by the one that is written out for that number; one value is its own transform.
+// The transform of sixteen values or fewer, by the block of that length; one value is its own transform.
 fn transform_at_once(n: u32, values: &mut [i32])
     requires { (n < 5) × Summable n values.old }
     ensures { values.new ≡ list_below (2 ^ n) (λ w. functions.transform n (value_at values.old) w) }
@@ -180,28 +180,14 @@ pub fn spectrum(n: u32, table: &[u8], out: &mut [i32]) -> Result<(), Refusal>
 fn all_within(values: &[i32], limit: u32) -> bool
     ensures { result ≡ every (λ v. leb (nat_abs v) limit) values.now }
 {
-    let mut k = 0;
-    while k < values.len() {
-        if limit < boolean::magnitude(values[k]) {
-            return false;
-        }
-        k += 1;
-    }
-    true
+    values.iter().all(|v| boolean::magnitude(*v) <= limit)
 }
 
 // Whether every magnitude is the size.
 fn all_full(values: &[i32], size: u32) -> bool
     ensures { result ≡ every (λ v. eqb (nat_abs v) size) values.now }
 {
-    let mut k = 0;
-    while k < values.len() {
-        if boolean::magnitude(values[k]) != size {
-            return false;
-        }
-        k += 1;
-    }
-    true
+    values.iter().all(|v| boolean::magnitude(*v) == size)
 }
 
 // The largest magnitude of some values, and 0 of none.
@@ -209,18 +195,14 @@ pub fn largest_magnitude(values: &[i32]) -> u32
     ensures { result ≡ largest_magnitude values.now }
 {
     let mut largest: u32 = 0;
-    let mut w = 0;
-    while w < values.len() {
-        let size = boolean::magnitude(values[w]);
-        if largest < size {
-            largest = size;
-        }
-        w += 1;
+    for value in values {
+        largest = largest.max(boolean::magnitude(*value));
     }
     largest
 }
 
 // The first place of a magnitude, and the number of values where none has it.
+// kept: the length and no None, since the clause of this public function says so (`FirstOfMagnitude`).
 pub fn first_place(values: &[i32], size: u32) -> usize
     ensures { FirstOfMagnitude values.now size result }
 {
@@ -232,27 +214,13 @@ pub fn first_place(values: &[i32], size: u32) -> usize
     values.len()
 }
 
-// The values, copied.
-fn copy(values: &[i32], work: &mut [i32])
-    requires { length work.old ≡ length values.now }
-    ensures { work.new ≡ values.now }
-{
-    let mut k = 0;
-    while k < values.len() {
-        work[k] = values[k];
-        k += 1;
-    }
-}
-
 // The signs of the values as truth values.
 fn write_signs(values: &[i32], table: &mut [u8])
     requires { length table.old ≡ length values.now }
     ensures { table.new ≡ list_below (length values.now) (λ x. sign_bit (value_at values.now x)) }
 {
-    let mut x = 0;
-    while x < values.len() {
-        table[x] = boolean::sign_bit(values[x]);
-        x += 1;
+    for (x, value) in values.iter().enumerate() {
+        table[x] = boolean::sign_bit(*value);
     }
 }
 
@@ -282,7 +250,7 @@ fn invert(n: u32, values: &[i32], work: &mut [i32], table: &mut [u8]) -> Result<
         (list_below (2 ^ n) (λ x. inverse n (value_at values.now) x)) table.old (said_written result) table.new }
     ensures transformed { work.new ≡ list_below (2 ^ n) (λ x. functions.transform n (value_at values.now) x) }
 {
-    copy(values, work);
+    work.copy_from_slice(values);
     transform(n, work);
     if !all_full(work, boolean::power_of_two(n - 1) as u32) {
         return Err(Refusal::NoFunction);

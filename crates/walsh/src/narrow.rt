@@ -83,13 +83,8 @@ fn largest_magnitude(values: &[i16]) -> u16
     ensures { result ≡ largest_magnitude values.now }
 {
     let mut largest: u16 = 0;
-    let mut w = 0;
-    while w < values.len() {
-        let size = magnitude(values[w]);
-        if largest < size {
-            largest = size;
-        }
-        w += 1;
+    for value in values {
+        largest = largest.max(magnitude(*value));
     }
     largest
 }
@@ -100,13 +95,8 @@ fn largest_sum(values: &[i16], h: usize) -> u16
     ensures { result ≡ largest_sum h values.now }
 {
     let mut largest: u16 = 0;
-    let mut k = 0;
-    while k < h {
-        let size = magnitude(values[k]) + magnitude(values[h + k]);
-        if largest < size {
-            largest = size;
-        }
-        k += 1;
+    for k in 0..h {
+        largest = largest.max(magnitude(values[k]) + magnitude(values[h + k]));
     }
     largest
 }
@@ -124,7 +114,7 @@ fn peak_of_halves<B: Spectral>(fixed: &[i16; 2048], table: &[u8], work: &mut [i1
     largest_sum(work, h)
 }
 
-// The largest magnitude in the spectrum of an accepted table. Up to five inputs, where little time goes, the whole spectrum is made.
+// The largest magnitude in the spectrum of an accepted table. Up to three inputs, where little time goes, the whole spectrum is made.
 pub fn peak(fixed: &[i16; 2048], n: u32, table: &[u8], work: &mut [i16]) -> u16
     requires { Ready n table.now work.old × Spectra fixed.now }
     ensures { (result ≡ largest_magnitude (functions.spectrum n (at table.now)))
