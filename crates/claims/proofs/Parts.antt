@@ -3,7 +3,8 @@
 -- `avalanche::merge_changes` and `rounds::merge_sums` make one answer of the answers of two parts. A designer may cut 1 to 2^m − 1 as he likes, run the parts where and when he likes, some of them twice, and merge in
 -- any order: what comes out is the reply of the plain call, over every combination within its limit. It is document 01's "Combinations may
 -- be visited in any order without effect on any answer" of calls that each visit some of them.
-use Rattle.std.specs.Prelude.{Ok}
+use Rattle.std.specs.Prelude.{Result, Ok, Option, Some, None}
+use Rattle.refusals.specs.declared.Refusal.{Refusal}
 use Prim.Native.Nat.{ℕ, ◌^◌, ◌≤◌, ◌<◌}
 use mathlib.Core.Path.{◌≡◌, refl}
 use mathlib.Core.Logic.{◌↔◌}
@@ -21,23 +22,20 @@ use Rattle.masks.specs.Statements.{MaskBetween, Cut, Gathered, Covered, replies}
 use Rattle.linear.specs.Nonlinearity.{nonlinearity_reply, nonlinearity_between, nonlinearity_between_reply, part_checks}
 use Rattle.linear.specs.Parts.{said_part}
 use Rattle.linear.specs.Statements.{NonlinearityBetweenReported, nonlinearity_cut}
-use Rattle.linear.specs.declared.PartPair.{PartPair}
-use Rattle.linear.specs.declared.PartPair.TheVariants.{Reached as pair_reached, Nothing as pair_nothing}
+use Rattle.linear.specs.declared.Found.{Found}
 use Rattle.linear.proofs.Gathering as pairs
 use Rattle.linear.proofs.PartReports as pair_reports
 use Rattle.avalanche.specs.Avalanche.{autocorrelation_between, distance_between}
 use Rattle.avalanche.specs.Calls.{autocorrelation_reply, distance_reply}
 use Rattle.avalanche.specs.Parts.{said_part_change, distance_part_checks, autocorrelation_between_reply, distance_between_reply}
 use Rattle.avalanche.specs.Statements.{AutocorrelationBetweenReported, DistanceBetweenReported, autocorrelation_cut, distance_cut}
-use Rattle.avalanche.specs.declared.PartChange.{PartChange}
-use Rattle.avalanche.specs.declared.PartChange.TheVariants.{Reached as change_reached, Nothing as change_nothing}
+use Rattle.avalanche.specs.declared.FoundChange.{FoundChange}
 use Rattle.avalanche.proofs.Gathering as changes
 use Rattle.avalanche.proofs.PartReports as change_reports
 use Rattle.rounds.specs.Round.{Summand, first_given, outputs_of, sum_reply, sum_between, sum_part_checks, sum_between_reply}
 use Rattle.rounds.specs.Parts.{said_part_sum}
 use Rattle.rounds.specs.Statements.{SumBetweenReported, sum_cut_reply}
-use Rattle.rounds.specs.declared.PartSum.{PartSum}
-use Rattle.rounds.specs.declared.PartSum.TheVariants.{Reached as sum_reached, Nothing as sum_nothing}
+use Rattle.rounds.specs.declared.NearestSum.{NearestSum}
 use Rattle.rounds.proofs.Gathering as sums
 use Rattle.rounds.proofs.PartReports as sum_reports
 use Rattle.claims.specs.Lines.{each_box_lines, EachOutputs}
@@ -166,15 +164,15 @@ module _ (n m : ℕ) (rows : List ℕ) (i : ℕ) {covers : ℕ → Bool} (all : 
   distance_by_tree j t = changes.distance_whole n m rows i j t all
 
   -- [parts.7] and of the answers themselves, by the contracts of the calls and of the functions that merge two
-  pub nonlinearity_by_answers : {r : PartPair} → MergedAnswers said_part ltb m (nonlinearity_cut n m rows i) covers r
+  pub nonlinearity_by_answers : {r : Result (Option Found) Refusal} → MergedAnswers said_part ltb m (nonlinearity_cut n m rows i) covers r
       → said_part r ≡ nonlinearity_reply n m rows i
   nonlinearity_by_answers t = nonlinearity_by_tree (says_gathered t)
 
-  pub autocorrelation_by_answers : {r : PartChange} → MergedAnswers said_part_change above m (autocorrelation_cut n m rows i) covers r
+  pub autocorrelation_by_answers : {r : Result (Option FoundChange) Refusal} → MergedAnswers said_part_change above m (autocorrelation_cut n m rows i) covers r
       → said_part_change r ≡ autocorrelation_reply n m rows i
   autocorrelation_by_answers t = autocorrelation_by_tree (says_gathered t)
 
-  pub distance_by_answers : (j : ℕ) {r : PartChange} → MergedAnswers said_part_change above m (distance_cut n m rows i j) covers r
+  pub distance_by_answers : (j : ℕ) {r : Result (Option FoundChange) Refusal} → MergedAnswers said_part_change above m (distance_cut n m rows i j) covers r
       → said_part_change r ≡ distance_reply n m rows i j
   distance_by_answers j t = distance_by_tree j (says_gathered t)
 
@@ -195,14 +193,18 @@ module _ (count : ℕ) (handed : List Summand) (i : ℕ) where
     sum_by_tree t = sums.gathered_whole count handed i t all
 
     -- [parts.7]
-    pub sum_by_answers : {r : PartSum} → MergedAnswers (said_part_sum count) ltb outputs (sum_cut_reply count handed i) covers r
+    pub sum_by_answers : {r : Result (Option NearestSum) Refusal} → MergedAnswers (said_part_sum count) ltb outputs (sum_cut_reply count handed i) covers r
         → said_part_sum count r ≡ sum_reply count handed i
     sum_by_answers t = sum_by_tree (says_gathered t)
 
 -- [parts.7] What an answer over a part says: of a pair the count, c, w and b, of a change the figure, c and the change, of a sum of four boxes
 -- the figure, c, the four masks and b.
 pub part_answers_say : (figure c v b w1 w2 w3 w4 : ℕ)
-    → (said_part (pair_reached figure c v b) ≡ figures (figure ∷ c ∷ v ∷ b ∷ [])) × (said_part pair_nothing ≡ figures [])
-    × (said_part_change (change_reached figure c v) ≡ figures (figure ∷ c ∷ v ∷ [])) × (said_part_change change_nothing ≡ figures [])
-    × (said_part_sum 4 (sum_reached figure c w1 w2 w3 w4 b) ≡ figures (figure ∷ c ∷ w1 ∷ w2 ∷ w3 ∷ w4 ∷ b ∷ [])) × (said_part_sum 4 sum_nothing ≡ figures [])
+    → (said_part (Ok (Some (record { count = figure; c = c; w = v; b = b }))) ≡ figures (figure ∷ c ∷ v ∷ b ∷ []))
+    × (said_part (Ok None) ≡ figures [])
+    × (said_part_change (Ok (Some (record { figure = figure; c = c; s = v }))) ≡ figures (figure ∷ c ∷ v ∷ []))
+    × (said_part_change (Ok None) ≡ figures [])
+    × (said_part_sum 4 (Ok (Some (record { figure = figure; c = c; w1 = w1; w2 = w2; w3 = w3; w4 = w4; b = b })))
+    ≡ figures (figure ∷ c ∷ w1 ∷ w2 ∷ w3 ∷ w4 ∷ b ∷ []))
+    × (said_part_sum 4 (Ok None) ≡ figures [])
 part_answers_say figure c v b w1 w2 w3 w4 = (refl, refl, refl, refl, refl, refl)

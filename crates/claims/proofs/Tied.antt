@@ -1,6 +1,6 @@
 -- What settles definitions that every other statement takes as they are: the bytes of a catalogue and of packed columns, which histories a
 -- theorem on histories speaks of, and what one call of a server does in numbers.
-use Rattle.std.specs.Prelude.{Ok, Err}
+use Rattle.std.specs.Prelude.{Ok, Err, Some, None}
 use Prim.Native.Nat.{ℕ, ◌+◌, ◌-◌, ◌*◌, ◌/◌, ◌%◌, ◌^◌, ◌≤◌, ◌<◌}
 use mathlib.Core.Path.{◌≡◌, refl}
 use mathlib.Core.Logic.{◌⊎◌, ◌↔◌}
@@ -30,34 +30,21 @@ use Rattle.refusals.specs.Table.{Reply, refusal, number, said_written, said_verd
 use Rattle.refusals.specs.Statements.{TableLine, Answers}
 use Rattle.refusals.specs.declared.Refusal.{Refusal}
 use Rattle.linear.specs.Calls.{said_least_pair}
-use Rattle.linear.specs.declared.LeastPair.TheVariants as least_pair
 use Rattle.differential.specs.Calls.{said_largest_cell, said_cell_list}
-use Rattle.differential.specs.declared.LargestCell.TheVariants as largest_cell
-use Rattle.differential.specs.declared.CellList.TheVariants as cell_list
 use Rattle.nearest.specs.Calls.{said_pair_list}
-use Rattle.nearest.specs.declared.PairList.TheVariants as pair_list
 use Rattle.avalanche.specs.Calls.{said_largest_change}
-use Rattle.avalanche.specs.declared.LargestChange.TheVariants as largest_change
 use Rattle.algebraic.specs.Calls.{said_degree_found}
-use Rattle.algebraic.specs.declared.DegreeFound.TheVariants as degree_found
 use Rattle.boxfile.specs.File.{said_box_file}
-use Rattle.boxfile.specs.declared.BoxFile.TheVariants as box_file
 use Rattle.catalogue.specs.Calls.{said_told, said_fetched}
-use Rattle.catalogue.specs.declared.Told.TheVariants as told
-use Rattle.catalogue.specs.declared.Fetched.TheVariants as fetched
 use Rattle.swaps.specs.Calls.{said_raising_swap}
-use Rattle.swaps.specs.declared.RaisingSwap.TheVariants as raising_swap
 use Rattle.rounds.specs.declared.Widths.{Widths}
-use Rattle.rounds.specs.declared.LeastSum.TheVariants as least_sum
 use Rattle.rounds.specs.Calls.{summands_of, SumAnswer}
 use Rattle.design.specs.declared.Design.{Design}
-use Rattle.design.specs.declared.BoxHeld.TheVariants as box_held
 use Rattle.design.specs.Model.{DesignState}
 use Rattle.design.specs.Model as model
 use Rattle.design.specs.Calls.{snapshot_of, design_of, said_box_held, DesignBegun}
 use Rattle.design.specs.Statements.{leaves, LastSet}
 use Rattle.design.proofs.Histories as histories
-use Rattle.server.specs.declared.Asked.TheVariants as asked
 use Rattle.server.specs.Model.{Analysis, ServerState, empty, still_unfinished, finished}
 use Rattle.server.specs.Calls.{said_asked, server_of, ServerRan}
 use Rattle.sheet.specs.Sheet.{sheet_text}
@@ -191,24 +178,26 @@ sheet_at_start file old new answer w long = (w.size, w.inside, fields.sheet_writ
 -- [01.forms.10] what each answer says, its fields in the order of its declaration: yes is 1 and no is 0, and a figure comes before its witness
 pub answers_say : (d a c w b s : ℕ) (e : Refusal)
     → ((said_written (Ok tt) ≡ figures []) × (said_written (Err e) ≡ refusal (number e)))
-    × ((said_verdict verdict.Yes ≡ figures (1 ∷ [])) × (said_verdict verdict.No ≡ figures (0 ∷ [])))
-    × (said_least_pair (least_pair.Reached d c w b) ≡ figures (d ∷ c ∷ w ∷ b ∷ []))
-    × (said_largest_cell (largest_cell.Reached d a b) ≡ figures (d ∷ a ∷ b ∷ []))
-    × ((said_cell_list (cell_list.Listed d) ≡ figures (d ∷ [])) × (said_pair_list (pair_list.Listed d) ≡ figures (d ∷ [])))
-    × ((said_largest_change (largest_change.Reached d c s) ≡ figures (d ∷ c ∷ s ∷ [])) × (said_degree_found (degree_found.Reached d c) ≡ figures (d ∷ c ∷ [])))
-    × ((said_box_file (box_file.Read a b) ≡ figures (a ∷ b ∷ [])) × (said_box_held (box_held.Given a b) ≡ figures (a ∷ b ∷ [])))
-    × ((said_told (told.Number d) ≡ figures (d ∷ [])) × (said_fetched (fetched.Lies a b) ≡ figures (a ∷ b ∷ [])))
-    × ((said_raising_swap (raising_swap.Raised a b d) ≡ figures (1 ∷ a ∷ b ∷ d ∷ [])) × (said_raising_swap raising_swap.NoSwap ≡ figures (0 ∷ 0 ∷ 0 ∷ 0 ∷ [])))
-    × ((said_asked asked.Unfinished ≡ still_unfinished) × (said_asked (asked.Finished d c w b) ≡ finished (d ∷ c ∷ w ∷ b ∷ [])))
+    × ((said_verdict (Ok true) ≡ figures (1 ∷ [])) × (said_verdict (Ok false) ≡ figures (0 ∷ [])))
+    × (said_least_pair (Ok (record { count = d; c = c; w = w; b = b })) ≡ figures (d ∷ c ∷ w ∷ b ∷ []))
+    × (said_largest_cell (Ok (record { count = d; a = a; beta = b })) ≡ figures (d ∷ a ∷ b ∷ []))
+    × ((said_cell_list (Ok d) ≡ figures (d ∷ [])) × (said_pair_list (Ok d) ≡ figures (d ∷ [])))
+    × ((said_largest_change (Ok (record { figure = d; c = c; s = s })) ≡ figures (d ∷ c ∷ s ∷ []))
+    × (said_degree_found (Ok (record { degree = d; c = c })) ≡ figures (d ∷ c ∷ [])))
+    × ((said_box_file (Ok (record { n = a; m = b })) ≡ figures (a ∷ b ∷ [])) × (said_box_held (Ok (record { n = a; m = b })) ≡ figures (a ∷ b ∷ [])))
+    × ((said_told (Ok d) ≡ figures (d ∷ [])) × (said_fetched (Ok (record { offset = a; size = b })) ≡ figures (a ∷ b ∷ [])))
+    × ((said_raising_swap (Ok (Some (record { low = a; high = b; figure = d }))) ≡ figures (1 ∷ a ∷ b ∷ d ∷ []))
+    × (said_raising_swap (Ok None) ≡ figures (0 ∷ 0 ∷ 0 ∷ 0 ∷ [])))
+    × ((said_asked (Ok None) ≡ still_unfinished) × (said_asked (Ok (Some (record { count = d; c = c; w = w; b = b }))) ≡ finished (d ∷ c ∷ w ∷ b ∷ [])))
 answers_say d a c w b s e =
     ((refl, refl), (refl, refl), refl, refl, (refl, refl), (refl, refl), (refl, refl), (refl, refl), (refl, refl), (refl, refl))
 
 -- [02.§4.6] and of a sum of so many boxes: the figure, c, a mask for each box and b; the masks past that number are 0
 pub sum_answer_says : (d c w1 w2 w3 w4 b : ℕ)
-    → SumAnswer 1 (least_sum.Reached d c w1 0 0 0 b) (figures (d ∷ c ∷ w1 ∷ b ∷ []))
-    × SumAnswer 2 (least_sum.Reached d c w1 w2 0 0 b) (figures (d ∷ c ∷ w1 ∷ w2 ∷ b ∷ []))
-    × SumAnswer 3 (least_sum.Reached d c w1 w2 w3 0 b) (figures (d ∷ c ∷ w1 ∷ w2 ∷ w3 ∷ b ∷ []))
-    × SumAnswer 4 (least_sum.Reached d c w1 w2 w3 w4 b) (figures (d ∷ c ∷ w1 ∷ w2 ∷ w3 ∷ w4 ∷ b ∷ []))
+    → SumAnswer 1 (Ok (record { figure = d; c = c; w1 = w1; w2 = 0; w3 = 0; w4 = 0; b = b })) (figures (d ∷ c ∷ w1 ∷ b ∷ []))
+    × SumAnswer 2 (Ok (record { figure = d; c = c; w1 = w1; w2 = w2; w3 = 0; w4 = 0; b = b })) (figures (d ∷ c ∷ w1 ∷ w2 ∷ b ∷ []))
+    × SumAnswer 3 (Ok (record { figure = d; c = c; w1 = w1; w2 = w2; w3 = w3; w4 = 0; b = b })) (figures (d ∷ c ∷ w1 ∷ w2 ∷ w3 ∷ b ∷ []))
+    × SumAnswer 4 (Ok (record { figure = d; c = c; w1 = w1; w2 = w2; w3 = w3; w4 = w4; b = b })) (figures (d ∷ c ∷ w1 ∷ w2 ∷ w3 ∷ w4 ∷ b ∷ []))
 sum_answer_says d c w1 w2 w3 w4 b = (
   record { says = refl; past = refl },
   record { says = refl; past = refl },
