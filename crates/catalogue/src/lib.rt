@@ -173,6 +173,7 @@ fn put_word(b: &mut [u8], i: usize, v: usize)
 }
 
 // Clears the bytes of a part.
+// kept: start and size beside the buffer, since the clause and the theorems on records speak of a place in the whole of it.
 fn clear(b: &mut [u8], start: usize, size: usize)
     requires { start + size ≤ length b.old }
     ensures { b.new ≡ sets b.old start (replicate size 0) }

@@ -81,6 +81,7 @@ fn component_at(row: u32, c: u32) -> u8
 }
 
 // The truth table of component c.
+// kept: the array is lent, as long as the rows, since no call has memory of its own to hand back (fixed memory).
 pub fn write_component(rows: &[u32], c: u32, table: &mut [u8])
     requires { length table.old ≡ length rows.now }
     ensures { table.new ≡ list_below (length rows.now) (λ x. component rows.now c x) }

@@ -49,6 +49,7 @@ fn gather(values: &[u32], start: usize, step: usize, i: u32) -> u32
 }
 
 // The words of the columns i + 1, i + 9, i + 17 and i + 25.
+// kept: the size beside the arrays, which are those of the widest box: a box uses so many of their places (fixed memory).
 fn gather_group(rows: &[u32], i: u32, size: usize, words: &mut [u32])
     requires { (i < 8) × (1 ≤ size) × (size ≤ 32) × (length rows.now ≡ 256) × (length words.old ≡ 256)
         × ((q : ℕ) → q < i * size → at words.old q ≡ bits_gathered rows.now (8 * (q % size)) 1 (q / size)) }

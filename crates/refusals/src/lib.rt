@@ -128,6 +128,7 @@ pub fn check_box_up_to(most: u32, n: u32, m: u32, rows: &[u32]) -> Result<(), Re
 }
 
 // The checks 1 to 4 of a box.
+// kept: n, m and rows stay apart in every call, since C hands them over so (the C interface), and each call refuses what is no box.
 pub fn check_box(n: u32, m: u32, rows: &[u32]) -> Result<(), Refusal>
     ensures { result ≡ first (box_checks n m rows.now) }
 {

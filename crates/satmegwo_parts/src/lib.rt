@@ -36,6 +36,7 @@ pub fn satmegwo_nonlinearity_between(
 }
 
 // The autocorrelation over the combinations of at most i outputs from `first` to `last`.
+// kept: beside `satmegwo_nonlinearity_between`, since C calls each by its name (the C interface), and each is one call.
 pub fn satmegwo_autocorrelation_between(
     n: u32,
     m: u32,
@@ -153,6 +154,7 @@ fn is_second_less(x: &[u32], y: &[u32]) -> bool
 }
 
 // And the larger figure being the better one.
+// kept: beside `is_second_less`. Two arguments are exchanged: a closure for that line would have a contract longer than the function.
 #[tactic(auto, unfolding(crate::specs::Exports::second_taken))]
 fn is_second_larger(x: &[u32], y: &[u32]) -> bool
     requires { (3 ≤ length x.now) × (3 ≤ length y.now) }
@@ -184,6 +186,7 @@ pub fn satmegwo_merge_least(x: &[u32], y: &[u32], merged: &mut [u32]) -> u32
 }
 
 // Merges two parts of which the larger figure is the better one.
+// kept: beside `satmegwo_merge_least`, since C calls each by its name (the C interface), and the test is all that differs.
 pub fn satmegwo_merge_largest(x: &[u32], y: &[u32], merged: &mut [u32]) -> u32
     ensures { WroteOut (merge_checks x.now y.now (length merged.old))
         (merged_part above x.now y.now) merged.old result merged.new }
