@@ -8,7 +8,7 @@ use mathlib.Core.List.{List, [], ◌∷◌, ◌++◌, map}
 use native.Mathlib.Omega.{arith}
 use lib.ListN.{length, take, drop}
 use lib.Seq.{sets-eq}
-use Rattle.refusals.specs.Table.{Box, Check, first, Reply, figures, refusal, reply_after, after, box_checks}
+use Rattle.refusals.specs.Table.{Box, first, Reply, figures, refusal, reply_after, after, box_checks}
 use Rattle.refusals.specs.Statements.{TableLine, Answers}
 use Rattle.refusals.proofs.Checks.{box, after_accepted}
 use Rattle.refusals.proofs.FilledRows.{filled_rows}
@@ -16,7 +16,7 @@ use Rattle.refusals.proofs.Replies.{no_figures, figures_accepted}
 use Rattle.border.specs.Border.{status}
 use Rattle.design.specs.declared.Design.{Design}
 use Rattle.design.specs.declared.Snapshot.{Snapshot}
-use Rattle.design.specs.Model.{Mark, DesignState, new_design, no_box, begin}
+use Rattle.design.specs.Model.{Mark, new_design, no_box, begin}
 use Rattle.design.specs.Calls.{snapshot_of, snapshots_of, design_of, DesignBegun}
 use Rattle.server.specs.declared.Place.{Place}
 use Rattle.server.specs.declared.Server.{Server}
