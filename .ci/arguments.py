@@ -92,7 +92,7 @@ class Program:
         function, handed = self.known[key][1], self.whole_arguments(key)
         body = function.body
         for at, word in enumerate(body):
-            is_field = body[at - 1:at] == ["."] or body[at + 1:at + 2] == [":"]
+            is_field = body[at - 1:at] == ["."] and body[at - 2:at - 1] != ["."] or body[at + 1:at + 2] == [":"]  # the end of a range is none
             if word in function.takes and at not in handed and not is_field:
                 yield function.takes.index(word)
             if word.startswith('"'):
