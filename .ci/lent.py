@@ -20,7 +20,7 @@ import sources
 # by nobody after the sweep (DECISIONS 108). No other array may be left out, and none of these may stay here once a contract names it.
 WORKED_IN = {
     ("walsh::peak", "work"), ("linear::next_peak", "work"), ("rounds::product_at", "out"),
-    ("rounds::size_in", "out"), ("rounds::sweep", "work"), ("rounds::sweep", "out"),
+    ("rounds::sweep", "work"), ("rounds::sweep", "out"),
 }
 
 

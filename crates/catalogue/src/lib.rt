@@ -190,23 +190,33 @@ fn copy_in(b: &mut [u8], start: usize, file: &[u8])
 }
 
 // Moves bytes down over a gap of zeros: the gap is then behind them.
+// kept: byte by byte, since `copy_within` and a `fill` of the gap would clear bytes that are zero already, so that compaction took records times
+// gaps (9 times as long of a full catalogue without gaps), and C would need `memmove`
 fn slide_down(b: &mut [u8], to: usize, gap: usize, size: usize)
     requires { (to + gap + size ≤ length b.old) × (part to gap b.old ≡ replicate gap 0) }
     ensures { b.new ≡ slid_down to gap size b.old }
 {
+    if gap == 0 {
+        return;
+    }
     let from = to + gap;
-    let behind = to + size;
-    b.copy_within(from..from + size, to);
-    b[behind..behind + gap].fill(0);
+    for i in 0..size {
+        b[to + i] = b[from + i];
+        b[from + i] = 0;
+    }
 }
 
-// Moves bytes up over a gap of zeros: the gap is then before them.
+// Moves bytes up over a gap of zeros, the last one first: the gap is then before them.
+// kept: the reason stands at `slide_down`
 fn slide_up(b: &mut [u8], from: usize, size: usize, gap: usize)
     requires { (0 < gap) × (from + size + gap ≤ length b.old) × (part (from + size) gap b.old ≡ replicate gap 0) }
     ensures { b.new ≡ slid_up from size gap b.old }
 {
-    b.copy_within(from..from + size, from + gap);
-    b[from..from + gap].fill(0);
+    for moved in 0..size {
+        let i = from + (size - 1 - moved);
+        b[i + gap] = b[i];
+        b[i] = 0;
+    }
 }
 
 // Takes place k out of the directory of n places.

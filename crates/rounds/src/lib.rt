@@ -4,7 +4,7 @@
 
 ghost use Rattle.std.specs.Prelude.{◌≡◌, eqb, ◌-◌, ◌/◌, ◌^◌, ◌≤◌, ◌<◌, length, sum_by};
 ghost use Rattle.std.specs.List.{list_all};
-ghost use Rattle.boolean.specs.Sums.{each};
+ghost use Rattle.boolean.specs.Sums.{each, AnyContent};
 ghost use Rattle.boolean.specs.Functions.{component, spectrum};
 ghost use Rattle.refusals.specs.Table.{first, Box};
 ghost use Rattle.walsh.specs.FixedTable.{Spectra};
@@ -127,7 +127,8 @@ fn size_in(
 ) -> u32
     requires { IsBox (as_summand s.now) × (c < 2 ^ s.now.m) × Stepped s.now last steps.now bits.old × PowerAdded last c
         × Spectra fixed.now }
-    ensures { (result ≡ (peak (as_summand s.now) c).figure) × (result ≤ 256) × Stepped s.now c steps.now bits.new }
+    ensures { (result ≡ (peak (as_summand s.now) c).figure) × (result ≤ 256) × Stepped s.now c steps.now bits.new
+        × AnyContent out.old out.new }
 {
     let size = s.rows.len();
     let total = s.m as usize * size;
@@ -213,10 +214,25 @@ fn largest_product(boxes: &[Summand], i: u32, first: u32, last: u32) -> Found
 {
     let fixed = walsh::spectra();
     let mut out = [0i16; 256];
-    let mut work = [Work {
-        steps: [0; 8192],
-        bits: [0; 256],
-    }; 4];
+    // Each box's arrays are written out, since a repeated struct would be copied (and C would need `memcpy` of the sweeps in parts).
+    let mut work = [
+        Work {
+            steps: [0; 8192],
+            bits: [0; 256],
+        },
+        Work {
+            steps: [0; 8192],
+            bits: [0; 256],
+        },
+        Work {
+            steps: [0; 8192],
+            bits: [0; 256],
+        },
+        Work {
+            steps: [0; 8192],
+            bits: [0; 256],
+        },
+    ];
     start_boxes(boxes, first - 1, &mut work);
     sweep(&fixed, boxes, i, first, last, &mut work, &mut out)
 }

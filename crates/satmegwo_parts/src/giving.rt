@@ -43,18 +43,23 @@ fn give_masks(
     flag: u32,
     figure: u32,
     c: u32,
-    masks: [u32; 4],
+    w1: u32,
+    w2: u32,
+    w3: u32,
+    w4: u32,
     b: u32,
     part: &mut [u32],
 ) -> u32
-    ensures { FiguresOut (given (flag ∷ figure ∷ c ∷ (take count masks ++ (b ∷ []))))
+    ensures { FiguresOut (given (flag ∷ figure ∷ c ∷ (take count (w1 ∷ w2 ∷ w3 ∷ w4 ∷ []) ++ (b ∷ []))))
         part.old result part.new }
 {
-    let boxes = count.min(4) as usize;
-    let mut told = [flag, figure, c, 0, 0, 0, 0, 0];
-    told[3..3 + boxes].copy_from_slice(&masks[..boxes]);
-    told[3 + boxes] = b;
-    border::give(&told[..4 + boxes], part)
+    match count {
+        0 => border::give(&[flag, figure, c, b], part),
+        1 => border::give(&[flag, figure, c, w1, b], part),
+        2 => border::give(&[flag, figure, c, w1, w2, b], part),
+        3 => border::give(&[flag, figure, c, w1, w2, w3, b], part),
+        _ => border::give(&[flag, figure, c, w1, w2, w3, w4, b], part),
+    }
 }
 
 // The nearest pair of a part of a sum of so many boxes.
@@ -75,8 +80,8 @@ pub fn give_sum(count: u32, answer: Result<Option<NearestSum>, Refusal>, part: &
                     b,
                 },
             ),
-        ) => { give_masks(count, 1, figure, c, [w1, w2, w3, w4], b, part) }
-        Ok(None) => give_masks(count, 0, 0, 0, [0; 4], 0, part),
+        ) => { give_masks(count, 1, figure, c, w1, w2, w3, w4, b, part) }
+        Ok(None) => give_masks(count, 0, 0, 0, 0, 0, 0, 0, 0, part),
         Err(e) => refusals::number_of(e),
     }
 }

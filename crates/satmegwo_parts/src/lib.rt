@@ -169,6 +169,17 @@ fn is_second_larger(x: &[u32], y: &[u32]) -> bool
     masks::is_sooner(x[1], y[1], y[2], x[2])
 }
 
+// Writes a part as the merged one.
+// kept: number by number, since `copy_from_slice` between two arrays of the caller would ask C for `memmove`
+fn write_part(part: &[u32], merged: &mut [u32])
+    requires { length merged.old ≡ length part.now }
+    ensures { merged.new ≡ part.now }
+{
+    for (k, number) in part.iter().enumerate() {
+        merged[k] = *number;
+    }
+}
+
 // Merges two parts of which the smaller figure is the better one.
 pub fn satmegwo_merge_least(x: &[u32], y: &[u32], merged: &mut [u32]) -> u32
     ensures { WroteOut (merge_checks x.now y.now (length merged.old))
@@ -178,10 +189,10 @@ pub fn satmegwo_merge_least(x: &[u32], y: &[u32], merged: &mut [u32]) -> u32
         return refusals::number_of(e);
     }
     if is_second_less(x, y) {
-        merged.copy_from_slice(y);
+        write_part(y, merged);
         return 0;
     }
-    merged.copy_from_slice(x);
+    write_part(x, merged);
     0
 }
 
@@ -195,9 +206,9 @@ pub fn satmegwo_merge_largest(x: &[u32], y: &[u32], merged: &mut [u32]) -> u32
         return refusals::number_of(e);
     }
     if is_second_larger(x, y) {
-        merged.copy_from_slice(y);
+        write_part(y, merged);
         return 0;
     }
-    merged.copy_from_slice(x);
+    write_part(x, merged);
     0
 }

@@ -57,7 +57,7 @@ fn write_swapped(rows: &[u32], low: usize, high: usize, out: &mut [u32])
     requires { (length out.old ≡ length rows.now) × (low < length rows.now) × (high < length rows.now) }
     ensures { out.new ≡ swapped rows.now low high }
 {
-    out.copy_from_slice(rows);
+    boolean::copy(rows, out);
     out.swap(low, high);
 }
 

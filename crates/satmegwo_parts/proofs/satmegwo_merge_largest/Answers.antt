@@ -17,8 +17,8 @@ is_second_larger-requires c =
     let size = merges c.args.x.now c.args.y.now _ (sym c.check_merging.ensures ∙ c.in_default.is) in
     (size.enough, omega (arith, size.enough, size.same))
 
-pub copy_from_slice-requires : goal.copy_from_slice-requires
-copy_from_slice-requires c =
+pub write_part-requires : goal.write_part-requires
+write_part-requires c =
     let size = merges c.args.x.now c.args.y.now _ (sym c.check_merging.ensures ∙ c.in_default.is) in
     size.fits ∙ sym size.same
 
@@ -26,13 +26,13 @@ pub returns-then-is_second_larger : goal.returns-then-is_second_larger
 unfolding status
 returns-then-is_second_larger c =
     let second = takes_second above c.args.x.now c.args.y.now c.is_second_larger.ensures c.if-is_second_larger.true in
-    wrote_out {given = []} (wrote_accepted (sym c.check_merging.ensures ∙ c.in_default.is) (c.copy_from_slice.ensures.after ∙ second)) refl
+    wrote_out {given = []} (wrote_accepted (sym c.check_merging.ensures ∙ c.in_default.is) (c.write_part.ensures ∙ second)) refl
 
-pub copy_from_slice-requires-2 : goal.copy_from_slice-requires-2
-copy_from_slice-requires-2 c = (merges c.args.x.now c.args.y.now _ (sym c.check_merging.ensures ∙ c.in_default.is)).fits
+pub write_part-requires-2 : goal.write_part-requires-2
+write_part-requires-2 c = (merges c.args.x.now c.args.y.now _ (sym c.check_merging.ensures ∙ c.in_default.is)).fits
 
 pub returns : goal.returns
 unfolding status
 returns c =
     let first = takes_first above c.args.x.now c.args.y.now c.is_second_larger.ensures c.if-is_second_larger.false in
-    wrote_out {given = []} (wrote_accepted (sym c.check_merging.ensures ∙ c.in_default.is) (c.copy_from_slice-2.ensures.after ∙ first)) refl
+    wrote_out {given = []} (wrote_accepted (sym c.check_merging.ensures ∙ c.in_default.is) (c.write_part-2.ensures ∙ first)) refl
