@@ -190,8 +190,8 @@ fn copy_in(b: &mut [u8], start: usize, file: &[u8])
 }
 
 // Moves bytes down over a gap of zeros: the gap is then behind them.
-// kept: byte by byte, since `copy_within` and a `fill` of the gap would clear bytes that are zero already, so that compaction took records times
-// gaps (9 times as long of a full catalogue without gaps), and C would need `memmove`
+// kept: byte by byte, since `copy_within` and a `fill` of the gap would clear bytes that are zero already, so that compaction took records
+// times gaps (9 times as long of a full catalogue without gaps), and C would need `memmove`
 fn slide_down(b: &mut [u8], to: usize, gap: usize, size: usize)
     requires { (to + gap + size ≤ length b.old) × (part to gap b.old ≡ replicate gap 0) }
     ensures { b.new ≡ slid_down to gap size b.old }
