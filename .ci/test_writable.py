@@ -1,5 +1,5 @@
 #!/usr/bin/env python3
-"""writable.py on planted tables of `size`: no data, data that is set, and a buffer that starts as zeros."""
+"""writable.py on planted tables: of `size`, no data, data that is set, and a buffer that starts as zeros; of `nm`, names that are asked for."""
 import unittest
 
 import writable
@@ -20,6 +20,12 @@ class Writable(unittest.TestCase):
 
     def test_a_buffer_of_zeros(self):
         self.assertEqual(writable.faults(HEAD + ZEROS + NONE), ["buffer.o (ex libsatmegwo.a) has 0 bytes of data and 1024 that start as zeros"])
+
+    def test_names_from_outside(self):
+        table = "\nsatmegwo.o:\n                 U memcpy\n                 U memset\n"
+        self.assertEqual(writable.not_there("target/staticlib/libsatmegwo.a", table), [])
+        self.assertEqual(writable.not_there("target/staticlib/libsatmegwo_parts.a", table), ["asks for memcpy, which is more than C.md says"])
+        self.assertEqual(writable.not_there("libsatmegwo.a", table + "                 U memmove\n"), ["asks for memmove, which is more than C.md says"])
 
 
 if __name__ == "__main__":
