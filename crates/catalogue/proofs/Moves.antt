@@ -1,4 +1,4 @@
--- Bytes moved one at a time over a gap of zeros. Assumes nothing.
+-- The loops that write: bytes stored one after the other, and bytes moved over a gap of zeros. Assumes nothing.
 use Prim.Native.Nat.{ℕ, zero, suc, ◌+◌, ◌≤◌, ◌<◌, zero-le}
 use mathlib.Core.Path.{◌≡◌, refl, sym, ap, ap₂, ◌∙◌}
 use mathlib.Core.List.{List, [], ◌∷◌, ◌++◌, append_assoc}
@@ -6,11 +6,40 @@ use native.Mathlib.Nat.{not-suc-le-zero}
 use native.Mathlib.Numerals.{add-one}
 use native.Mathlib.Omega.{arith}
 use lib.ListN.{length, get_or, take, drop, set, replicate, length-append, length-replicate, take-append-drop, drop_of_length-le}
-use lib.Seq.{sets, take-suc, drop-cons, take_all, set_at, get_or_at, take_at, drop_at, sets-eq, length-take-le}
+use lib.Seq.{sets, length-sets, take-suc, drop-cons, take_all, set_at, get_or_at, take_at, drop_at, sets-eq, length-take-le}
+use Rattle.boolean.proofs.Stored.{sets_append}
 use Rattle.boolean.proofs.Lists.{part_then}
 use Rattle.catalogue.specs.Format.{part}
 use Rattle.catalogue.specs.Work.{slid_down, slid_up}
 use Rattle.catalogue.proofs.Built.{length_part}
+
+-- so many of the new bytes are stored
+pub record Storing (old : List ℕ) (from : ℕ) (new : List ℕ) (i : ℕ) (b : List ℕ) : Type 0 where
+  pub inside : i ≤ length new
+  pub is : b ≡ sets old from (take i new)
+
+pub storing_none : (old : List ℕ) (from : ℕ) (new : List ℕ) → Storing old from new 0 old
+storing_none old from new = record { inside = zero-le; is = refl }
+
+module _ {old : List ℕ} {from : ℕ} {new : List ℕ} {i : ℕ} {b : List ℕ} (s : Storing old from new i b) where
+  pub storing_length : length b ≡ length old
+  storing_length = ap length s.is ∙ length-sets old from (take i new)
+
+  pub storing_next : i < length new → (v : ℕ) → v ≡ get_or new i 0 → Storing old from new (i + 1) (set b (from + i) v)
+  storing_next h v e =
+      let long : length (take i new) ≡ i = length-take-le i new s.inside in
+      record {
+        inside = omega arith;
+        is =
+            ap₂ (λ (l : List ℕ) (x : ℕ). set l (from + i) x) s.is e
+            ∙ ap (λ (k : ℕ). set (sets old from (take i new)) (from + k) (get_or new i 0)) (sym long)
+            ∙ sym (sets_append old from (take i new) (get_or new i 0 ∷ []))
+            ∙ ap (sets old from) (sym (take-suc new i 0 h))
+            ∙ ap (λ (k : ℕ). sets old from (take k new)) (sym (add-one i));
+      }
+
+  pub storing_all : length new ≤ i → b ≡ sets old from new
+  storing_all h = s.is ∙ ap (sets old from) (take_all i new h)
 
 -- one byte moved over the gap, down and up
 zeros_end : (g : ℕ) (T : List ℕ) → replicate g 0 ++ (0 ∷ T) ≡ 0 ∷ (replicate g 0 ++ T)

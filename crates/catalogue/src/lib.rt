@@ -182,11 +182,14 @@ fn clear(b: &mut [u8], start: usize, size: usize)
 }
 
 // Copies the bytes of a file.
+// kept: byte by byte, since `copy_from_slice` between two arrays of the caller would ask C for `memmove`
 fn copy_in(b: &mut [u8], start: usize, file: &[u8])
     requires { start + length file.now ≤ length b.old }
     ensures { b.new ≡ sets b.old start file.now }
 {
-    b[start..start + file.len()].copy_from_slice(file);
+    for (i, byte) in file.iter().enumerate() {
+        b[start + i] = *byte;
+    }
 }
 
 // Moves bytes down over a gap of zeros: the gap is then behind them.

@@ -212,27 +212,13 @@ fn largest_product(boxes: &[Summand], i: u32, first: u32, last: u32) -> Found
     ensures { found_candidate result
         ≡ largest_product (summed boxes.now) (components_between (outputs_of (summed boxes.now)) i first last) }
 {
-    let fixed = walsh::spectra();
+    // The arrays come first: the compiled code sets all locals to 0 when it begins, and sets these no second time if nothing comes between.
+    let mut work = [Work {
+        steps: [0; 8192],
+        bits: [0; 256],
+    }; 4];
     let mut out = [0i16; 256];
-    // Each box's arrays are written out, since a repeated struct would be copied (and C would need `memcpy` of the sweeps in parts).
-    let mut work = [
-        Work {
-            steps: [0; 8192],
-            bits: [0; 256],
-        },
-        Work {
-            steps: [0; 8192],
-            bits: [0; 256],
-        },
-        Work {
-            steps: [0; 8192],
-            bits: [0; 256],
-        },
-        Work {
-            steps: [0; 8192],
-            bits: [0; 256],
-        },
-    ];
+    let fixed = walsh::spectra();
     start_boxes(boxes, first - 1, &mut work);
     sweep(&fixed, boxes, i, first, last, &mut work, &mut out)
 }

@@ -1,16 +1,14 @@
--- The file stands in the part that is written.
-use mathlib.Core.Path.{◌≡◌, sym, ap, ◌∙◌}
-use Prim.Native.Nat.{◌+◌, ◌-◌}
+-- A byte of the file more stands in the buffer.
+use mathlib.Core.Path.{refl}
 use native.Mathlib.Omega.{arith}
-use lib.ListN.{length}
-use lib.Seq.{sets}
-use Rattle.boxfile.proofs.Parts.{written_part}
+use Rattle.catalogue.proofs.Moves.{storing_none, storing_next, storing_all}
 use Rattle.catalogue.proofs.copy_in.Goals as goal
 
+pub loop-i-init : goal.loop-i-init
+loop-i-init c = storing_none _ _ _
+
+pub loop-i-preserved : goal.loop-i-preserved
+loop-i-preserved c = storing_next c.loop-i.invariant c.loop-i-test.true _ refl
+
 pub returns : goal.returns
-returns c =
-    let a = c.args in
-    let is = c.copy_from_slice.ensures.after in
-    let k : a.start + length a.file.now - a.start ≡ length a.file.now = omega arith in
-    written_part a.start (a.start + length a.file.now - a.start) a.b.now _ (ap length is ∙ sym k) (omega (arith, c.requires))
-    ∙ ap (sets a.b.now a.start) is
+returns c = storing_all c.loop-i.invariant (omega (arith, c.loop-i-test.false))
